@@ -1,0 +1,9 @@
+-- The definitions of the lexer, to be read in this order.
+pub mod Base
+pub mod Refusals
+pub mod Utf8
+pub mod Classes
+pub mod Tokens
+pub mod Places
+pub mod Words
+pub mod Run

@@ -1,0 +1,112 @@
+-- What a reading is: the conditions that every reading of a text meets, and that a record must meet.
+use Prim.Native.Nat.{ℕ, zero, suc}
+use lib.Dec.{leb, ltb, eqb}
+use lib.ListN.{length}
+use mathlib.Core.Bool.{Bool, true, false, _&&_, _||_, not}
+use mathlib.Core.List.{List, [], _∷_}
+use Rattle.lexer.specs.Base.{pick, among, same, empty?}
+use Rattle.lexer.specs.Classes.{blank}
+use Rattle.lexer.specs.Utf8.{utf8}
+use Rattle.block.specs.Blocks.{orderable}
+use Rattle.block.specs.Cell.{Cell, state, uncertain, polymorphic, missing, gap}
+use Rattle.block.specs.Dna.{acgt}
+use Rattle.block.specs.Format.{all·valid}
+use Rattle.block.specs.Names.{known}
+use Rattle.block.specs.Reading.{Taxon, Character, Reading}
+use Rattle.block.specs.Sequential.{names}
+use Rattle.block.specs.declared.data.DataType.{DataType}
+
+-- A name: UTF-8 without `_` and CR; not all White_Space, unless a U+0020 is in it.
+unfoldable pub sound·name : List ℕ → Bool
+sound·name n = utf8 n && not (among 95 n) && not (among 13 n) && (not (blank n) || among 32 n)
+
+unfoldable pub sound·names : List (List ℕ) → Bool
+sound·names [] = true
+sound·names (n ∷ r) = let more = sound·names r in sound·name n && more
+
+-- A label: empty, or a name.
+unfoldable pub sound·label : List ℕ → Bool
+sound·label l = empty? l || sound·name l
+
+-- No two names are alike.
+unfoldable pub names·differ : List (List ℕ) → Bool
+names·differ [] = true
+names·differ (n ∷ r) = let more = names·differ r in not (known n r) && more
+
+-- Indices rise strictly and are below the symbol count.
+unfoldable pub rising : ℕ → List ℕ → Bool
+rising count [] = true
+rising count (i ∷ []) = ltb i count
+rising count (i ∷ j ∷ r) = let more = rising count (j ∷ r) in ltb i j && more
+
+-- A set is not empty.
+unfoldable pub sound·set : ℕ → List ℕ → Bool
+sound·set count s = not (empty? s) && rising count s
+
+unfoldable pub sound·cell : ℕ → Cell → Bool
+sound·cell count (state i) = ltb i count
+sound·cell count (uncertain s) = sound·set count s
+sound·cell count (polymorphic s) = sound·set count s
+sound·cell count missing = true
+sound·cell count gap = true
+
+unfoldable pub sound·cells : ℕ → List Cell → Bool
+sound·cells count [] = true
+sound·cells count (c ∷ r) = let more = sound·cells count r in sound·cell count c && more
+
+-- Every row has exactly as many cells as there are characters.
+unfoldable pub sound·rows : ℕ → ℕ → List Taxon → Bool
+sound·rows count width [] = true
+sound·rows count width (t ∷ r) =
+    let more = sound·rows count width r in
+    eqb (length (t .cells)) width && sound·cells count (t .cells) && more
+
+-- Does a gap cell occur?
+unfoldable pub gap? : Cell → Bool
+gap? (state i) = false
+gap? (uncertain s) = false
+gap? (polymorphic s) = false
+gap? missing = false
+gap? gap = true
+
+unfoldable pub gap·among : List Cell → Bool
+gap·among [] = false
+gap·among (c ∷ r) = let more = gap·among r in gap? c || more
+
+unfoldable pub gap·in : List Taxon → Bool
+gap·in [] = false
+gap·in (t ∷ r) = let more = gap·in r in gap·among (t .cells) || more
+
+-- All numbers of a list are different.
+unfoldable pub distinct : List ℕ → Bool
+distinct [] = true
+distinct (a ∷ r) = let more = distinct r in not (among a r) && more
+
+-- STANDARD has 2 to 73 symbols, 72 where a gap cell occurs: missing, and the gap, are symbols of their own among the 74.
+unfoldable pub most·symbols : Bool → ℕ
+most·symbols true = 72
+most·symbols false = 73
+
+unfoldable pub sound·symbols : DataType → List ℕ → Bool → Bool
+sound·symbols DataType.Standard symbols gaps =
+    leb 2 (length symbols) && leb (length symbols) (most·symbols gaps) && all·valid symbols && distinct symbols
+sound·symbols DataType.Dna symbols gaps = same symbols acgt
+
+-- A character has at most as many state labels as there are symbols.
+unfoldable pub sound·characters : ℕ → List Character → Bool
+sound·characters count [] = true
+sound·characters count (c ∷ r) =
+    let more = sound·characters count r in
+    sound·label (c .label) && sound·names (c .states) && leb (length (c .states)) count && more
+
+-- At least one taxon and one character; DNA is never ordered.
+unfoldable pub sound : Reading → Bool
+sound r =
+    not (empty? (r .taxa))
+    && not (empty? (r .characters))
+    && sound·symbols (r .data·type) (r .symbols) (gap·in (r .taxa))
+    && sound·names (names (r .taxa))
+    && names·differ (names (r .taxa))
+    && sound·rows (length (r .symbols)) (length (r .characters)) (r .taxa)
+    && sound·characters (length (r .symbols)) (r .characters)
+    && orderable (r .data·type) (r .characters)
