@@ -7,3 +7,4 @@ pub mod Form
 pub mod Lookup
 pub mod Calls
 pub mod Run
+pub mod Starred
