@@ -4,6 +4,7 @@ use lib.Dec.{leb, ltb, eqb}
 use lib.ListN.{length}
 use mathlib.Core.Bool.{Bool, true, false, _&&_, _||_, not}
 use mathlib.Core.List.{List, [], _∷_}
+use mathlib.Core.Path.{_≡_}
 use Rattle.lexer.specs.Base.{pick, among, same, empty?}
 use Rattle.lexer.specs.Classes.{blank}
 use Rattle.lexer.specs.Utf8.{utf8}
@@ -11,6 +12,7 @@ use Rattle.block.specs.Blocks.{orderable}
 use Rattle.block.specs.Cell.{Cell, state, uncertain, polymorphic, missing, gap}
 use Rattle.block.specs.Dna.{acgt}
 use Rattle.block.specs.Format.{all·valid}
+use Rattle.block.specs.Interleaved.{all·long}
 use Rattle.block.specs.Names.{known}
 use Rattle.block.specs.Reading.{Taxon, Character, Reading}
 use Rattle.block.specs.Sequential.{names}
@@ -54,12 +56,9 @@ unfoldable pub sound·cells : ℕ → List Cell → Bool
 sound·cells count [] = true
 sound·cells count (c ∷ r) = let more = sound·cells count r in sound·cell count c && more
 
--- Every row has exactly as many cells as there are characters.
-unfoldable pub sound·rows : ℕ → ℕ → List Taxon → Bool
-sound·rows count width [] = true
-sound·rows count width (t ∷ r) =
-    let more = sound·rows count width r in
-    eqb (length (t .cells)) width && sound·cells count (t .cells) && more
+unfoldable pub sound·rows : ℕ → List Taxon → Bool
+sound·rows count [] = true
+sound·rows count (t ∷ r) = let more = sound·rows count r in sound·cells count (t .cells) && more
 
 -- Does a gap cell occur?
 unfoldable pub gap? : Cell → Bool
@@ -92,21 +91,46 @@ sound·symbols DataType.Standard symbols gaps =
     leb 2 (length symbols) && leb (length symbols) (most·symbols gaps) && all·valid symbols && distinct symbols
 sound·symbols DataType.Dna symbols gaps = same symbols acgt
 
--- A character has at most as many state labels as there are symbols.
-unfoldable pub sound·characters : ℕ → List Character → Bool
-sound·characters count [] = true
-sound·characters count (c ∷ r) =
-    let more = sound·characters count r in
-    sound·label (c .label) && sound·names (c .states) && leb (length (c .states)) count && more
+-- Labels and state labels are names; a label may be absent.
+unfoldable pub sound·labels : List Character → Bool
+sound·labels [] = true
+sound·labels (c ∷ r) = let more = sound·labels r in sound·label (c .label) && sound·names (c .states) && more
 
--- At least one taxon and one character; DNA is never ordered.
+-- A character has at most so many state labels.
+unfoldable pub few·states : ℕ → List Character → Bool
+few·states count [] = true
+few·states count (c ∷ r) = let more = few·states count r in leb (length (c .states)) count && more
+
+-- The conditions one by one. A record must meet them all, and every reading of a text does.
+pub record Sound (r : Reading) : Type 0 where
+  pub some·taxon : empty? (r .taxa) ≡ false
+  pub some·character : empty? (r .characters) ≡ false
+  -- every row has exactly as many cells as there are characters
+  pub rows·long : all·long (length (r .characters)) (r .taxa) ≡ true
+  -- indices rise strictly in a set, and are below the symbol count
+  pub cells·sound : sound·rows (length (r .symbols)) (r .taxa) ≡ true
+  -- symbols are valid and different, 2 to 73, or 72 beside a gap cell; those of DNA are ACGT
+  pub symbols·sound : sound·symbols (r .data·type) (r .symbols) (gap·in (r .taxa)) ≡ true
+  -- names hold no `_` and no CR, and are blank-only only with a U+0020
+  pub names·sound : sound·names (names (r .taxa)) ≡ true
+  -- names differ, ASCII case ignored
+  pub names·unlike : names·differ (names (r .taxa)) ≡ true
+  pub labels·sound : sound·labels (r .characters) ≡ true
+  -- at most as many state labels as symbols
+  pub states·few : few·states (length (r .symbols)) (r .characters) ≡ true
+  -- DNA has no ordered character
+  pub dna·unordered : orderable (r .data·type) (r .characters) ≡ true
+
+-- The same as a test.
 unfoldable pub sound : Reading → Bool
 sound r =
     not (empty? (r .taxa))
     && not (empty? (r .characters))
+    && all·long (length (r .characters)) (r .taxa)
+    && sound·rows (length (r .symbols)) (r .taxa)
     && sound·symbols (r .data·type) (r .symbols) (gap·in (r .taxa))
     && sound·names (names (r .taxa))
     && names·differ (names (r .taxa))
-    && sound·rows (length (r .symbols)) (length (r .characters)) (r .taxa)
-    && sound·characters (length (r .symbols)) (r .characters)
+    && sound·labels (r .characters)
+    && few·states (length (r .symbols)) (r .characters)
     && orderable (r .data·type) (r .characters)
