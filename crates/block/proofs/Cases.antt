@@ -1,15 +1,16 @@
 -- Cases of the reading, by computation. Assumes nothing.
-use Prim.Native.Nat.{ℕ}
 use Prim.Native.String.{String}
 use Rattle.block.specs.Cell.{Cell, state, uncertain, polymorphic, missing, gap}
-use Rattle.block.specs.Parse.{Read, reading, fault}
-use Rattle.block.specs.Reading.{Taxon, Character, Reading}
+use Rattle.block.specs.Parse.{reading, fault}
+use Rattle.block.specs.Reading.{Taxon, Character}
 use Rattle.block.specs.Run.{run·text}
+use Rattle.block.specs.Sound.{sound·name}
 use Rattle.block.specs.declared.data.DataType.{DataType}
 use Rattle.block.specs.declared.model.CharacterOrdering.{CharacterOrdering}
 use Rattle.lexer.specs.Base.{bytes}
 use Rattle.lexer.specs.declared.refusal.Refusal.{Refusal}
-use mathlib.Core.List.{List, [], _∷_, _++_}
+use mathlib.Core.Bool.{true, false}
+use mathlib.Core.List.{List, [], _∷_, map}
 use mathlib.Core.Path.{_≡_, refl}
 
 plain : Character
@@ -36,3 +37,8 @@ missing-before-codes = refl
 fault-at-its-word : run·text (bytes "#NEXUS\nBEGIN DATA;\nDIMENSIONS NTAX=1 NCHAR=3;\nMATRIX\na 0\n 12;\nEND;") ≡ fault Refusal.CellSymbol (record { line = 6; column = 2 })
 unfolding run·text
 fault-at-its-word = refl
+
+-- No name holds `_` or CR, is empty, or is White_Space without a U+0020.
+names : map sound·name (bytes "a b" ∷ bytes " " ∷ bytes "\n " ∷ bytes "a_b" ∷ bytes "a\rb" ∷ [] ∷ bytes "\t" ∷ (194 ∷ 160 ∷ []) ∷ (194 ∷ []) ∷ []) ≡ true ∷ true ∷ true ∷ false ∷ false ∷ false ∷ false ∷ false ∷ false ∷ []
+unfolding run·text
+names = refl

@@ -8,7 +8,6 @@ use mathlib.Core.Option.{Option, none, some, Option·getD}
 use Rattle.lexer.specs.Base.{pick, bytes, alike, empty?, given}
 use Rattle.lexer.specs.Words.{Numbered, is, punct}
 use Rattle.lexer.specs.declared.refusal.Refusal.{Refusal}
-use Rattle.block.specs.Cell.{Cell}
 use Rattle.block.specs.Commands.{Command, command, empty, unended, words}
 use Rattle.block.specs.Dimensions.{Dimensions, dimensions}
 use Rattle.block.specs.Format.{Format, format, default·format}

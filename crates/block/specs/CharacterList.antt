@@ -1,13 +1,12 @@
 -- Character lists in a TYPESET: numbers, `.` for the last, ALL, ranges, and `\` with a stride.
 use Prim.Native.Nat.{ℕ, zero, suc, _-_, _%_}
 use lib.Dec.{ltb, leb, eqb}
-use mathlib.Core.Bool.{Bool, true, false, _&&_, _||_, not}
+use mathlib.Core.Bool.{Bool, true, false, _&&_, _||_}
 use mathlib.Core.List.{List, [], _∷_, _++_}
-use mathlib.Core.Option.{Option, none, some}
-use Rattle.lexer.specs.Base.{pick, bytes, same, given}
+use Rattle.lexer.specs.Base.{pick, bytes, same}
 use Rattle.lexer.specs.Words.{Numbered, is, punct, positive, word?, quoted?, string?}
 use Rattle.lexer.specs.declared.refusal.Refusal.{Refusal}
-use Rattle.block.specs.Outcome.{Outcome, done, refused, then, fold}
+use Rattle.block.specs.Outcome.{Outcome, done, refused, fold}
 
 -- A part of a list, and the token that it is part of. Words are cut at each `-`, which is a part of its own; any other token is one part.
 pub record Unit·of : Type 0 where

@@ -1,7 +1,6 @@
 -- Cells as they are written: words of symbols, and sets in braces or parentheses.
-use Prim.Native.Nat.{ℕ, zero, suc}
-use lib.Dec.{eqb}
-use mathlib.Core.Bool.{Bool, true, false, _||_}
+use Prim.Native.Nat.{ℕ, suc}
+use mathlib.Core.Bool.{_||_}
 use mathlib.Core.List.{List, [], _∷_, _++_}
 use mathlib.Core.Option.{Option, none, some}
 use Rattle.lexer.specs.Base.{pick}

@@ -38,6 +38,10 @@ invalid = bytes "()[]{}/\\,;:=*'\"`<>~^"
 unfoldable pub valid·symbol : ℕ → Bool
 valid·symbol b = leb 33 b && leb b 126 && not (among b invalid)
 
+-- The valid symbols, rising.
+unfoldable pub valid·symbols : List ℕ
+valid·symbols = bytes "!#$%&+-.0123456789?@ABCDEFGHIJKLMNOPQRSTUVWXYZ_abcdefghijklmnopqrstuvwxyz|"
+
 -- What the words of the command say; an option that was not given is none, or false.
 pub record Options : Type 0 where
   pub data·type : Option DataType

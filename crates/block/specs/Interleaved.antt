@@ -1,5 +1,5 @@
 -- Interleaved pages: NTAX lines each, every line a name and some cells; names repeated in order; one width to a page.
-use Prim.Native.Nat.{ℕ, zero, suc}
+use Prim.Native.Nat.{ℕ, suc}
 use lib.Dec.{ltb, eqb}
 use lib.ListN.{length}
 use mathlib.Core.Bool.{Bool, true, false, _&&_, _||_, not}

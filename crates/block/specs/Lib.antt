@@ -15,4 +15,6 @@ pub mod CharacterList
 pub mod Typeset
 pub mod Blocks
 pub mod Parse
+pub mod Sound
+pub mod TaxonOrder
 pub mod Run

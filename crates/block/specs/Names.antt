@@ -1,8 +1,7 @@
 -- Taxon names: each a name, no two alike, ASCII case ignored.
 use Prim.Native.Nat.{ℕ}
-use mathlib.Core.Bool.{Bool, true, false, _||_}
+use mathlib.Core.Bool.{Bool, false, _||_}
 use mathlib.Core.List.{List, [], _∷_, _++_}
-use mathlib.Core.Option.{Option, none, some}
 use Rattle.lexer.specs.Base.{pick, alike}
 use Rattle.lexer.specs.Words.{Numbered, label}
 use Rattle.lexer.specs.declared.refusal.Refusal.{Refusal}

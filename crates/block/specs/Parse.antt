@@ -1,7 +1,6 @@
 -- A text's reading, or its refusal with number and place.
 use Prim.Native.Nat.{ℕ}
 use lib.ListN.{length, getD}
-use mathlib.Core.Bool.{Bool, true, false}
 use mathlib.Core.List.{List, [], _∷_}
 use mathlib.Core.Option.{Option, none, some}
 use Rattle.lexer.specs.Base.{pick, bytes}

@@ -2,11 +2,10 @@
 use Prim.Native.Nat.{ℕ}
 use lib.Dec.{ltb, eqb}
 use lib.ListN.{length}
-use mathlib.Core.List.{List, [], _∷_, _++_, map}
+use mathlib.Core.List.{List, [], _∷_, _++_}
 use Rattle.lexer.specs.Base.{pick}
 use Rattle.lexer.specs.Words.{Numbered, label}
 use Rattle.lexer.specs.declared.refusal.Refusal.{Refusal}
-use Rattle.block.specs.Cell.{Cell}
 use Rattle.block.specs.Chunk.{Row, plain, within, chunk}
 use Rattle.block.specs.Format.{Format}
 use Rattle.block.specs.Names.{known}

@@ -1,14 +1,14 @@
 -- TYPESET: a name, then the type of each character, as a VECTOR or, for each type, a list of characters.
-use Prim.Native.Nat.{ℕ, zero, suc}
+use Prim.Native.Nat.{ℕ, suc}
 use lib.Dec.{eqb}
 use lib.ListN.{length, replicate}
-use mathlib.Core.Bool.{Bool, true, false, _&&_, _||_, not}
+use mathlib.Core.Bool.{Bool, true, false}
 use mathlib.Core.List.{List, [], _∷_, _++_}
 use mathlib.Core.Option.{Option, none, some}
-use Rattle.lexer.specs.Base.{pick, bytes, given}
+use Rattle.lexer.specs.Base.{pick, bytes}
 use Rattle.lexer.specs.Words.{Numbered, is, punct, label}
 use Rattle.lexer.specs.declared.refusal.Refusal.{Refusal}
-use Rattle.block.specs.CharacterList.{Range, in·range, Listed, listed, Item, number, list·turn, item·end}
+use Rattle.block.specs.CharacterList.{Range, in·range, Listed, listed, number, list·turn, item·end}
 use Rattle.block.specs.Outcome.{Outcome, done, refused, then, fold, need}
 use Rattle.block.specs.declared.model.CharacterOrdering.{CharacterOrdering}
 

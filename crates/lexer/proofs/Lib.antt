@@ -1,2 +1,9 @@
+pub mod Basics
 pub mod Cases
+pub mod LabelLaws
 pub mod Spaces
+pub mod SymbolLaws
+pub mod TextReturns
+pub mod TextUtf8
+pub mod TokenSizes
+pub mod TokensClean

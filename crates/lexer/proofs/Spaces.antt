@@ -1,11 +1,12 @@
 -- The byte patterns of the definition are the UTF-8 of Unicode's White_Space: tested over every character below U+3100. From there on the first
 -- byte is above 227, or 227 before a byte from 132 on, and no pattern begins so. Assumes nothing.
-use Prim.Native.Nat.{ℕ, zero, suc, _+_, _/_, _%_}
+use Prim.Native.Nat.{ℕ, _+_, _/_, _%_}
+use Rattle.lexer.proofs.Basics.{all-under}
 use Rattle.lexer.specs.Base.{pick, among}
 use Rattle.lexer.specs.Classes.{symbol, space?}
 use Rattle.lexer.specs.Run.{run·tokens}
 use lib.Dec.{ltb}
-use mathlib.Core.Bool.{Bool, true, false, _&&_, Bool·beq}
+use mathlib.Core.Bool.{Bool, true, false, Bool·beq}
 use mathlib.Core.List.{List, [], _∷_}
 use mathlib.Core.Path.{_≡_, refl}
 
@@ -29,10 +30,6 @@ begins-space (b ∷ r) = space? (symbol b r)
 agree : ℕ → Bool
 agree c = Bool·beq (begins-space (encoded c)) (among c white-space)
 
-agree-below : ℕ → Bool
-agree-below zero = true
-agree-below (suc n) = let more = agree-below n in agree n && more
-
-white-space-is-right : agree-below 12544 ≡ true
-unfolding run·tokens white-space encoded begins-space agree agree-below
+white-space-is-right : all-under agree 12544 ≡ true
+unfolding run·tokens white-space encoded begins-space agree all-under
 white-space-is-right = refl

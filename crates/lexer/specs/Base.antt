@@ -1,6 +1,6 @@
 -- What the definitions are written with: a choice by a test, texts as bytes, and tests on lists of bytes.
 use Prim.Native.Char.{code}
-use Prim.Native.Nat.{ℕ, zero, suc, _+_}
+use Prim.Native.Nat.{ℕ, _+_}
 use Prim.Native.String as Str
 use lib.Dec.{leb, eqb}
 use mathlib.Core.Bool.{Bool, true, false, _&&_, _||_}

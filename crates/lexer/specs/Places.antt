@@ -1,7 +1,6 @@
 -- Places: where each token begins, and the line and column of a byte.
 use Prim.Native.Nat.{ℕ, zero, suc}
-use lib.Dec.{eqb}
-use mathlib.Core.Bool.{Bool, true, false, _&&_, _||_, not}
+use mathlib.Core.Bool.{Bool, false, _&&_, _||_, not}
 use mathlib.Core.List.{List, [], _∷_}
 use Rattle.lexer.specs.Base.{pick}
 use Rattle.lexer.specs.Classes.{symbol, newline?, return?, single?, double?, open?, part?}

@@ -2,7 +2,7 @@
 -- inside a word parts nothing.
 use Prim.Native.Nat.{ℕ, zero, suc}
 use lib.Dec.{eqb}
-use mathlib.Core.Bool.{Bool, true, false, _&&_, _||_, not}
+use mathlib.Core.Bool.{Bool, false, _&&_, _||_, not}
 use mathlib.Core.List.{List, [], _∷_}
 use mathlib.Core.Option.{Option, none, some}
 use Rattle.lexer.specs.Base.{pick}

@@ -11,10 +11,6 @@ pub record Follows : Type 0 where
   pub low : ℕ
   pub high : ℕ
 
--- After a whole character nothing of it follows.
-unfoldable pub whole : Follows
-whole = record { more = 0; low = 128; high = 191 }
-
 unfoldable pub follow : ℕ → ℕ → ℕ → Follows
 follow n l h = record { more = n; low = l; high = h }
 

@@ -1,10 +1,10 @@
 -- The three calls: what each answers, and what it leaves in the lent buffer.
-use Prim.Native.Nat.{ℕ, zero, suc, _+_, _*_}
+use Prim.Native.Nat.{ℕ, _+_, _*_}
 use lib.Dec.{leb}
 use lib.ListN.{length, take, drop}
-use mathlib.Core.List.{List, [], _∷_, _++_}
+use mathlib.Core.List.{List, [], _++_}
 use mathlib.Core.Option.{Option, none, some}
-use Rattle.lexer.specs.Base.{pick, bytes}
+use Rattle.lexer.specs.Base.{pick}
 use Rattle.lexer.specs.Places.{nowhere}
 use Rattle.lexer.specs.Refusals.{number}
 use Rattle.lexer.specs.declared.Place.{Place}

@@ -1,23 +1,18 @@
 -- The written form of a reading: a NEXUS text that reads as it.
-use Prim.Native.Nat.{ℕ, zero, suc}
-use Prim.Native.String.{String}
+use Prim.Native.Nat.{ℕ, suc}
 use lib.Dec.{eqb}
 use lib.ListN.{length, getD}
-use mathlib.Core.Bool.{Bool, true, false, _&&_, _||_, not}
+use mathlib.Core.Bool.{Bool, true, false, _||_, not}
 use mathlib.Core.List.{List, [], _∷_, _++_}
 use Rattle.lexer.specs.Base.{pick, bytes, among, empty?}
 use Rattle.block.specs.Blocks.{has·ordered}
 use Rattle.block.specs.Cell.{Cell, state, uncertain, polymorphic, missing, gap}
+use Rattle.block.specs.Format.{valid·symbols}
 use Rattle.block.specs.Reading.{Taxon, Character, Reading}
 use Rattle.block.specs.declared.data.DataType.{DataType}
-use Rattle.block.specs.declared.model.CharacterOrdering.{CharacterOrdering}
 use Rattle.record.specs.Decimal.{decimal}
-use Rattle.record.specs.Sound.{gap·in}
+use Rattle.block.specs.Sound.{gap·in}
 use Rattle.record.specs.Spell.{order·word}
-
--- The valid symbols, rising.
-unfoldable pub valid·symbols : List ℕ
-valid·symbols = bytes "!#$%&+-.0123456789?@ABCDEFGHIJKLMNOPQRSTUVWXYZ_abcdefghijklmnopqrstuvwxyz|"
 
 -- The first of these that is not taken.
 unfoldable pub first·free : List ℕ → List ℕ → ℕ

@@ -1,5 +1,5 @@
 -- The record of a reading: lines `key=value`, each ended by LF.
-use Prim.Native.Nat.{ℕ, zero, suc}
+use Prim.Native.Nat.{ℕ, suc}
 use Prim.Native.String.{String}
 use lib.Dec.{eqb}
 use lib.ListN.{length}

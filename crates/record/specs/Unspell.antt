@@ -3,7 +3,7 @@ use Prim.Native.Nat.{ℕ, zero, suc}
 use Prim.Native.String.{String}
 use lib.Dec.{leb, eqb}
 use lib.ListN.{length}
-use mathlib.Core.Bool.{Bool, true, false, _&&_}
+use mathlib.Core.Bool.{_&&_}
 use mathlib.Core.List.{List, [], _∷_, _++_}
 use mathlib.Core.Option.{Option, none, some, bind}
 use Rattle.lexer.specs.Base.{pick, bytes, same}
@@ -12,7 +12,7 @@ use Rattle.block.specs.Reading.{Taxon, Character, Reading}
 use Rattle.block.specs.declared.data.DataType.{DataType}
 use Rattle.block.specs.declared.model.CharacterOrdering.{CharacterOrdering}
 use Rattle.record.specs.Decimal.{undecimal}
-use Rattle.record.specs.Sound.{sound}
+use Rattle.block.specs.Sound.{sound}
 
 -- The lines of some bytes, if each is ended by LF.
 unfoldable pub lines·with : ℕ → Option (List (List ℕ)) → Option (List (List ℕ))

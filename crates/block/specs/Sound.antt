@@ -1,22 +1,22 @@
 -- What a reading is: the conditions that every reading of a text meets, and that a record must meet.
-use Prim.Native.Nat.{ℕ, zero, suc}
-use lib.Dec.{leb, ltb, eqb}
+use Prim.Native.Nat.{ℕ}
+use lib.Dec.{leb, ltb}
 use lib.ListN.{length}
 use mathlib.Core.Bool.{Bool, true, false, _&&_, _||_, not}
 use mathlib.Core.List.{List, [], _∷_}
 use mathlib.Core.Path.{_≡_}
-use Rattle.lexer.specs.Base.{pick, among, same, empty?}
+use Rattle.lexer.specs.Base.{among, same, empty?}
 use Rattle.lexer.specs.Classes.{blank}
 use Rattle.lexer.specs.Utf8.{utf8}
 use Rattle.block.specs.Blocks.{orderable}
 use Rattle.block.specs.Cell.{Cell, state, uncertain, polymorphic, missing, gap}
 use Rattle.block.specs.Dna.{acgt}
 use Rattle.block.specs.Format.{all·valid}
 use Rattle.block.specs.Interleaved.{all·long}
 use Rattle.block.specs.Names.{known}
 use Rattle.block.specs.Reading.{Taxon, Character, Reading}
 use Rattle.block.specs.Sequential.{names}
 use Rattle.block.specs.declared.data.DataType.{DataType}
 
 -- A name: UTF-8 without `_` and CR; not all White_Space, unless a U+0020 is in it.
 unfoldable pub sound·name : List ℕ → Bool

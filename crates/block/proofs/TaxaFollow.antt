@@ -1,0 +1,121 @@
+-- The taxa of a reading follow the declared order: what TAXLABELS declared before the MATRIX of the text, or the rows as they come. Assumes nothing.
+use Prim.Native.Nat.{ℕ}
+use Rattle.block.proofs.BlocksKept.{Claims, Block, Brings, Kept, kept-map, step-kept, start-kept}
+use Rattle.block.proofs.MatrixParts.{matrix-parts}
+use Rattle.block.proofs.OutcomeLaws.{fold-history}
+use Rattle.block.proofs.ReadCommands.{read-finished}
+use Rattle.block.specs.Blocks.{Data, in·data, State, at·start, step, matrix, with·types}
+use Rattle.block.specs.Commands.{Command, command}
+use Rattle.block.specs.Outcome.{done, fold}
+use Rattle.block.specs.Parse.{reading, read}
+use Rattle.block.specs.Reading.{Taxon, Reading}
+use Rattle.block.specs.TaxonOrder.{commands·of, Declares, Matrix·of, Follows}
+use Rattle.lexer.specs.Base.{bytes}
+use Rattle.lexer.specs.Words.{Numbered, is}
+use mathlib.Core.Bool.{true}
+use mathlib.Core.List.{List, [], _∷_, _++_, append-assoc, List·Memᴰ, List·Memᴰ·head, Memᴰ·append-left, Memᴰ·append-right}
+use mathlib.Core.Option.{some}
+use mathlib.Core.Path.{_≡_, refl, ap, _∙_, subst}
+
+-- A MATRIX command among these whose rows the taxa of the reading follow.
+pub record Following (cs : List Command) (r : Reading) : Type 0 where
+  pub made : Matrix·of cs
+  pub follows : Follows (made .block·data .taxa) (made .rows) (r .taxa)
+
+-- What is claimed of a state behind these commands: declared names and the matrix come from them.
+abbrev come·from : List Command → Claims
+come·from cs = record { names = Declares cs; format = λ f. Unit {0}; labels = λ c. Unit {0}; reading = Following cs }
+
+module _ (cs : List Command) (c : Command) where
+  declares-later : (ns : List (List ℕ)) → Declares cs ns → Declares (cs ++ (c ∷ [])) ns
+  declares-later ns d = record { head = d .head; raw = d .raw; among = Memᴰ·append-left (c ∷ []) (d .among); word = d .word; named = d .named }
+
+  matrix-later : Matrix·of cs → Matrix·of (cs ++ (c ∷ []))
+  matrix-later m =
+      record {
+        before = m .before;
+        head = m .head;
+        raw = m .raw;
+        after = m .after ++ (c ∷ []);
+        here = ap (λ l. l ++ (c ∷ [])) (m .here) ∙ append-assoc (m .before) (command (m .head) (m .raw) ∷ m .after) (c ∷ []);
+        word = m .word;
+        state = m .state;
+        reached = m .reached;
+        block = m .block;
+        block·data = m .block·data;
+        inside = m .inside;
+        dimensions = m .dimensions;
+        sized = m .sized;
+        shape = m .shape;
+        shaped = m .shaped;
+        rows = m .rows;
+        read = m .read;
+        declared = m .declared;
+      }
+
+  following-later : (r : Reading) → Following cs r → Following (cs ++ (c ∷ [])) r
+  unfolding matrix-later
+  following-later r f = record { made = matrix-later (f .made); follows = f .follows }
+
+  kept-later : (s : State) → Kept (come·from cs) s → Kept (come·from (cs ++ (c ∷ []))) s
+  kept-later s k = kept-map (come·from cs) (come·from (cs ++ (c ∷ []))) (record { names = declares-later; format = λ f p. p; labels = λ l p. p; reading = following-later }) s k
+
+-- The next command brings in names that it declares, and a matrix with the rows that it holds.
+module _ (before : List Command) (s : State) (reached : fold step at·start before ≡ done s) (k : Kept (come·from before) s) (h : Numbered) (raw : List Numbered) where
+  last : List·Memᴰ (command h raw) (before ++ (command h raw ∷ []))
+  last = Memᴰ·append-right before (List·Memᴰ·head refl)
+
+  declared : (b : ℕ) (d : Data) → s .phase ≡ in·data b d → (ns : List (List ℕ)) → d .taxa ≡ some ns → Declares before ns
+  declared b d at ns e =
+      let block : Block (come·from before) d = rw at at (k .phase) in
+      rw e at (block .ready .taxa)
+
+  following : is (bytes "MATRIX") h ≡ true → (b : ℕ) (d : Data) → s .phase ≡ in·data b d → (r : Reading) → matrix d h raw ≡ done r → Following (before ++ (command h raw ∷ [])) r
+  following word b d at r e =
+      let p = matrix-parts d h raw r e in
+      record {
+        made =
+            record {
+              before = before;
+              head = h;
+              raw = raw;
+              after = [];
+              here = refl;
+              word = word;
+              state = s;
+              reached = reached;
+              block = b;
+              block·data = d;
+              inside = at;
+              dimensions = p .dimensions;
+              sized = p .sized;
+              shape = p .shape;
+              shaped = p .by;
+              rows = p .taken;
+              read = p .read;
+              declared = declared b d at;
+            };
+        follows = subst (λ (ts : List Taxon). Follows (d .taxa) (p .taken) ts) (ap (λ x. x .taxa) (p .is)) (p .follows);
+      }
+
+  brings : Brings (come·from (before ++ (command h raw ∷ []))) s h raw
+  unfolding with·types
+  brings =
+      record {
+        named = λ t ns e. record { head = h; raw = raw; among = last; word = t; named = e };
+        formatted = λ f e. tt;
+        labelled = λ l. tt;
+        read = λ t b d at p r e. following t b d at r e;
+        typed = λ r default set f. record { made = f .made; follows = f .follows };
+      }
+
+step-later : (before : List Command) (s : State) (c : Command) (t : State) → fold step at·start before ≡ done s → Kept (come·from before) s → step s c ≡ done t → Kept (come·from (before ++ (c ∷ []))) t
+step-later before s c t reached k e =
+    step-kept (come·from (before ++ (c ∷ []))) s c t (λ h raw is. rw is (brings before s reached k h raw)) (kept-later before c s k) e
+
+pub taxa-follow : (text : List ℕ) (r : Reading) → read text ≡ reading r → (m : Matrix·of (commands·of text)) × Follows (m .block·data .taxa) (m .rows) (r .taxa)
+taxa-follow text r h =
+    let f = read-finished text r h in
+    let k = fold-history (λ cs s. Kept (come·from cs) s) step at·start step-later (commands·of text) (f .state) (start-kept (come·from [])) (f .reached) in
+    let m : Following (commands·of text) r = rw (f .matrix) at (k .matrix) in
+    (m .made, m .follows)

@@ -1,0 +1,131 @@
+-- The promises of specs/Demands.antt, each with its proof. Assumes nothing.
+use Prim.Native.Nat.{ℕ, _≤_}
+use Rattle.block.proofs.NamesFromTokens.{names-from-tokens}
+use Rattle.block.proofs.OutcomeLaws.{All}
+use Rattle.block.proofs.ReadingSmall.{reading-small}
+use Rattle.block.proofs.ReadingSound.{reading-sound}
+use Rattle.block.proofs.TaxaFollow.{taxa-follow}
+use Rattle.block.specs.Parse.{reading, read, read·tokens, placed}
+use Rattle.block.specs.Reading.{Taxon, Character, Reading}
+use Rattle.block.specs.Sequential.{names}
+use Rattle.block.specs.Sound.{Sound}
+use Rattle.block.specs.TaxonOrder.{Token·named, all·named}
+use Rattle.lexer.specs.Base.{pick}
+use Rattle.lexer.specs.Words.{largest}
+use Rattle.record.proofs.FormClosed.{form-closed}
+use Rattle.record.proofs.FormLexed.{form-lexed, form-utf8}
+use Rattle.record.proofs.FormParsed.{form-parsed}
+use Rattle.record.proofs.SpellLaws.{unspell-spell}
+use Rattle.record.proofs.UnspellLaws.{spell-unspell}
+use Rattle.record.specs.Calls.{longest}
+use Rattle.record.specs.Demands.{Reads, Counted, Stated, Agree, Every·reading·is·sound, Taxa·follow·the·declaration, Names·come·from·tokens, Records·are·read·back, Records·are·spelled, Records·of·texts·pass, Not·refused·is·some·reading, Forms·are·read·again, Forms·tell·readings·apart, Forms·tell·texts·apart}
+use Rattle.record.specs.Form.{form}
+use Rattle.record.specs.Spell.{spell}
+use Rattle.record.specs.Unspell.{unspell, most}
+use lib.ListN.{length}
+use mathlib.Core.List.{List, [], _∷_, map, cons≢nil, nil≢cons, head-eq-of-cons-eq, tail-eq-of-cons-eq}
+use mathlib.Core.Option.{some}
+use mathlib.Core.Path.{_≡_, refl, sym, ap, _∙_, subst}
+use native.Mathlib.Omega.{arith}
+
+pub every-reading-is-sound : Every·reading·is·sound
+every-reading-is-sound = reading-sound
+
+pub taxa-follow-the-declaration : Taxa·follow·the·declaration
+taxa-follow-the-declaration = taxa-follow
+
+pub names-come-from-tokens : Names·come·from·tokens
+unfolding all·named
+names-come-from-tokens text r h = go (r .taxa) (names-from-tokens text r h)
+  where
+    go : (ts : List Taxon) → All (λ t. Token·named text (t .name)) ts → all·named text ts
+    go [] p = tt
+    go (t ∷ ts) p = (p .0, go ts (p .1))
+
+pub records-are-read-back : Records·are·read·back
+records-are-read-back = unspell-spell
+
+pub records-are-spelled : Records·are·spelled
+records-are-spelled = spell-unspell
+
+-- A reading is no larger than its text.
+pub records-of-texts-pass : Records·of·texts·pass
+unfolding longest most
+records-of-texts-pass text r few h =
+    let small = reading-small text r h in
+    unspell-spell r (reading-sound text r h) (record { taxa = omega (arith, small .taxa); characters = omega (arith, small .characters) })
+
+pub forms-are-read-again : Forms·are·read·again
+unfolding read read·tokens placed pick
+forms-are-read-again r s c = rw (form-utf8 r s, form-lexed r s, form-closed r, form-parsed r s c) refl
+
+-- What is within the counts of a record can be stated.
+counted-stated : (r : Reading) → Counted r → Stated r
+unfolding most largest
+counted-stated r c = record { taxa = omega (arith, c .taxa); characters = omega (arith, c .characters) }
+
+pub not-refused-is-some-reading : Not·refused·is·some·reading
+not-refused-is-some-reading b = (spelled, refused)
+  where
+    spelled : (r : Reading) × (unspell b ≡ some r) → (text : List ℕ) × (r : Reading) × Reads text r × Sound r × Counted r × (spell r ≡ b)
+    spelled h =
+        let k = spell-unspell b (h .0) (h .1) in
+        (form (h .0), h .0, forms-are-read-again (h .0) (k .1) (counted-stated (h .0) (k .2)), k .1, k .2, k .0)
+
+    refused : (text : List ℕ) × (r : Reading) × Reads text r × Sound r × Counted r × (spell r ≡ b) → (r : Reading) × (unspell b ≡ some r)
+    refused h = (h .1, ap unspell (sym (h .5)) ∙ unspell-spell (h .1) (h .3) (h .4))
+
+-- Taxa with equal names and cells are equal, and so are characters with equal labels, state labels and types.
+taxa-agree : (l r : List Taxon) → names l ≡ names r → map (λ (t : Taxon). t .cells) l ≡ map (λ (t : Taxon). t .cells) r → l ≡ r
+unfolding names
+taxa-agree [] [] n c = refl
+taxa-agree [] (t ∷ r) n c = absurd (nil≢cons n)
+taxa-agree (s ∷ l) [] n c = absurd (cons≢nil n)
+taxa-agree (s ∷ l) (t ∷ r) n c =
+    let more : l ≡ r = taxa-agree l r (tail-eq-of-cons-eq n) (tail-eq-of-cons-eq c) in
+    let one : s ≡ t = λ i. record { name = head-eq-of-cons-eq n i; cells = head-eq-of-cons-eq c i } in
+    cc
+
+characters-agree : (l r : List Character) → map (λ (c : Character). c .label) l ≡ map (λ (c : Character). c .label) r → map (λ (c : Character). c .states) l ≡ map (λ (c : Character). c .states) r → map (λ (c : Character). c .ordering) l ≡ map (λ (c : Character). c .ordering) r → l ≡ r
+characters-agree [] [] n s o = refl
+characters-agree [] (c ∷ r) n s o = absurd (nil≢cons n)
+characters-agree (b ∷ l) [] n s o = absurd (cons≢nil n)
+characters-agree (b ∷ l) (c ∷ r) n s o =
+    let more : l ≡ r = characters-agree l r (tail-eq-of-cons-eq n) (tail-eq-of-cons-eq s) (tail-eq-of-cons-eq o) in
+    let one : b ≡ c = λ i. record { label = head-eq-of-cons-eq n i; states = head-eq-of-cons-eq s i; ordering = head-eq-of-cons-eq o i } in
+    cc
+
+agree-equal : (r s : Reading) → Agree r s → r ≡ s
+agree-equal r s a =
+    let taxa = taxa-agree (r .taxa) (s .taxa) (a .names) (a .cells) in
+    let characters = characters-agree (r .characters) (s .characters) (a .labels) (a .states) (a .types) in
+    λ i. record { data·type = a .data·type i; symbols = a .symbols i; taxa = taxa i; characters = characters i }
+
+equal-agree : (r s : Reading) → r ≡ s → Agree r s
+equal-agree r s e =
+    record {
+      data·type = ap (λ x. x .data·type) e;
+      symbols = ap (λ x. x .symbols) e;
+      names = ap (λ x. names (x .taxa)) e;
+      cells = ap (λ x. map (λ (t : Taxon). t .cells) (x .taxa)) e;
+      labels = ap (λ x. map (λ (c : Character). c .label) (x .characters)) e;
+      states = ap (λ x. map (λ (c : Character). c .states) (x .characters)) e;
+      types = ap (λ x. map (λ (c : Character). c .ordering) (x .characters)) e;
+    }
+
+-- A text has one reading.
+one-reading : (text : List ℕ) (r s : Reading) → Reads text r → Reads text s → r ≡ s
+one-reading text r s p q = let e : reading r ≡ reading s = sym p ∙ q in cc
+
+pub forms-tell-readings-apart : Forms·tell·readings·apart
+forms-tell-readings-apart r s p c q d =
+    (λ e. equal-agree r s (one-reading (form s) r s (subst (λ (t : List ℕ). Reads t r) e (forms-are-read-again r p c)) (forms-are-read-again s q d)), λ a. ap form (agree-equal r s a))
+
+text-stated : (text : List ℕ) (r : Reading) → length text ≤ largest → Reads text r → Stated r
+text-stated text r few h =
+    let small = reading-small text r h in
+    record { taxa = omega (arith, small .taxa); characters = omega (arith, small .characters) }
+
+pub forms-tell-texts-apart : Forms·tell·texts·apart
+forms-tell-texts-apart t u r s few less p q =
+    forms-tell-readings-apart r s (reading-sound t r p) (text-stated t r few p) (reading-sound u s q) (text-stated u s less q)

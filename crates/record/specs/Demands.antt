@@ -1,0 +1,88 @@
+-- What the definitions promise, statement by statement. proofs/Demands.antt names the proof of each.
+use Prim.Native.Nat.{ℕ, _≤_}
+use lib.ListN.{length}
+use mathlib.Core.List.{List, map}
+use mathlib.Core.Logic.{_↔_}
+use mathlib.Core.Option.{some}
+use mathlib.Core.Path.{_≡_}
+use Rattle.lexer.specs.Words.{largest}
+use Rattle.block.specs.Parse.{reading, read}
+use Rattle.block.specs.Reading.{Taxon, Character, Reading}
+use Rattle.block.specs.Sequential.{names}
+use Rattle.block.specs.Sound.{Sound}
+use Rattle.block.specs.TaxonOrder.{commands·of, Matrix·of, Follows, all·named}
+use Rattle.record.specs.Calls.{longest}
+use Rattle.record.specs.Form.{form}
+use Rattle.record.specs.Spell.{spell}
+use Rattle.record.specs.Unspell.{unspell, most}
+
+-- A text, of any length, has a reading.
+abbrev pub Reads : List ℕ → Reading → Type 0
+Reads text r = read text ≡ reading r
+
+-- Demand 2. Every reading is sound: its conditions are the fields of `Sound`.
+abbrev pub Every·reading·is·sound : Type 0
+Every·reading·is·sound = (text : List ℕ) (r : Reading) → Reads text r → Sound r
+
+-- Demand 2. Rows follow any declared order: the k-th taxon has the k-th declared name, with the cells of the row of that name.
+abbrev pub Taxa·follow·the·declaration : Type 0
+Taxa·follow·the·declaration =
+    (text : List ℕ) (r : Reading) → Reads text r → (m : Matrix·of (commands·of text)) × Follows (m .block·data .taxa) (m .rows) (r .taxa)
+
+-- Demand 2. Names are those of the text's tokens.
+abbrev pub Names·come·from·tokens : Type 0
+Names·come·from·tokens = (text : List ℕ) (r : Reading) → Reads text r → all·named text (r .taxa)
+
+-- The counts of a record are at most 1,048,576.
+pub record Counted (r : Reading) : Type 0 where
+  pub taxa : length (r .taxa) ≤ most
+  pub characters : length (r .characters) ≤ most
+
+-- The counts that DIMENSIONS can state: those of 64 bits.
+pub record Stated (r : Reading) : Type 0 where
+  pub taxa : length (r .taxa) ≤ largest
+  pub characters : length (r .characters) ≤ largest
+
+-- Demand 3. A record gives back its reading.
+abbrev pub Records·are·read·back : Type 0
+Records·are·read·back = (r : Reading) → Sound r → Counted r → unspell (spell r) ≡ some r
+
+-- Demand 3. Only the record of a reading gives it, and the reading is sound and within the counts.
+abbrev pub Records·are·spelled : Type 0
+Records·are·spelled = (b : List ℕ) (r : Reading) → unspell b ≡ some r → (spell r ≡ b) × Sound r × Counted r
+
+-- Demand 3. The record of a text of at most 1,048,576 bytes is never refused (31).
+abbrev pub Records·of·texts·pass : Type 0
+Records·of·texts·pass = (text : List ℕ) (r : Reading) → length text ≤ longest → Reads text r → unspell (spell r) ≡ some r
+
+-- 31 stands exactly where no text of any length has these bytes as its record, or a count is above 1,048,576: bytes are not refused if and only
+-- if some text's reading, sound and within the counts, spells them.
+abbrev pub Not·refused·is·some·reading : Type 0
+Not·refused·is·some·reading =
+    (b : List ℕ) →
+    ((r : Reading) × (unspell b ≡ some r)) ↔ ((text : List ℕ) × (r : Reading) × Reads text r × Sound r × Counted r × (spell r ≡ b))
+
+-- Demand 3. The written form is read again, whatever its length. A reading with 2^64 taxa or characters has no such form, since no DIMENSIONS
+-- command can state that count.
+abbrev pub Forms·are·read·again : Type 0
+Forms·are·read·again = (r : Reading) → Sound r → Stated r → Reads (form r) r
+
+-- Readings agree if each of these is equal in both: the data type; the symbols in order; the taxa's names and cells; for each character its
+-- label, its state labels and its type. Lists are equal also in length.
+pub record Agree (r s : Reading) : Type 0 where
+  pub data·type : r .data·type ≡ s .data·type
+  pub symbols : r .symbols ≡ s .symbols
+  pub names : names (r .taxa) ≡ names (s .taxa)
+  pub cells : map (λ (t : Taxon). t .cells) (r .taxa) ≡ map (λ (t : Taxon). t .cells) (s .taxa)
+  pub labels : map (λ (c : Character). c .label) (r .characters) ≡ map (λ (c : Character). c .label) (s .characters)
+  pub states : map (λ (c : Character). c .states) (r .characters) ≡ map (λ (c : Character). c .states) (s .characters)
+  pub types : map (λ (c : Character). c .ordering) (r .characters) ≡ map (λ (c : Character). c .ordering) (s .characters)
+
+-- Demand 3. Two readings have equal forms exactly when they agree.
+abbrev pub Forms·tell·readings·apart : Type 0
+Forms·tell·readings·apart = (r s : Reading) → Sound r → Stated r → Sound s → Stated s → (form r ≡ form s) ↔ Agree r s
+
+-- Demand 3. Two texts that are read have written forms with the same bytes exactly when their readings agree.
+abbrev pub Forms·tell·texts·apart : Type 0
+Forms·tell·texts·apart =
+    (t u : List ℕ) (r s : Reading) → length t ≤ largest → length u ≤ largest → Reads t r → Reads u s → (form r ≡ form s) ↔ Agree r s
