@@ -5,7 +5,7 @@ use lib.ListN.{length}
 use mathlib.Core.Bool.{Bool, true, false, _&&_, _||_, not}
 use mathlib.Core.List.{List, [], _∷_, _++_}
 use mathlib.Core.Option.{Option, none, some, Option·getD}
-use Rattle.lexer.specs.Base.{pick, bytes, alike, empty?, given}
+use Rattle.lexer.specs.Base.{pick, bytes, alike, empty?, given, byte}
 use Rattle.lexer.specs.Words.{Numbered, is, punct}
 use Rattle.lexer.specs.declared.refusal.Refusal.{Refusal}
 use Rattle.block.specs.Commands.{Command, command, empty, unended, words}
@@ -222,7 +222,7 @@ options h (a ∷ []) = refused Refusal.Command (h .index)
 options h (a ∷ b ∷ []) = refused Refusal.Command (h .index)
 options h (a ∷ b ∷ c ∷ []) =
     let type = need (ordering c) Refusal.TypeSet (c .index) in
-    pick (is (bytes "DEFTYPE") a && punct 61 b) type (refused Refusal.Command (h .index))
+    pick (is (bytes "DEFTYPE") a && punct (byte "=") b) type (refused Refusal.Command (h .index))
 options h (a ∷ b ∷ c ∷ e ∷ r) = refused Refusal.Command (h .index)
 
 unfoldable pub assumption·step : Numbered → List Numbered → ℕ → Reading → Option CharacterOrdering → Option Types → Outcome Phase

@@ -3,7 +3,7 @@ use Prim.Native.Nat.{ℕ, zero, suc, _-_, _%_}
 use lib.Dec.{ltb, leb, eqb}
 use mathlib.Core.Bool.{Bool, true, false, _&&_, _||_}
 use mathlib.Core.List.{List, [], _∷_, _++_}
-use Rattle.lexer.specs.Base.{pick, bytes, same}
+use Rattle.lexer.specs.Base.{pick, bytes, same, byte}
 use Rattle.lexer.specs.Words.{Numbered, is, punct, positive, word?, quoted?, string?}
 use Rattle.lexer.specs.declared.refusal.Refusal.{Refusal}
 use Rattle.block.specs.Outcome.{Outcome, done, refused, fold}
@@ -19,18 +19,18 @@ unit w text = record { text = text; word = w }
 -- The bytes up to the next `-`.
 unfoldable pub to·dash : List ℕ → List ℕ
 to·dash [] = []
-to·dash (b ∷ r) = let more = b ∷ to·dash r in pick (eqb b 45) [] more
+to·dash (b ∷ r) = let more = b ∷ to·dash r in pick (eqb b (byte "-")) [] more
 
 unfoldable pub cut·from : Numbered → Bool → List ℕ → List Unit·of
 cut·from w begun [] = []
 cut·from w false (b ∷ r) =
-    let dash = unit w (45 ∷ []) ∷ cut·from w false r in
+    let dash = unit w (byte "-" ∷ []) ∷ cut·from w false r in
     let part = unit w (b ∷ to·dash r) ∷ cut·from w true r in
-    pick (eqb b 45) dash part
+    pick (eqb b (byte "-")) dash part
 cut·from w true (b ∷ r) =
-    let dash = unit w (45 ∷ []) ∷ cut·from w false r in
+    let dash = unit w (byte "-" ∷ []) ∷ cut·from w false r in
     let part = cut·from w true r in
-    pick (eqb b 45) dash part
+    pick (eqb b (byte "-")) dash part
 
 unfoldable pub units : Numbered → List Unit·of
 units w =
@@ -39,10 +39,10 @@ units w =
 
 -- A dash, also in quotes; a stride's `\`, a mark; ALL, a whole word.
 unfoldable pub dash? : Unit·of → Bool
-dash? u = same (u .text) (45 ∷ [])
+dash? u = same (u .text) (byte "-" ∷ [])
 
 unfoldable pub stride? : Unit·of → Bool
-stride? u = punct 92 (u .word)
+stride? u = punct (byte "\\") (u .word)
 
 unfoldable pub all? : Unit·of → Bool
 all? u = is (bytes "ALL") (u .word)
@@ -53,7 +53,7 @@ character·number count u =
     let k = u .word .token .kind in
     let n = positive (u .text) in
     let number = pick (leb n count) n 0 in
-    pick (quoted? k || string? k) 0 (pick (same (u .text) (46 ∷ [])) count number)
+    pick (quoted? k || string? k) 0 (pick (same (u .text) (byte "." ∷ [])) count number)
 
 -- The characters from first to last, each stride-th.
 pub record Range : Type 0 where

@@ -3,7 +3,7 @@ use Prim.Native.Nat.{ℕ, suc}
 use mathlib.Core.Bool.{_||_}
 use mathlib.Core.List.{List, [], _∷_, _++_}
 use mathlib.Core.Option.{Option, none, some}
-use Rattle.lexer.specs.Base.{pick}
+use Rattle.lexer.specs.Base.{pick, byte}
 use Rattle.lexer.specs.Words.{Numbered, punct, word?}
 use Rattle.lexer.specs.declared.refusal.Refusal.{Refusal}
 use Rattle.block.specs.Cell.{Cell, state, uncertain, polymorphic, missing, gap, insert·all}
@@ -51,7 +51,7 @@ cells·of f (b ∷ r) = let more = cells·of f r in before (cell f b) more
 unfoldable pub symbols : Format → Numbered → Outcome (List Cell)
 symbols f w =
     let cells = need (cells·of f (w .token .text)) Refusal.CellSymbol (w .index) in
-    pick (word? (w .token .kind) || punct 43 w) cells (refused Refusal.CellSymbol (w .index))
+    pick (word? (w .token .kind) || punct (byte "+") w) cells (refused Refusal.CellSymbol (w .index))
 
 -- The states of these cells, if they are all states.
 unfoldable pub with·state : ℕ → Option (List ℕ) → Option (List ℕ)
@@ -71,8 +71,8 @@ pub data Bracket : Type 0 where
   brace parenthesis : Bracket
 
 unfoldable pub closer : Bracket → ℕ
-closer brace = 125
-closer parenthesis = 41
+closer brace = byte "}"
+closer parenthesis = byte ")"
 
 unfoldable pub set·cell : Bracket → List ℕ → Cell
 set·cell brace s = uncertain s
@@ -95,8 +95,8 @@ into·set cells k i set w new =
 unfoldable pub chunk : Format → Row → Numbered → Outcome Row
 chunk f (plain cells) w =
     let more = then (symbols f w) (λ new. done (plain (cells ++ new))) in
-    pick (punct 123 w) (done (within cells brace (w .index) []))
-    (pick (punct 40 w) (done (within cells parenthesis (w .index) []))
+    pick (punct (byte "{") w) (done (within cells brace (w .index) []))
+    (pick (punct (byte "(") w) (done (within cells parenthesis (w .index) []))
     more)
 chunk f (within cells k i set) w =
     let more = then (symbols f w) (into·set cells k i set w) in

@@ -2,7 +2,7 @@
 use Prim.Native.Nat.{ℕ}
 use mathlib.Core.Bool.{Bool, true, false}
 use mathlib.Core.List.{List, [], _∷_}
-use Rattle.lexer.specs.Base.{pick}
+use Rattle.lexer.specs.Base.{pick, byte}
 use Rattle.lexer.specs.Words.{Numbered, punct, line·end?}
 
 -- A command's first word and the tokens behind it, newlines among them; or a `;` with nothing before it; or a first word after which no `;` comes.
@@ -17,7 +17,7 @@ newline w = line·end? (w .token .kind)
 
 -- `;`
 unfoldable pub semicolon : Numbered → Bool
-semicolon w = punct 59 w
+semicolon w = punct (byte ";") w
 
 -- The tokens up to the next `;`.
 unfoldable pub up·to·end : List Numbered → List Numbered

@@ -2,7 +2,7 @@
 use Prim.Native.Nat.{ℕ, zero, suc}
 use mathlib.Core.Bool.{Bool, true, false, _&&_, not}
 use mathlib.Core.List.{List}
-use Rattle.lexer.specs.Base.{pick, bytes}
+use Rattle.lexer.specs.Base.{pick, bytes, byte}
 use Rattle.lexer.specs.Words.{Numbered, is, punct, positive}
 use Rattle.lexer.specs.declared.refusal.Refusal.{Refusal}
 use Rattle.block.specs.Outcome.{Outcome, done, refused, then, fold}
@@ -53,7 +53,7 @@ dimension·value d c w (suc n) = done (option (with·count c (suc n) d))
 
 unfoldable pub dimension·turn : Dimensioning → Numbered → Outcome Dimensioning
 dimension·turn (option d) w = dimension·option d w
-dimension·turn (equals d c i) w = pick (punct 61 w) (done (value d c i)) (refused Refusal.NoValue i)
+dimension·turn (equals d c i) w = pick (punct (byte "=") w) (done (value d c i)) (refused Refusal.NoValue i)
 dimension·turn (value d c i) w = dimension·value d c w (positive (w .token .text))
 
 unfoldable pub dimension·end : Dimensioning → Outcome Dimensions

@@ -5,7 +5,7 @@ use lib.ListN.{length}
 use mathlib.Core.Bool.{Bool, true, false, _&&_, _||_, not}
 use mathlib.Core.List.{List, [], _∷_}
 use mathlib.Core.Option.{Option, none, some, Option·getD}
-use Rattle.lexer.specs.Base.{pick, bytes, among, same, lower, given}
+use Rattle.lexer.specs.Base.{pick, bytes, among, same, lower, given, byte}
 use Rattle.lexer.specs.Classes.{symbol, space?, part?}
 use Rattle.lexer.specs.Words.{Numbered, is, punct, string?}
 use Rattle.lexer.specs.declared.refusal.Refusal.{Refusal}
@@ -25,7 +25,7 @@ pub record Format : Type 0 where
 -- Without FORMAT: STANDARD, symbols 01, missing `?`, no gap, case ignored, not interleaved.
 unfoldable pub default·format : Format
 default·format =
-    record { data·type = DataType.Standard; symbols = bytes "01"; missing = 63; gap = none; respect·case = false; interleave = false }
+    record { data·type = DataType.Standard; symbols = bytes "01"; missing = byte "?"; gap = none; respect·case = false; interleave = false }
 
 -- Two symbols are equal if the bytes are, or ignoring ASCII case unless RESPECTCASE was given.
 unfoldable pub equal : Format → ℕ → ℕ → Bool
@@ -149,8 +149,8 @@ format·value o interleave-key i w =
 
 unfoldable pub format·turn : Formatting → Numbered → Outcome Formatting
 format·turn (option o) w = format·option o w
-format·turn (perhaps o i) w = let next = format·option o w in pick (punct 61 w) (done (value o interleave-key i)) next
-format·turn (equals o k i) w = pick (punct 61 w) (done (value o k i)) (refused Refusal.NoValue i)
+format·turn (perhaps o i) w = let next = format·option o w in pick (punct (byte "=") w) (done (value o interleave-key i)) next
+format·turn (equals o k i) w = pick (punct (byte "=") w) (done (value o k i)) (refused Refusal.NoValue i)
 format·turn (value o k i) w = format·value o k i w
 
 unfoldable pub format·end : Formatting → Outcome Options
@@ -165,7 +165,7 @@ settled DataType.Standard o =
     record {
       data·type = DataType.Standard;
       symbols = Option·getD (o .symbols) (bytes "01");
-      missing = Option·getD (o .missing) 63;
+      missing = Option·getD (o .missing) (byte "?");
       gap = o .gap;
       respect·case = o .respect·case;
       interleave = Option·getD (o .interleave) false;
@@ -174,8 +174,8 @@ settled DataType.Dna o =
     record {
       data·type = DataType.Dna;
       symbols = acgt;
-      missing = Option·getD (o .missing) 63;
-      gap = some (Option·getD (o .gap) 45);
+      missing = Option·getD (o .missing) (byte "?");
+      gap = some (Option·getD (o .gap) (byte "-"));
       respect·case = o .respect·case;
       interleave = Option·getD (o .interleave) false;
     }
@@ -189,8 +189,8 @@ dna·options DataType.Standard o f = true
 dna·options DataType.Dna o f =
     not (f .respect·case)
     && same (Option·getD (o .symbols) acgt) acgt
-    && (not (dna·code (f .missing)) || eqb (lower (f .missing)) 110)
-    && not (dna·code (Option·getD (f .gap) 45))
+    && (not (dna·code (f .missing)) || eqb (lower (f .missing)) (byte "n"))
+    && not (dna·code (Option·getD (f .gap) (byte "-")))
 
 unfoldable pub all·valid : List ℕ → Bool
 all·valid [] = true

@@ -5,7 +5,7 @@ use lib.ListN.{length, getD, set, replicate}
 use mathlib.Core.Bool.{_&&_}
 use mathlib.Core.List.{List, [], _∷_, _++_}
 use mathlib.Core.Option.{Option, none, some}
-use Rattle.lexer.specs.Base.{pick, empty?, given}
+use Rattle.lexer.specs.Base.{pick, empty?, given, byte}
 use Rattle.lexer.specs.Words.{Numbered, punct, label, positive}
 use Rattle.lexer.specs.declared.refusal.Refusal.{Refusal}
 use Rattle.block.specs.Outcome.{Outcome, done, refused, then, fold, need}
@@ -80,7 +80,7 @@ entry·begins c cs w =
     let k = positive (w .token .text) in
     let number = entry·number (c .what) cs w k in
     let good = pick (leb 1 k && leb k (length cs)) number (refused Refusal.LabelEntry (w .index)) in
-    pick (punct 44 w) (refused Refusal.LabelEntry (c .head)) good
+    pick (punct (byte ",") w) (refused Refusal.LabelEntry (c .head)) good
 
 -- A character's label: it may be given once.
 unfoldable pub entry·label : List Labelled → ℕ → ℕ → Numbered → Outcome Entries
@@ -103,14 +103,14 @@ entry·turn count c cs next w = entry·begins c cs w
 entry·turn count c cs (numbered k i) w =
     let label = entry·label cs k i w in
     let states = begin·states cs k i in
-    pick (punct 44 w) (done (at cs next)) (pick (punct 47 w) states label)
+    pick (punct (byte ",") w) (done (at cs next)) (pick (punct (byte "/") w) states label)
 entry·turn count c cs (labelled k i) w =
     let states = begin·states cs k i in
-    pick (punct 44 w) (done (at cs next)) (pick (punct 47 w) states (refused Refusal.LabelEntry (w .index)))
+    pick (punct (byte ",") w) (done (at cs next)) (pick (punct (byte "/") w) states (refused Refusal.LabelEntry (w .index)))
 entry·turn count c cs (states k i s) w =
     let ended = then (entry·states count cs k i s) (λ ds. done (at ds next)) in
     let more = state·label cs k i s w in
-    pick (punct 44 w) ended more
+    pick (punct (byte ",") w) ended more
 
 -- The end of the words: one last comma is taken; a command with no entry is refused.
 unfoldable pub entry·end : ℕ → LabelCommand → List Labelled → Entry → Outcome (List Labelled)

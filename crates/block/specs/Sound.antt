@@ -5,7 +5,7 @@ use lib.ListN.{length}
 use mathlib.Core.Bool.{Bool, true, false, _&&_, _||_, not}
 use mathlib.Core.List.{List, [], _∷_}
 use mathlib.Core.Path.{_≡_}
-use Rattle.lexer.specs.Base.{among, same, empty?}
+use Rattle.lexer.specs.Base.{among, same, empty?, byte}
 use Rattle.lexer.specs.Classes.{blank}
 use Rattle.lexer.specs.Utf8.{utf8}
 use Rattle.block.specs.Blocks.{orderable}
@@ -20,7 +20,7 @@ use Rattle.block.specs.declared.data.DataType.{DataType}
 
 -- A name: UTF-8 without `_` and CR; not all White_Space, unless a U+0020 is in it.
 unfoldable pub sound·name : List ℕ → Bool
-sound·name n = utf8 n && not (among 95 n) && not (among 13 n) && (not (blank n) || among 32 n)
+sound·name n = utf8 n && not (among (byte "_") n) && not (among (byte "\r") n) && (not (blank n) || among (byte " ") n)
 
 unfoldable pub sound·names : List (List ℕ) → Bool
 sound·names [] = true

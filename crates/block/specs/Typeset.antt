@@ -5,7 +5,7 @@ use lib.ListN.{length, replicate}
 use mathlib.Core.Bool.{Bool, true, false}
 use mathlib.Core.List.{List, [], _∷_, _++_}
 use mathlib.Core.Option.{Option, none, some}
-use Rattle.lexer.specs.Base.{pick, bytes}
+use Rattle.lexer.specs.Base.{pick, bytes, byte}
 use Rattle.lexer.specs.Words.{Numbered, is, punct, label}
 use Rattle.lexer.specs.declared.refusal.Refusal.{Refusal}
 use Rattle.block.specs.CharacterList.{Range, in·range, Listed, listed, number, list·turn, item·end}
@@ -70,8 +70,8 @@ name·word w = then (need (label w) Refusal.NotName (w .index)) (λ n. done name
 
 unfoldable pub equals·word : Typeset → Form → Numbered → Outcome Typing
 equals·word t standard w =
-    pick (punct 61 w) (done (type (replicate (t .characters) none))) (refused Refusal.TypeSet (t .head))
-equals·word t vector w = pick (punct 61 w) (done (types [] none)) (refused Refusal.TypeSet (t .head))
+    pick (punct (byte "=") w) (done (type (replicate (t .characters) none))) (refused Refusal.TypeSet (t .head))
+equals·word t vector w = pick (punct (byte "=") w) (done (types [] none)) (refused Refusal.TypeSet (t .head))
 
 -- In a VECTOR the count is judged before the words, so the first wrong word waits for the end.
 unfoldable pub vector·word : Types → Option ℕ → Numbered → Option CharacterOrdering → Typing
@@ -88,24 +88,24 @@ unfoldable pub list·word : Typeset → Types → CharacterOrdering → ℕ → 
 list·word t ts o i l w =
     let ended = then (list·ends ts o i l) (λ us. done (type us)) in
     let more = then (list·turn (t .characters) l w) (λ m. done (list ts o i m)) in
-    pick (punct 44 w) ended more
+    pick (punct (byte ",") w) ended more
 
 unfoldable pub typeset·turn : Typeset → Typing → Numbered → Outcome Typing
-typeset·turn t star w = let named = name·word w in pick (punct 42 w) (done name) named
+typeset·turn t star w = let named = name·word w in pick (punct (byte "*") w) (done name) named
 typeset·turn t name w = name·word w
-typeset·turn t named w = let next = equals·word t standard w in pick (punct 40 w) (done form) next
+typeset·turn t named w = let next = equals·word t standard w in pick (punct (byte "(") w) (done form) next
 typeset·turn t form w =
     pick (is (bytes "VECTOR") w) (done (close vector (w .index)))
     (pick (is (bytes "STANDARD") w) (done (close standard (w .index)))
     (refused Refusal.TypeSet (w .index)))
-typeset·turn t (close f i) w = pick (punct 41 w) (done (equals f)) (refused Refusal.TypeSet i)
+typeset·turn t (close f i) w = pick (punct (byte ")") w) (done (equals f)) (refused Refusal.TypeSet i)
 typeset·turn t (equals f) w = equals·word t f w
 typeset·turn t (types ts bad) w = done (vector·word ts bad w (ordering w))
 typeset·turn t (type ts) w = then (need (ordering w) Refusal.TypeSet (w .index)) (λ o. done (colon ts o (w .index)))
-typeset·turn t (colon ts o i) w = pick (punct 58 w) (done (begin ts o i)) (refused Refusal.TypeSet i)
+typeset·turn t (colon ts o i) w = pick (punct (byte ":") w) (done (begin ts o i)) (refused Refusal.TypeSet i)
 typeset·turn t (begin ts o i) w =
     let more = list·word t ts o i (listed [] number) w in
-    pick (punct 44 w) (refused Refusal.CharacterList i) more
+    pick (punct (byte ",") w) (refused Refusal.CharacterList i) more
 typeset·turn t (list ts o i l) w = list·word t ts o i l w
 
 -- A VECTOR has a type for each character.

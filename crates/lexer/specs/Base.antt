@@ -28,6 +28,11 @@ unfoldable pub bytes : Str.String → List ℕ
 bytes Str.[] = []
 bytes (Str._∷_ c s) = code c ∷ bytes s
 
+-- The byte of an ASCII character, written as a text of that character alone.
+abbrev pub byte : Str.String → ℕ
+byte Str.[] = 0
+byte (Str._∷_ c s) = code c
+
 -- Is the number among these?
 unfoldable pub among : ℕ → List ℕ → Bool
 among b [] = false
@@ -42,7 +47,7 @@ same (a ∷ l) (b ∷ r) = let more = same l r in eqb a b && more
 
 -- An ASCII capital as its small letter; any other byte is itself.
 unfoldable pub lower : ℕ → ℕ
-lower b = pick (leb 65 b && leb b 90) (b + 32) b
+lower b = pick (leb (byte "A") b && leb b (byte "Z")) (b + 32) b
 
 -- Are the two texts equal, ASCII case ignored?
 unfoldable pub alike : List ℕ → List ℕ → Bool

@@ -3,7 +3,7 @@ use Prim.Native.Nat.{ℕ}
 use lib.Dec.{leb, ltb, eqb}
 use mathlib.Core.Bool.{Bool, true, false, _&&_, _||_}
 use mathlib.Core.List.{List, [], _∷_}
-use Rattle.lexer.specs.Base.{pick, among, bytes}
+use Rattle.lexer.specs.Base.{pick, among, bytes, byte}
 use Rattle.lexer.specs.declared.Class.{Class}
 use Rattle.lexer.specs.declared.Symbol.{Symbol}
 
@@ -11,13 +11,13 @@ use Rattle.lexer.specs.declared.Symbol.{Symbol}
 unfoldable pub marks : List ℕ
 marks = bytes "(){}]/\\,;:=*`<>^+"
 
--- The class of a byte. White_Space among the ASCII bytes is LF and CR (newlines), TAB, VT, FF and the space (blanks).
+-- The class of a byte. White_Space among the ASCII bytes is LF and CR (newlines), TAB, VT (11), FF (12) and the space (blanks).
 unfoldable pub class : ℕ → Class
 class b =
-    pick (eqb b 10 || eqb b 13) Class.Newline
-    (pick (eqb b 9 || eqb b 11 || eqb b 12 || eqb b 32) Class.Blank
-    (pick (eqb b 39 || eqb b 34) Class.Quote
-    (pick (eqb b 91) Class.Comment
+    pick (eqb b (byte "\n") || eqb b (byte "\r")) Class.Newline
+    (pick (eqb b (byte "\t") || eqb b 11 || eqb b 12 || eqb b (byte " ")) Class.Blank
+    (pick (eqb b (byte "'") || eqb b (byte "\"")) Class.Quote
+    (pick (eqb b (byte "[")) Class.Comment
     (pick (among b marks) Class.Punctuation
     (pick (ltb b 128) Class.Other
     Class.Part)))))
@@ -54,11 +54,11 @@ wide·blank b r =
 -- The symbol of a byte of this class before these bytes: a CR before an LF is no newline of its own, and a longer character has the symbol
 -- of what it is at its first byte.
 unfoldable pub symbol·of : Class → ℕ → List ℕ → Symbol
-symbol·of Class.Newline b r = pick (eqb b 13 && next1 10 r) Symbol.Return Symbol.Newline
+symbol·of Class.Newline b r = pick (eqb b (byte "\r") && next1 (byte "\n") r) Symbol.Return Symbol.Newline
 symbol·of Class.Blank b r = Symbol.Blank
-symbol·of Class.Quote b r = pick (eqb b 39) Symbol.Single Symbol.Double
+symbol·of Class.Quote b r = pick (eqb b (byte "'")) Symbol.Single Symbol.Double
 symbol·of Class.Comment b r = Symbol.Open
-symbol·of Class.Punctuation b r = pick (eqb b 93) Symbol.Close Symbol.Punctuation
+symbol·of Class.Punctuation b r = pick (eqb b (byte "]")) Symbol.Close Symbol.Punctuation
 symbol·of Class.Other b r = Symbol.Other
 symbol·of Class.Part b r = pick (ltb b 192) Symbol.Part (pick (wide·blank b r) Symbol.Blank Symbol.Other)
 

@@ -5,7 +5,7 @@ use lib.Dec.{eqb}
 use mathlib.Core.Bool.{Bool, false, _&&_, _||_, not}
 use mathlib.Core.List.{List, [], _∷_}
 use mathlib.Core.Option.{Option, none, some}
-use Rattle.lexer.specs.Base.{pick}
+use Rattle.lexer.specs.Base.{pick, byte}
 use Rattle.lexer.specs.Classes.{symbol, newline?, return?, blank?, single?, double?, open?, close?, other?, part?}
 use Rattle.lexer.specs.declared.Kind.{Kind}
 use Rattle.lexer.specs.declared.Mode.{Mode}
@@ -47,7 +47,7 @@ next (Mode.WordComment d) s = after·comment Mode.Word Mode.WordComment d s
 
 -- The byte as it stands in quoted text: every newline is LF.
 unfoldable pub quoted·byte : Symbol → ℕ → ℕ
-quoted·byte s b = pick (newline? s) 10 b
+quoted·byte s b = pick (newline? s) (byte "\n") b
 
 -- What a byte adds to the text of the token that is open, in front of what the rest adds. The CR of a CR LF adds nothing.
 unfoldable pub text·step : Mode → Symbol → ℕ → List ℕ → List ℕ

@@ -4,7 +4,7 @@ use lib.Dec.{leb, eqb}
 use mathlib.Core.Bool.{Bool, true, false, _&&_, _||_, not}
 use mathlib.Core.List.{List, [], _∷_}
 use mathlib.Core.Option.{Option, none, some}
-use Rattle.lexer.specs.Base.{pick, alike}
+use Rattle.lexer.specs.Base.{pick, alike, byte}
 use Rattle.lexer.specs.Classes.{blank}
 use Rattle.lexer.specs.Tokens.{Token}
 use Rattle.lexer.specs.declared.Kind.{Kind}
@@ -75,7 +75,7 @@ punct c w = mark? c (w .token .kind)
 -- A name with each `_` as a blank.
 unfoldable pub spaced : List ℕ → List ℕ
 spaced [] = []
-spaced (b ∷ r) = pick (eqb b 95) 32 b ∷ spaced r
+spaced (b ∷ r) = pick (eqb b (byte "_")) (byte " ") b ∷ spaced r
 
 -- The name that a token is: a word or single-quoted text that is not all blank before `_` becomes a blank.
 unfoldable pub label : Numbered → Option (List ℕ)
@@ -88,8 +88,8 @@ label w =
 unfoldable pub digits : ℕ → List ℕ → ℕ
 digits n [] = n
 digits n (b ∷ r) =
-    let more = digits (n * 10 + (b - 48)) r in
-    pick (leb 48 b && leb b 57) more 0
+    let more = digits (n * 10 + (b - byte "0")) r in
+    pick (leb (byte "0") b && leb b (byte "9")) more 0
 
 -- The largest number of 64 bits.
 unfoldable pub largest : ℕ
@@ -101,7 +101,7 @@ unsigned [] = 0
 unsigned (b ∷ r) =
     let all = digits 0 (b ∷ r) in
     let rest = digits 0 r in
-    pick (eqb b 43) rest all
+    pick (eqb b (byte "+")) rest all
 
 unfoldable pub positive : List ℕ → ℕ
 positive text = let n = unsigned text in pick (leb n largest) n 0

@@ -3,11 +3,11 @@ use Prim.Native.Nat.{ℕ, zero, suc, _+_, _/_, _%_}
 use lib.Dec.{ltb}
 use mathlib.Core.List.{List, [], _∷_}
 use mathlib.Core.Option.{Option, none, some}
-use Rattle.lexer.specs.Base.{pick, same}
+use Rattle.lexer.specs.Base.{pick, same, byte}
 use Rattle.lexer.specs.Words.{digits}
 
 unfoldable pub digit : ℕ → ℕ
-digit n = 48 + n % 10
+digit n = byte "0" + n % 10
 
 -- The digits of a number in front of others; the first argument bounds how many there can be.
 unfoldable pub decimal·from : ℕ → ℕ → List ℕ → List ℕ

@@ -4,7 +4,7 @@ use lib.Dec.{eqb}
 use lib.ListN.{length, getD}
 use mathlib.Core.Bool.{Bool, true, false, _||_, not}
 use mathlib.Core.List.{List, [], _∷_, _++_}
-use Rattle.lexer.specs.Base.{pick, bytes, among, empty?}
+use Rattle.lexer.specs.Base.{pick, bytes, among, empty?, byte}
 use Rattle.block.specs.Blocks.{has·ordered}
 use Rattle.block.specs.Cell.{Cell, state, uncertain, polymorphic, missing, gap}
 use Rattle.block.specs.Format.{valid·symbols}
@@ -22,22 +22,22 @@ first·free taken (s ∷ r) = let more = first·free taken r in pick (among s ta
 -- MISSING is the lowest valid symbol not among the states; GAP the next lowest.
 unfoldable pub missing·sign : DataType → List ℕ → ℕ
 missing·sign DataType.Standard symbols = first·free symbols valid·symbols
-missing·sign DataType.Dna symbols = 63
+missing·sign DataType.Dna symbols = byte "?"
 
 unfoldable pub gap·sign : DataType → List ℕ → ℕ
 gap·sign DataType.Standard symbols = first·free (missing·sign DataType.Standard symbols ∷ symbols) valid·symbols
-gap·sign DataType.Dna symbols = 45
+gap·sign DataType.Dna symbols = byte "-"
 
 -- Names and labels stand in single quotes: quotes doubled, each blank (U+0020) as `_`.
 unfoldable pub quote : ℕ → List ℕ
-quote b = pick (eqb b 39) (39 ∷ 39 ∷ []) (pick (eqb b 32) (95 ∷ []) (b ∷ []))
+quote b = pick (eqb b (byte "'")) (byte "'" ∷ byte "'" ∷ []) (pick (eqb b (byte " ")) (byte "_" ∷ []) (b ∷ []))
 
 unfoldable pub quoted·from : List ℕ → List ℕ → List ℕ
-quoted·from [] behind = 39 ∷ behind
+quoted·from [] behind = byte "'" ∷ behind
 quoted·from (b ∷ r) behind = quote b ++ quoted·from r behind
 
 unfoldable pub quoted : List ℕ → List ℕ → List ℕ
-quoted n behind = 39 ∷ quoted·from n behind
+quoted n behind = byte "'" ∷ quoted·from n behind
 
 -- FORMAT
 unfoldable pub gap·option : ℕ → Bool → List ℕ → List ℕ
@@ -62,23 +62,23 @@ labelled (c ∷ r) = let more = labelled r in any·label c || more
 
 unfoldable pub form·label : List ℕ → List ℕ → List ℕ
 form·label [] behind = behind
-form·label (b ∷ l) behind = 32 ∷ quoted (b ∷ l) behind
+form·label (b ∷ l) behind = byte " " ∷ quoted (b ∷ l) behind
 
 unfoldable pub form·each : List (List ℕ) → List ℕ → List ℕ
 form·each [] behind = behind
-form·each (s ∷ r) behind = 32 ∷ quoted s (form·each r behind)
+form·each (s ∷ r) behind = byte " " ∷ quoted s (form·each r behind)
 
 unfoldable pub form·states : List (List ℕ) → List ℕ → List ℕ
 form·states [] behind = behind
-form·states (s ∷ r) behind = 32 ∷ 47 ∷ form·each (s ∷ r) behind
+form·states (s ∷ r) behind = byte " " ∷ byte "/" ∷ form·each (s ∷ r) behind
 
 -- The entries of the characters from this number on; a comma stands before each but the first.
 unfoldable pub form·entry : ℕ → Character → List ℕ → List ℕ
-form·entry k c behind = 32 ∷ decimal k ++ form·label (c .label) (form·states (c .states) behind)
+form·entry k c behind = byte " " ∷ decimal k ++ form·label (c .label) (form·states (c .states) behind)
 
 unfoldable pub comma : Bool → List ℕ → List ℕ
 comma true behind = behind
-comma false behind = 44 ∷ behind
+comma false behind = byte "," ∷ behind
 
 unfoldable pub form·entries : Bool → ℕ → List Character → List ℕ → List ℕ
 form·entries first k [] behind = behind
@@ -102,8 +102,8 @@ form·set symbols (i ∷ r) behind = sign symbols i ∷ form·set symbols r behi
 
 unfoldable pub form·cell : DataType → List ℕ → Cell → List ℕ → List ℕ
 form·cell t symbols (state i) behind = sign symbols i ∷ behind
-form·cell t symbols (uncertain s) behind = 123 ∷ form·set symbols s (125 ∷ behind)
-form·cell t symbols (polymorphic s) behind = 40 ∷ form·set symbols s (41 ∷ behind)
+form·cell t symbols (uncertain s) behind = byte "{" ∷ form·set symbols s (byte "}" ∷ behind)
+form·cell t symbols (polymorphic s) behind = byte "(" ∷ form·set symbols s (byte ")" ∷ behind)
 form·cell t symbols missing behind = missing·sign t symbols ∷ behind
 form·cell t symbols gap behind = gap·sign t symbols ∷ behind
 
@@ -115,12 +115,12 @@ form·cells t symbols (c ∷ r) behind = form·cell t symbols c (form·cells t s
 unfoldable pub form·rows : DataType → List ℕ → List Taxon → List ℕ → List ℕ
 form·rows t symbols [] behind = behind
 form·rows t symbols (x ∷ r) behind =
-    quoted (x .name) (32 ∷ form·cells t symbols (x .cells) (10 ∷ form·rows t symbols r behind))
+    quoted (x .name) (byte " " ∷ form·cells t symbols (x .cells) (byte "\n" ∷ form·rows t symbols r behind))
 
 -- ASSUMPTIONS, if any character is ordered: a VECTOR with the type of each.
 unfoldable pub form·types : List Character → List ℕ → List ℕ
 form·types [] behind = behind
-form·types (c ∷ r) behind = 32 ∷ order·word (c .ordering) ++ form·types r behind
+form·types (c ∷ r) behind = byte " " ∷ order·word (c .ordering) ++ form·types r behind
 
 unfoldable pub form·assumptions : List Character → List ℕ
 form·assumptions cs =

@@ -4,7 +4,7 @@ use Prim.Native.String.{String}
 use lib.Dec.{eqb}
 use lib.ListN.{length}
 use mathlib.Core.List.{List, [], _∷_, _++_}
-use Rattle.lexer.specs.Base.{pick, bytes}
+use Rattle.lexer.specs.Base.{pick, bytes, byte}
 use Rattle.block.specs.Cell.{Cell, state, uncertain, polymorphic, missing, gap}
 use Rattle.block.specs.Reading.{Taxon, Character, Reading}
 use Rattle.block.specs.declared.data.DataType.{DataType}
@@ -13,7 +13,7 @@ use Rattle.record.specs.Decimal.{decimal}
 
 -- A line, in front of the lines behind it. The key is written with its `=`.
 unfoldable pub line : String → List ℕ → List ℕ → List ℕ
-line key value behind = bytes key ++ (value ++ (10 ∷ behind))
+line key value behind = bytes key ++ (value ++ (byte "\n" ∷ behind))
 
 unfoldable pub type·word : DataType → List ℕ
 type·word DataType.Standard = bytes "STANDARD"
@@ -25,7 +25,7 @@ order·word CharacterOrdering.Unordered = bytes "UNORD"
 
 -- In names and labels LF is written `\0` and a backslash `\1`.
 unfoldable pub escape : ℕ → List ℕ
-escape b = pick (eqb b 10) (92 ∷ 48 ∷ []) (pick (eqb b 92) (92 ∷ 49 ∷ []) (b ∷ []))
+escape b = pick (eqb b (byte "\n")) (byte "\\" ∷ byte "0" ∷ []) (pick (eqb b (byte "\\")) (byte "\\" ∷ byte "1" ∷ []) (b ∷ []))
 
 unfoldable pub escaped : List ℕ → List ℕ
 escaped [] = []
@@ -35,21 +35,21 @@ escaped (b ∷ r) = escape b ++ escaped r
 unfoldable pub dotted : List ℕ → List ℕ
 dotted [] = []
 dotted (i ∷ []) = decimal i
-dotted (i ∷ j ∷ r) = decimal i ++ (46 ∷ dotted (j ∷ r))
+dotted (i ∷ j ∷ r) = decimal i ++ (byte "." ∷ dotted (j ∷ r))
 
 -- A cell: a state's index; `u` and indices joined by dots, uncertain; `p` likewise, polymorphic; `m` missing; `g` gap.
 unfoldable pub spell·cell : Cell → List ℕ
 spell·cell (state i) = decimal i
-spell·cell (uncertain s) = 117 ∷ dotted s
-spell·cell (polymorphic s) = 112 ∷ dotted s
-spell·cell missing = 109 ∷ []
-spell·cell gap = 103 ∷ []
+spell·cell (uncertain s) = byte "u" ∷ dotted s
+spell·cell (polymorphic s) = byte "p" ∷ dotted s
+spell·cell missing = byte "m" ∷ []
+spell·cell gap = byte "g" ∷ []
 
 -- Cells are parted by one blank.
 unfoldable pub spell·cells : List Cell → List ℕ
 spell·cells [] = []
 spell·cells (c ∷ []) = spell·cell c
-spell·cells (c ∷ d ∷ r) = spell·cell c ++ (32 ∷ spell·cells (d ∷ r))
+spell·cells (c ∷ d ∷ r) = spell·cell c ++ (byte " " ∷ spell·cells (d ∷ r))
 
 unfoldable pub spell·taxa : List Taxon → List ℕ → List ℕ
 spell·taxa [] behind = behind

@@ -6,7 +6,7 @@ use lib.ListN.{length}
 use mathlib.Core.Bool.{_&&_}
 use mathlib.Core.List.{List, [], _∷_, _++_}
 use mathlib.Core.Option.{Option, none, some, bind}
-use Rattle.lexer.specs.Base.{pick, bytes, same}
+use Rattle.lexer.specs.Base.{pick, bytes, same, byte}
 use Rattle.block.specs.Cell.{Cell, state, uncertain, polymorphic, missing, gap}
 use Rattle.block.specs.Reading.{Taxon, Character, Reading}
 use Rattle.block.specs.declared.data.DataType.{DataType}
@@ -30,7 +30,7 @@ lines (b ∷ r) =
     let more = lines r in
     let ended = line·more more in
     let longer = lines·with b more in
-    pick (eqb b 10) ended longer
+    pick (eqb b (byte "\n")) ended longer
 
 -- What stands behind these bytes.
 unfoldable pub behind : List ℕ → List ℕ → Option (List ℕ)
@@ -49,12 +49,12 @@ with·byte b (some r) = some (b ∷ r)
 
 unfoldable pub unescaped : List ℕ → Option (List ℕ)
 unescaped [] = some []
-unescaped (b ∷ []) = pick (eqb b 92) none (some (b ∷ []))
+unescaped (b ∷ []) = pick (eqb b (byte "\\")) none (some (b ∷ []))
 unescaped (b ∷ c ∷ r) =
-    let lf = with·byte 10 (unescaped r) in
-    let backslash = with·byte 92 (unescaped r) in
+    let lf = with·byte (byte "\n") (unescaped r) in
+    let backslash = with·byte (byte "\\") (unescaped r) in
     let other = with·byte b (unescaped (c ∷ r)) in
-    pick (eqb b 92) (pick (eqb c 48) lf (pick (eqb c 49) backslash none)) other
+    pick (eqb b (byte "\\")) (pick (eqb c (byte "0")) lf (pick (eqb c (byte "1")) backslash none)) other
 
 -- A text cut at each byte of a value; there is at least one part.
 unfoldable pub longer : ℕ → List (List ℕ) → List (List ℕ)
@@ -88,14 +88,14 @@ module _ {A B : Type 0} where
 unfoldable pub unspell·cell : List ℕ → Option Cell
 unspell·cell [] = none
 unspell·cell (b ∷ r) =
-    let unsure = made uncertain (numbers (parts 46 r)) in
-    let several = made polymorphic (numbers (parts 46 r)) in
+    let unsure = made uncertain (numbers (parts (byte ".") r)) in
+    let several = made polymorphic (numbers (parts (byte ".") r)) in
     let index = made state (undecimal (b ∷ r)) in
     let only = same (b ∷ r) in
-    pick (eqb b 117) unsure
-    (pick (eqb b 112) several
-    (pick (only (109 ∷ [])) (some missing)
-    (pick (only (103 ∷ [])) (some gap)
+    pick (eqb b (byte "u")) unsure
+    (pick (eqb b (byte "p")) several
+    (pick (only (byte "m" ∷ [])) (some missing)
+    (pick (only (byte "g" ∷ [])) (some gap)
     index)))
 
 unfoldable pub unspell·each : List (List ℕ) → Option (List Cell)
@@ -103,7 +103,7 @@ unspell·each [] = some []
 unspell·each (p ∷ r) = let more = unspell·each r in before (unspell·cell p) more
 
 unfoldable pub unspell·cells : List ℕ → Option (List Cell)
-unspell·cells v = unspell·each (parts 32 v)
+unspell·cells v = unspell·each (parts (byte " ") v)
 
 unfoldable pub type·of : List ℕ → Option DataType
 type·of v =
