@@ -6,4 +6,7 @@ pub mod Classes
 pub mod Tokens
 pub mod Places
 pub mod Words
+pub mod Lexing
+pub mod Scanning
+pub mod Stored
 pub mod Run

@@ -1,8 +1,16 @@
-// Bytes to tokens, after lexer.rs. The types that the layers share; what they mean stands in specs/.
+// Bytes to tokens, after lexer.rs. What each function means stands in specs/.
 
+mod classes;
+mod lexing;
+mod places;
 mod refusal;
+mod scanning;
+mod utf8;
 
+pub use lexing::lex;
+pub use places::place_at;
 pub use refusal::Refusal;
+pub use refusal::refusal_number;
 
 // The class of a byte by itself, one for each of the 256.
 pub enum Class {
@@ -55,4 +63,31 @@ pub enum Kind {
 pub struct Place {
     pub line: usize,
     pub column: usize,
+}
+
+// What lexing a text answers: the count of its tokens, whose starts stand in work memory, or why there is none.
+pub enum Lexed {
+    Tokens(usize),
+    Refused(Refusal, Place),
+}
+
+// Where something that a mark opens has ended, or where the mark of a comment stands that does not end.
+pub enum Scan {
+    At(usize),
+    Open(usize),
+}
+
+// What stands at a byte between two tokens: something to pass over, or a token, and where it goes on; or the mark of what does not end.
+pub enum Step {
+    Skip(usize),
+    Token(usize),
+    Quote(usize),
+    Comment(usize),
+}
+
+// What storing the starts of a text's tokens comes to: their count, or the mark of what stays open.
+pub enum Walk {
+    Done(usize),
+    Quote(usize),
+    Comment(usize),
 }

@@ -11,13 +11,13 @@ use Rattle.block.specs.Sequential.{names}
 use Rattle.block.specs.Sound.{Sound}
 use Rattle.block.specs.TaxonOrder.{Token·named, all·named}
 use Rattle.lexer.specs.Base.{pick}
+use Rattle.lexer.specs.Lexing.{longest}
 use Rattle.lexer.specs.Words.{largest}
 use Rattle.record.proofs.FormClosed.{form-closed}
 use Rattle.record.proofs.FormLexed.{form-lexed, form-utf8}
 use Rattle.record.proofs.FormParsed.{form-parsed}
 use Rattle.record.proofs.SpellLaws.{unspell-spell}
 use Rattle.record.proofs.UnspellLaws.{spell-unspell}
-use Rattle.record.specs.Calls.{longest}
 use Rattle.record.specs.Demands.{Reads, Counted, Stated, Agree, Every·reading·is·sound, Taxa·follow·the·declaration, Names·come·from·tokens, Records·are·read·back, Records·are·spelled, Records·of·texts·pass, Not·refused·is·some·reading, Forms·are·read·again, Forms·tell·readings·apart, Forms·tell·texts·apart}
 use Rattle.record.specs.Form.{form}
 use Rattle.record.specs.Spell.{spell}

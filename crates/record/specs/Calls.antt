@@ -1,10 +1,11 @@
 -- The three calls: what each answers, and what it leaves in the lent buffer.
-use Prim.Native.Nat.{ℕ, _+_, _*_}
+use Prim.Native.Nat.{ℕ}
 use lib.Dec.{leb}
 use lib.ListN.{length, take, drop}
 use mathlib.Core.List.{List, [], _++_}
 use mathlib.Core.Option.{Option, none, some}
 use Rattle.lexer.specs.Base.{pick}
+use Rattle.lexer.specs.Lexing.{longest, work·needed}
 use Rattle.lexer.specs.Places.{nowhere}
 use Rattle.lexer.specs.Refusals.{number}
 use Rattle.lexer.specs.declared.Place.{Place}
@@ -17,14 +18,6 @@ use Rattle.record.specs.Lookup.{Stretch, lookup}
 use Rattle.record.specs.Spell.{line, spell}
 use Rattle.record.specs.Unspell.{unspell}
 use Rattle.record.specs.declared.Answer.{Answer}
-
--- The longest text, and the longest written form.
-unfoldable pub longest : ℕ
-longest = 1048576
-
--- How many numbers of work memory a text of so many bytes needs.
-unfoldable pub work·needed : ℕ → ℕ
-work·needed n = 4 * n + 64
 
 -- What a call comes to before the room is looked at: the bytes to write, or a refusal and its place.
 pub data Result : Type 0 where
@@ -60,7 +53,7 @@ read·answer text work room = answer (read·result text work) room
 unfoldable pub read·leaves : List ℕ → ℕ → List ℕ → List ℕ
 read·leaves text work buffer = leaves (read·result text work) buffer
 
--- Write: the written form of a record. In order: 31 not a record, 32 form too long.
+-- Write: the written form of a record. In order: 31 not a record, 32 form longer than a text may be.
 unfoldable pub written : Option Reading → Result
 written none = refuse Refusal.NotRecord
 written (some r) =

@@ -5,13 +5,13 @@ use mathlib.Core.List.{List, map}
 use mathlib.Core.Logic.{_↔_}
 use mathlib.Core.Option.{some}
 use mathlib.Core.Path.{_≡_}
+use Rattle.lexer.specs.Lexing.{longest}
 use Rattle.lexer.specs.Words.{largest}
 use Rattle.block.specs.Parse.{reading, read}
 use Rattle.block.specs.Reading.{Taxon, Character, Reading}
 use Rattle.block.specs.Sequential.{names}
 use Rattle.block.specs.Sound.{Sound}
 use Rattle.block.specs.TaxonOrder.{commands·of, Matrix·of, Follows, all·named}
-use Rattle.record.specs.Calls.{longest}
 use Rattle.record.specs.Form.{form}
 use Rattle.record.specs.Spell.{spell}
 use Rattle.record.specs.Unspell.{unspell, most}

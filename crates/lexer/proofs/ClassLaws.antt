@@ -1,0 +1,85 @@
+-- Laws of the bytes that come next in a text, and of a byte's class and symbol by its class's number. Assumes nothing.
+use Prim.Native.Nat.{ℕ, zero, suc, _+_, _≤_, _<_}
+use Rattle.lexer.proofs.ListLaws.{drop-next}
+use Rattle.lexer.specs.Classes.{class, symbol, symbol·of, next1, next2, general·blank}
+use Rattle.lexer.specs.Scanning.{class·number, first·symbol, symbol·at}
+use Rattle.lexer.specs.declared.Class.{Class}
+use lib.Dec.{eqb}
+use lib.ListN.{length, getD, drop, length-drop, drop-of-length-le}
+use lib.Seq.{drop-drop}
+use mathlib.Core.Bool.{Bool, true, false, _&&_}
+use mathlib.Core.List.{List, [], _∷_}
+use mathlib.Core.Path.{_≡_, refl, sym, ap, _∙_}
+use native.Mathlib.Omega.{arith}
+
+-- The byte that comes next
+pub next1-here : (text : List ℕ) (i b : ℕ) → i < length text → next1 b (drop i text) ≡ eqb (getD text i 0) b
+unfolding next1
+next1-here text i b h = rw (drop-next text i)
+
+pub next1-past : (text : List ℕ) (i b : ℕ) → length text ≤ i → next1 b (drop i text) ≡ false
+unfolding next1
+next1-past text i b h = rw (drop-of-length-le text h)
+
+-- Two bytes come next where the one does, and the other behind it.
+and-false : (a : Bool) → a && false ≡ false
+and-false true = refl
+and-false false = refl
+
+two : (a b : ℕ) (l : List ℕ) → next1 a l && next1 b (drop 1 l) ≡ next2 a b l
+unfolding next1 next2
+two a b [] = refl
+two a b (x ∷ []) = and-false (eqb x a)
+two a b (x ∷ y ∷ r) = refl
+
+pub next2-split : (text : List ℕ) (i a b : ℕ) → next1 a (drop i text) && next1 b (drop (i + 1) text) ≡ next2 a b (drop i text)
+next2-split text i a b = rw (← drop-drop 1 i text) (two a b (drop i text))
+
+-- A blank that begins with the byte 226 has two more.
+short : (l : List ℕ) → length l ≤ 1 → general·blank l ≡ false
+unfolding general·blank
+short [] h = refl
+short (x ∷ []) h = refl
+short (x ∷ y ∷ r) h = absurd (omega arith)
+
+pub general-blank-past : (text : List ℕ) (i : ℕ) → length text ≤ i + 1 → general·blank (drop i text) ≡ false
+general-blank-past text i h = short (drop i text) (rw length-drop (omega arith))
+
+-- A class is known by its number.
+numbered : ℕ → Class
+numbered zero = Class.Newline
+numbered (suc zero) = Class.Blank
+numbered (suc (suc zero)) = Class.Quote
+numbered (suc (suc (suc zero))) = Class.Comment
+numbered (suc (suc (suc (suc zero)))) = Class.Punctuation
+numbered (suc (suc (suc (suc (suc zero))))) = Class.Other
+numbered (suc (suc (suc (suc (suc (suc n)))))) = Class.Part
+
+numbered-number : (k : Class) → numbered (class·number k) ≡ k
+unfolding numbered class·number
+numbered-number Class.Newline = refl
+numbered-number Class.Blank = refl
+numbered-number Class.Quote = refl
+numbered-number Class.Comment = refl
+numbered-number Class.Punctuation = refl
+numbered-number Class.Other = refl
+numbered-number Class.Part = refl
+
+pub class-number-injective : (k l : Class) → class·number k ≡ class·number l → k ≡ l
+class-number-injective k l e = sym (numbered-number k) ∙ ap numbered e ∙ numbered-number l
+
+pub class-number-bound : (k : Class) → class·number k ≤ 6
+unfolding class·number
+class-number-bound Class.Newline = omega arith
+class-number-bound Class.Blank = omega arith
+class-number-bound Class.Quote = omega arith
+class-number-bound Class.Comment = omega arith
+class-number-bound Class.Punctuation = omega arith
+class-number-bound Class.Other = omega arith
+class-number-bound Class.Part = omega arith
+
+-- The symbol of a byte of a text whose class has the number of this one.
+pub symbol-at-class : (text : List ℕ) (i : ℕ) (k : Class) → i < length text → class·number (class (getD text i 0)) ≡ class·number k
+    → symbol·of k (getD text i 0) (drop (i + 1) text) ≡ symbol·at text i
+unfolding symbol·at first·symbol symbol
+symbol-at-class text i k h e = rw (drop-next text i, class-number-injective (class (getD text i 0)) k e)

@@ -1,0 +1,86 @@
+-- What lexing answers, in each of its cases. Assumes nothing.
+use Prim.Native.Nat.{ℕ, suc, _+_, _*_, _≤_, _<_}
+use Rattle.lexer.proofs.MarkLaws.{first-within, drop-first}
+use Rattle.lexer.specs.Base.{pick}
+use Rattle.lexer.specs.Classes.{symbol}
+use Rattle.lexer.specs.Lexing.{longest, work·needed, counted, lexed}
+use Rattle.lexer.specs.Places.{place, nowhere, opens, opened·from, first·byte, opened}
+use Rattle.lexer.specs.Stored.{Stored, Open, Closed, Walked}
+use Rattle.lexer.specs.Tokens.{next, tokens, left·open, unmarked}
+use Rattle.lexer.specs.Utf8.{utf8}
+use Rattle.lexer.specs.declared.Lexed.{Lexed}
+use Rattle.lexer.specs.declared.Mode.{Mode}
+use Rattle.lexer.specs.declared.Place.{Place}
+use Rattle.lexer.specs.declared.Walk.{Walk}
+use Rattle.lexer.specs.declared.refusal.Refusal.{Refusal}
+use borrow.Author.Tests.{le-leb, lt-leb}
+use lib.ListN.{length, drop, length-drop}
+use mathlib.Core.Bool.{Bool, true, false}
+use mathlib.Core.List.{List, [], _∷_}
+use mathlib.Core.Path.{_≡_, sym, ap, subst, _∙_}
+use native.Mathlib.Omega.{arith}
+
+-- The mark of what stays open stands in the text.
+pick-at-most : (t : Bool) (a b n : ℕ) → a ≤ n → b ≤ n → pick t a b ≤ n
+unfolding pick
+pick-at-most true a b n p q = p
+pick-at-most false a b n p q = q
+
+opened-from-within : (r : List ℕ) (m : Mode) (since i : ℕ) → since ≤ i → opened·from m since i r ≤ i + length r
+unfolding opened·from
+opened-from-within [] m since i h = omega arith
+opened-from-within (b ∷ r) m since i h =
+    let s = symbol b r in
+    let p = opened-from-within r (next m s) (pick (opens m s) i since) (suc i) (pick-at-most (opens m s) i since (suc i) (omega arith) (omega arith)) in
+    omega (arith, p)
+
+pub opened-within : (text : List ℕ) → opened text ≤ length text
+unfolding opened
+opened-within text =
+    let first = first·byte text in
+    let p = opened-from-within (unmarked text) Mode.Between 0 first (omega arith) in
+    let e : length (unmarked text) ≡ length (drop first text) = ap length (sym (drop-first text)) in
+    omega (arith, p, e, length-drop first text, first-within text)
+
+pub open-within : (text : List ℕ) (r : Refusal) (mark : ℕ) → Open text r mark → mark ≤ length text
+open-within text r mark o = rw (o .at) at (opened-within text)
+
+-- What a walk comes to, once it is known which.
+pub walked-as : (text work : List ℕ) (w v : Walk) → Walked text work w → w ≡ v → Walked text work v
+walked-as text work w v h e = subst (λ v. Walked text work v) e h
+
+-- The answer and what it says of work memory.
+abbrev pub Answered : List ℕ → List ℕ → ℕ → Lexed → Type 0
+Answered text work k r = (r ≡ lexed text k) × ((n : ℕ) → r ≡ Lexed.Tokens n → Stored text work n)
+
+refused : (text work : List ℕ) (k : ℕ) (r : Refusal) (p q : Place) → p ≡ q → Lexed.Refused r q ≡ lexed text k → Answered text work k (Lexed.Refused r p)
+refused text work k r p q e a = (rw e a, λ n h. let z : _≡_ {A = ℕ} 0 1 = cc in absurd (omega arith))
+
+module _ (text work : List ℕ) (k : ℕ) where
+  pub answer-long : (p : Place) → p ≡ nowhere → 1048576 < length text → Answered text work k (Lexed.Refused Refusal.TextTooLong p)
+  unfolding lexed longest pick
+  answer-long p e h = refused text work k Refusal.TextTooLong p nowhere e (rw (lt-leb (length text) 1048576 h))
+
+  module _ (fits : length text ≤ 1048576) where
+    pub answer-short : (p : Place) → p ≡ nowhere → k < 4 * length text + 64 → Answered text work k (Lexed.Refused Refusal.WorkMemoryShort p)
+    unfolding lexed longest work·needed pick
+    answer-short p e h = refused text work k Refusal.WorkMemoryShort p nowhere e (rw (le-leb (length text) 1048576 fits, lt-leb (4 * length text + 64) k h))
+
+    module _ (room : 4 * length text + 64 ≤ k) where
+      pub answer-invalid : (p : Place) → p ≡ nowhere → utf8 text ≡ false → Answered text work k (Lexed.Refused Refusal.NotUtf8 p)
+      unfolding lexed longest work·needed pick
+      answer-invalid p e h = refused text work k Refusal.NotUtf8 p nowhere e (rw (le-leb (length text) 1048576 fits, le-leb (4 * length text + 64) k room, h))
+
+      module _ (valid : utf8 text ≡ true) where
+        answer-valid : counted text (left·open (tokens text)) ≡ lexed text k
+        unfolding lexed longest work·needed pick
+        answer-valid = rw (le-leb (length text) 1048576 fits, le-leb (4 * length text + 64) k room, valid)
+
+        pub answer-tokens : (n : ℕ) → Closed text work n → Answered text work k (Lexed.Tokens n)
+        unfolding counted
+        answer-tokens n c =
+            (ap Lexed.Tokens (c .stored .count) ∙ sym (rw (c .closed)) ∙ answer-valid, λ m h. let e : n ≡ m = cc in subst (λ m. Stored text work m) e (c .stored))
+
+        pub answer-open : (r : Refusal) (mark : ℕ) (p : Place) → Open text r mark → p ≡ place text mark → Answered text work k (Lexed.Refused r p)
+        unfolding counted
+        answer-open r mark p o e = refused text work k r p (place text mark) e (ap (λ m. Lexed.Refused r (place text m)) (sym (o .at)) ∙ ap (counted text) (sym (o .what)) ∙ answer-valid)

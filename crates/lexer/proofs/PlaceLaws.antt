@@ -1,0 +1,60 @@
+-- Laws of lines and columns: what one byte adds, and the loop that passes over the bytes before a place. Assumes nothing.
+use Prim.Native.Nat.{ℕ, suc, _+_, _-_, _≤_, _<_}
+use Rattle.lexer.proofs.ListLaws.{drop-next}
+use Rattle.lexer.specs.Base.{pick}
+use Rattle.lexer.specs.Classes.{newline?, return?, part?}
+use Rattle.lexer.specs.Places.{move, place·from, place}
+use Rattle.lexer.specs.Scanning.{first·symbol, symbol·at}
+use Rattle.lexer.specs.declared.Place.{Place}
+use Rattle.lexer.specs.declared.Symbol.{Symbol}
+use lib.ListN.{length, drop}
+use mathlib.Core.Bool.{Bool, true, false, _||_}
+use mathlib.Core.List.{List}
+use mathlib.Core.Path.{_≡_, sym, _∙_}
+use native.Mathlib.Nat.{sub-zero}
+use native.Mathlib.Omega.{arith}
+
+-- A place whose line and column are so small
+pub record Small (n : ℕ) (p : Place) : Type 0 where
+  pub line : p .line ≤ n
+  pub column : p .column ≤ n
+
+-- One byte adds at most one line or one column.
+pub move-small : (n : ℕ) (p : Place) (s : Symbol) → Small n p → 0 < n → Small (n + 1) (move p s)
+unfolding move pick
+move-small n p s h pos = go (newline? s) (return? s || part? s)
+  where
+    go : (a b : Bool) → Small (n + 1) (pick a (record { line = suc (p .line); column = 1 }) (pick b p (record { line = p .line; column = suc (p .column) })))
+    go true b = omega arith
+    go false true = omega arith
+    go false false = omega arith
+
+-- The loop: from here, with this place, the definition gives what it gives of the whole.
+pub record Placing (text : List ℕ) (at : ℕ) (p : Place) (i : ℕ) : Type 0 where
+  pub below : i ≤ at
+  pub small : Small (i + 1) p
+  pub rest : place·from p (at - i) (drop i text) ≡ place text at
+
+pub placing-start : (text : List ℕ) (at : ℕ) → Placing text at (record { line = 1; column = 1 }) 0
+unfolding place
+placing-start text at = record { below = omega arith; small = omega arith; rest = rw sub-zero }
+
+passed : (text : List ℕ) (p : Place) (k i : ℕ) → i < length text
+    → place·from p (suc k) (drop i text) ≡ place·from (move p (symbol·at text i)) k (drop (i + 1) text)
+unfolding place·from symbol·at first·symbol
+passed text p k i h = rw (drop-next text i)
+
+pub placing-turn : {text : List ℕ} {at : ℕ} {p q : Place} {i : ℕ} {s : Symbol}
+    → Placing text at p i → at ≤ length text → i < at → s ≡ symbol·at text i → q ≡ move p s → Placing text at q (i + 1)
+placing-turn {text} {at} {p} {q} {i} {s} h within more here moved =
+    rw (moved, here) (record { below = omega arith; small = move-small (i + 1) p (symbol·at text i) (h .small) (omega arith); rest = rest })
+  where
+    one : at - i ≡ suc (at - (i + 1))
+    one = omega arith
+
+    rest : place·from (move p (symbol·at text i)) (at - (i + 1)) (drop (i + 1) text) ≡ place text at
+    rest = sym (passed text p (at - (i + 1)) i (omega arith)) ∙ (rw one at (h .rest))
+
+pub placing-end : {text : List ℕ} {at : ℕ} {p : Place} {i : ℕ} → Placing text at p i → at ≤ i → p ≡ place text at
+unfolding place·from
+placing-end {text} {at} {p} {i} h all = let none : at - i ≡ 0 = omega arith in rw none at (h .rest)

@@ -1,0 +1,94 @@
+-- The function `comment_end` meets its contract. A turn passes one bracket or another byte, and keeps the end and that the depth is at most the
+-- bytes passed. The measure is what is left of the text. Assumes nothing.
+use Prim.Native.Nat.{_-_}
+use Rattle.lexer.proofs.EndTurns.{Commenting, comment-over, comment-closes, comment-opens, comment-goes-on, comment-open}
+use Rattle.lexer.proofs.scanning.comment_end.Statement.{statement}
+use Rattle.lexer.proofs.scanning.comment_end.Tie as tie
+use borrow.Author.Needs.{needs}
+use lib.ListN.{length}
+use mathlib.Core.Path.{refl, sym, _∙_}
+use native.Mathlib.Omega.{arith}
+
+abbrev Inv-loop : tie.InvT-loop
+Inv-loop text mark depth₀ i₀ depth i = Commenting text mark depth i
+
+abbrev μ-loop : tie.MeasureT-loop
+μ-loop text mark depth₀ i₀ depth i = length text - i
+
+add-i : tie.Need-add-i Inv-loop μ-loop
+add-i c = search needs
+
+loop-holds : tie.Need-loop-holds Inv-loop μ-loop
+loop-holds c = record { within = omega arith; deep = omega arith; rest = refl }
+
+shared-slice-read-b : tie.Need-shared-slice-read-b Inv-loop μ-loop
+shared-slice-read-b c = search needs
+
+add-i-2 : tie.Need-add-i-2 Inv-loop μ-loop
+add-i-2 c = search needs
+
+returns : tie.Need-returns Inv-loop μ-loop
+returns c = sym (comment-over _ _ _ (c .before .before .before .loop-test .taken) (c .before .if1 .taken) _ (c .if2 .taken)) ∙ c .before .before .before .before .loop .inv .rest
+
+sub-depth : tie.Need-sub-depth Inv-loop μ-loop
+sub-depth c = search needs
+
+loop-less : tie.Need-loop-less Inv-loop μ-loop
+loop-less c = search needs
+
+loop-again : tie.Need-loop-again Inv-loop μ-loop
+loop-again c =
+    record {
+      within = omega arith;
+      deep = omega arith;
+      rest = sym (comment-closes _ _ _ (c .before .before .before .loop-test .taken) (c .before .if1 .taken) _ (c .if2 .left)) ∙ c .before .before .before .before .loop .inv .rest;
+    }
+
+add-depth : tie.Need-add-depth Inv-loop μ-loop
+add-depth c = search needs
+
+loop-less-2 : tie.Need-loop-less-2 Inv-loop μ-loop
+loop-less-2 c = search needs
+
+loop-again-2 : tie.Need-loop-again-2 Inv-loop μ-loop
+loop-again-2 c =
+    record {
+      within = omega arith;
+      deep = omega arith;
+      rest = sym (comment-opens _ _ _ (c .before .before .before .loop-test .taken) (c .if3 .taken) _) ∙ c .before .before .before .before .loop .inv .rest;
+    }
+
+loop-less-3 : tie.Need-loop-less-3 Inv-loop μ-loop
+loop-less-3 c = search needs
+
+loop-again-3 : tie.Need-loop-again-3 Inv-loop μ-loop
+loop-again-3 c =
+    record {
+      within = omega arith;
+      deep = omega arith;
+      rest = sym (comment-goes-on _ _ _ (c .before .before .before .loop-test .taken) (c .if3 .left) (c .before .if1 .left) _) ∙ c .before .before .before .before .loop .inv .rest;
+    }
+
+returns-2 : tie.Need-returns-2 Inv-loop μ-loop
+returns-2 c = sym (comment-open _ _ _ (c .loop-test .left) _) ∙ c .before .loop .inv .rest
+
+pub comment-end-spec : {M : Type 1} → statement M
+comment-end-spec =
+    tie.close
+    (tie.spec
+    Inv-loop
+    μ-loop
+    add-i
+    loop-holds
+    shared-slice-read-b
+    add-i-2
+    returns
+    sub-depth
+    loop-less
+    loop-again
+    add-depth
+    loop-less-2
+    loop-again-2
+    loop-less-3
+    loop-again-3
+    returns-2)

@@ -1,0 +1,377 @@
+// The class of each byte, and its symbol.
+
+ghost use Prim.Native.Nat.{_<_, _≤_, _+_};
+ghost use Rattle.lexer.specs.Classes.{class, symbol·of, next1, next2, general·blank, wide·blank};
+ghost use Rattle.lexer.specs.Scanning.{class·number, symbol·at};
+ghost use Rattle.lexer.specs.declared.Class.{Class};
+ghost use lib.ListN.{length, getD, drop};
+ghost use mathlib.Core.Path.{_≡_};
+use super::Symbol;
+
+// Every byte's class, by its place in `Class`: newline, blank, quote, comment, punctuation, other, part of a longer character.
+const CLASSES: [u8; 256] = [
+    5,
+    5,
+    5,
+    5,
+    5,
+    5,
+    5,
+    5,
+    5,
+    1,
+    0,
+    1,
+    1,
+    0,
+    5,
+    5,
+    5,
+    5,
+    5,
+    5,
+    5,
+    5,
+    5,
+    5,
+    5,
+    5,
+    5,
+    5,
+    5,
+    5,
+    5,
+    5,
+    1,
+    5,
+    2,
+    5,
+    5,
+    5,
+    5,
+    2,
+    4,
+    4,
+    4,
+    4,
+    4,
+    5,
+    5,
+    4,
+    5,
+    5,
+    5,
+    5,
+    5,
+    5,
+    5,
+    5,
+    5,
+    5,
+    4,
+    4,
+    4,
+    4,
+    4,
+    5,
+    5,
+    5,
+    5,
+    5,
+    5,
+    5,
+    5,
+    5,
+    5,
+    5,
+    5,
+    5,
+    5,
+    5,
+    5,
+    5,
+    5,
+    5,
+    5,
+    5,
+    5,
+    5,
+    5,
+    5,
+    5,
+    5,
+    5,
+    3,
+    4,
+    4,
+    4,
+    5,
+    4,
+    5,
+    5,
+    5,
+    5,
+    5,
+    5,
+    5,
+    5,
+    5,
+    5,
+    5,
+    5,
+    5,
+    5,
+    5,
+    5,
+    5,
+    5,
+    5,
+    5,
+    5,
+    5,
+    5,
+    5,
+    5,
+    5,
+    4,
+    5,
+    4,
+    5,
+    5,
+    6,
+    6,
+    6,
+    6,
+    6,
+    6,
+    6,
+    6,
+    6,
+    6,
+    6,
+    6,
+    6,
+    6,
+    6,
+    6,
+    6,
+    6,
+    6,
+    6,
+    6,
+    6,
+    6,
+    6,
+    6,
+    6,
+    6,
+    6,
+    6,
+    6,
+    6,
+    6,
+    6,
+    6,
+    6,
+    6,
+    6,
+    6,
+    6,
+    6,
+    6,
+    6,
+    6,
+    6,
+    6,
+    6,
+    6,
+    6,
+    6,
+    6,
+    6,
+    6,
+    6,
+    6,
+    6,
+    6,
+    6,
+    6,
+    6,
+    6,
+    6,
+    6,
+    6,
+    6,
+    6,
+    6,
+    6,
+    6,
+    6,
+    6,
+    6,
+    6,
+    6,
+    6,
+    6,
+    6,
+    6,
+    6,
+    6,
+    6,
+    6,
+    6,
+    6,
+    6,
+    6,
+    6,
+    6,
+    6,
+    6,
+    6,
+    6,
+    6,
+    6,
+    6,
+    6,
+    6,
+    6,
+    6,
+    6,
+    6,
+    6,
+    6,
+    6,
+    6,
+    6,
+    6,
+    6,
+    6,
+    6,
+    6,
+    6,
+    6,
+    6,
+    6,
+    6,
+    6,
+    6,
+    6,
+    6,
+    6,
+    6,
+    6,
+    6,
+    6,
+    6,
+    6,
+    6,
+    6,
+];
+
+pub fn class_number(b: u8) -> u8
+    ensures { λ r. ⌜ r ≡ class·number (class b) ⌝ }
+{
+    let i = b as usize;
+    CLASSES[i]
+}
+
+// LF and CR: the CR of a CR LF is no newline of its own.
+fn newline_symbol(text: &[u8], i: usize) -> Symbol
+    requires { ⌜ i < length (now text) ⌝ }
+    ensures { λ r. ⌜ r ≡ symbol·of Class.Newline (getD (now (text .entry)) i 0) (drop (i + 1) (now (text .entry))) ⌝ }
+{
+    if text[i] == 13 {
+        let next = i + 1;
+        if next < text.len() {
+            if text[next] == 10 {
+                return Symbol::Return;
+            }
+        }
+    }
+    Symbol::Newline
+}
+
+// Is the byte at i this one? Behind the end there is none.
+fn byte_is(text: &[u8], i: usize, b: u8) -> bool
+    ensures { λ r. ⌜ r ≡ next1 b (drop i (now (text .entry))) ⌝ }
+{
+    if i < text.len() {
+        return text[i] == b;
+    }
+    false
+}
+
+// Are the two bytes from i on these?
+fn bytes_are(text: &[u8], i: usize, a: u8, b: u8) -> bool
+    requires { ⌜ i ≤ length (now text) ⌝ }
+    ensures { λ r. ⌜ r ≡ next2 a b (drop i (now (text .entry))) ⌝ }
+{
+    byte_is(text, i, a) & byte_is(text, i + 1, b)
+}
+
+// Do the two bytes from i on end a blank that begins with the byte 226?
+fn general_blank(text: &[u8], i: usize) -> bool
+    requires { ⌜ i ≤ length (now text) ⌝ }
+    ensures { λ r. ⌜ r ≡ general·blank (drop i (now (text .entry))) ⌝ }
+{
+    let next = i + 1;
+    if next < text.len() {
+        let x = text[i];
+        let y = text[next];
+        let wide = ((128 <= y) & (y <= 138)) | (y == 168) | (y == 169) | (y == 175);
+        return ((x == 128) & wide) | ((x == 129) & (y == 159));
+    }
+    false
+}
+
+// Does a character of White_Space beyond ASCII begin with this byte before those from i on?
+fn wide_blank(text: &[u8], b: u8, i: usize) -> bool
+    requires { ⌜ i ≤ length (now text) ⌝ }
+    ensures { λ r. ⌜ r ≡ wide·blank b (drop i (now (text .entry))) ⌝ }
+{
+    let latin = (b == 194) & (byte_is(text, i, 133) | byte_is(text, i, 160));
+    let ogham = (b == 225) & bytes_are(text, i, 154, 128);
+    let general = (b == 226) & general_blank(text, i);
+    latin | ogham | general | ((b == 227) & bytes_are(text, i, 128, 128))
+}
+
+// The symbol of a byte that is part of a longer character.
+fn part_symbol(text: &[u8], i: usize) -> Symbol
+    requires { ⌜ i < length (now text) ⌝ }
+    ensures { λ r. ⌜ r ≡ symbol·of Class.Part (getD (now (text .entry)) i 0) (drop (i + 1) (now (text .entry))) ⌝ }
+{
+    let b = text[i];
+    if b < 192 {
+        return Symbol::Part;
+    }
+    if wide_blank(text, b, i + 1) {
+        return Symbol::Blank;
+    }
+    Symbol::Other
+}
+
+// The symbol of the byte at i.
+pub fn symbol_at(text: &[u8], i: usize) -> Symbol
+    requires { ⌜ i < length (now text) ⌝ }
+    ensures { λ r. ⌜ r ≡ symbol·at (now (text .entry)) i ⌝ }
+{
+    let b = text[i];
+    let class = class_number(b);
+    match class {
+        0 => newline_symbol(text, i),
+        1 => Symbol::Blank,
+        2 => if b == 39 {
+            Symbol::Single
+        } else {
+            Symbol::Double
+        },
+        3 => Symbol::Open,
+        4 => if b == 93 {
+            Symbol::Close
+        } else {
+            Symbol::Punctuation
+        },
+        5 => Symbol::Other,
+        _ => part_symbol(text, i),
+    }
+}
