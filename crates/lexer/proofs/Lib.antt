@@ -8,7 +8,6 @@ pub mod ListLaws
 pub mod MarkLaws
 pub mod PlaceLaws
 pub mod ScanLaws
-pub mod Spaces
 pub mod StepLaws
 pub mod StepSymbols
 pub mod StoredLaws

@@ -27,9 +27,9 @@ begins-space [] = false
 begins-space (b ∷ r) = space? (symbol b r)
 
 -- Do the two agree on a character?
-agree : ℕ → Bool
+pub agree : ℕ → Bool
 agree c = Bool·beq (begins-space (encoded c)) (among c white-space)
 
-white-space-is-right : all-under agree 12544 ≡ true
+pub white-space-is-right : all-under agree 12544 ≡ true
 unfolding run·tokens white-space encoded begins-space agree all-under
 white-space-is-right = refl
