@@ -1,4 +1,5 @@
 -- Laws of the bytes that come next in a text, and of a byte's class and symbol by its class's number. Assumes nothing.
+use Rattle.lexer.proofs.Basics.{and-false}
 use Prim.Native.Nat.{ℕ, zero, suc, _+_, _≤_, _<_}
 use Rattle.lexer.proofs.ListLaws.{drop-next}
 use Rattle.lexer.specs.Classes.{class, symbol, symbol·of, next1, next2, general·blank}
@@ -7,7 +8,7 @@ use Rattle.lexer.specs.declared.Class.{Class}
 use lib.Dec.{eqb}
 use lib.ListN.{length, getD, drop, length-drop, drop-of-length-le}
 use lib.Seq.{drop-drop}
-use mathlib.Core.Bool.{Bool, true, false, _&&_}
+use mathlib.Core.Bool.{false, _&&_}
 use mathlib.Core.List.{List, [], _∷_}
 use mathlib.Core.Path.{_≡_, refl, sym, ap, _∙_}
 use native.Mathlib.Omega.{arith}
@@ -22,9 +23,6 @@ unfolding next1
 next1-past text i b h = rw (drop-of-length-le text h)
 
 -- Two bytes come next where the one does, and the other behind it.
-and-false : (a : Bool) → a && false ≡ false
-and-false true = refl
-and-false false = refl
 
 two : (a b : ℕ) (l : List ℕ) → next1 a l && next1 b (drop 1 l) ≡ next2 a b l
 unfolding next1 next2

@@ -1,12 +1,15 @@
 pub mod Basics
+pub mod BlankBytes
 pub mod Cases
 pub mod ClassLaws
 pub mod EndTurns
+pub mod KindTags
 pub mod LabelLaws
 pub mod LexedAnswers
 pub mod ListLaws
 pub mod MarkLaws
 pub mod PlaceLaws
+pub mod QuotedBytes
 pub mod ScanLaws
 pub mod StepLaws
 pub mod StepSymbols
@@ -17,7 +20,11 @@ pub mod SymbolTags
 pub mod TableLaws
 pub mod TextReturns
 pub mod TextUtf8
+pub mod TextWalks
+pub mod TokenParts
 pub mod TokenSizes
 pub mod TokensClean
 pub mod Utf8Checking
+pub mod WordBytes
 pub mod WordEnds
+pub mod Yielded

@@ -1,11 +1,15 @@
 -- Laws of lists that the walks over a text rest on: what stands from an index on. Assumes nothing.
-use Prim.Native.Nat.{ℕ, _+_, _<_}
+use Prim.Native.Nat.{ℕ, suc, _+_, _<_}
 use lib.ListN.{length, getD, drop}
-use lib.Seq.{drop-cons}
+use lib.Seq.{drop-cons, drop-drop}
 use mathlib.Core.List.{List, _∷_}
-use mathlib.Core.Path.{_≡_}
+use mathlib.Core.Path.{_≡_, ap, _∙_}
 use native.Mathlib.Numerals.{add-one}
 
 -- From an index below the length on: the byte there, and what stands from the next index on.
 pub drop-next : (l : List ℕ) (i : ℕ) → i < length l → drop i l ≡ getD l i 0 ∷ drop (i + 1) l
 drop-next l i h = rw add-one (drop-cons l i 0 h)
+
+-- What stands behind the first byte of a rest is the rest one place on.
+pub drop-tail : (text : List ℕ) (i b : ℕ) (r : List ℕ) → b ∷ r ≡ drop i text → r ≡ drop (suc i) text
+drop-tail text i b r e = ap (drop 1) e ∙ drop-drop 1 i text ∙ rw (add-one i)

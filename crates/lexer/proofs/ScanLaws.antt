@@ -1,7 +1,7 @@
 -- What the scanning definitions pass over is what the modes pass over: comments, quoted texts and words, each from behind its first byte to its
 -- end. Assumes nothing.
 use Prim.Native.Nat.{ℕ, zero, suc, _+_, _≤_, _<_}
-use Rattle.lexer.proofs.Basics.{by-test, and-true, chosen}
+use Rattle.lexer.proofs.Basics.{by-test, and-true, chosen, and-false}
 use Rattle.lexer.specs.Base.{pick, among, bytes}
 use Rattle.lexer.specs.Classes.{class, marks, symbol, symbol·of, rank, return?, blank?, single?, double?, open?, close?, other?, part?}
 use Rattle.lexer.specs.Places.{starts·from, opened·from, opens, opens·between}
@@ -15,7 +15,7 @@ use Rattle.lexer.specs.declared.refusal.Refusal.{Refusal}
 use borrow.Author.Tests.{eqb-true}
 use lib.Dec.{eqb}
 use lib.ListN.{length, drop}
-use mathlib.Core.Bool.{Bool, true, false, _&&_, true≢false}
+use mathlib.Core.Bool.{Bool, true, false, true≢false}
 use mathlib.Core.List.{List, [], _∷_}
 use mathlib.Core.Option.{some}
 use mathlib.Core.Path.{_≡_, refl, sym, _∙_}
@@ -36,10 +36,6 @@ symbol-cases P b r single double opening closing newline return blank mark other
   where
     Q : Class → Type 0
     Q c = P (symbol·of c b r)
-
-and-false : (t : Bool) → t && false ≡ false
-and-false true = refl
-and-false false = refl
 
 never : {X : Type 0} {t : Bool} → t ≡ false → t ≡ true → X
 never f t = absurd (true≢false (sym t ∙ f))

@@ -1,4 +1,5 @@
 -- Where a word ends, from byte to byte, with the comments in it passed over whole. Assumes nothing.
+use Rattle.lexer.proofs.ListLaws.{drop-tail}
 use Prim.Native.Nat.{ℕ, zero, suc, _+_, _≤_, _<_}
 use Rattle.lexer.proofs.ScanLaws.{comment-ends}
 use Rattle.lexer.proofs.SymbolTags.{Continues, Stops}
@@ -9,7 +10,7 @@ use Rattle.lexer.specs.declared.Scan.{Scan}
 use Rattle.lexer.specs.declared.Symbol.{Symbol}
 use lib.Dec.{eqb}
 use lib.ListN.{length, drop, drop-of-length-le, length-drop}
-use lib.Seq.{drop-cons, drop-drop}
+use lib.Seq.{drop-cons}
 use mathlib.Core.Bool.{Bool, true, false}
 use mathlib.Core.List.{List, [], _∷_}
 use mathlib.Core.Path.{_≡_, refl, ap, _∙_}
@@ -32,9 +33,6 @@ unfolding pick
 resumed-pick text true e x y z u v w p q r = p
 resumed-pick text false true x y z u v w p q r = q
 resumed-pick text false false x y z u v w p q r = r
-
-drop-tail : (text : List ℕ) (i b : ℕ) (r : List ℕ) → b ∷ r ≡ drop i text → r ≡ drop (suc i) text
-drop-tail text i b r e = ap (drop 1) e ∙ drop-drop 1 i text ∙ rw (add-one i)
 
 -- Inside a comment a word goes on as the comment does, and behind it as a word.
 pub word-comment : (text : List ℕ) (mark d i : ℕ) (r : List ℕ) → r ≡ drop i text → word·end (suc d) mark i r ≡ resumed text (comment·end mark d i r)

@@ -9,4 +9,5 @@ pub mod Words
 pub mod Lexing
 pub mod Scanning
 pub mod Stored
+pub mod Bytes
 pub mod Run

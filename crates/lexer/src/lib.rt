@@ -1,16 +1,26 @@
 // Bytes to tokens, after lexer.rs. What each function means stands in specs/.
 
 mod classes;
+mod label;
 mod lexing;
 mod places;
 mod refusal;
 mod scanning;
+mod token;
 mod utf8;
 
+pub use label::is_at;
+pub use label::is_label;
+pub use label::labels_alike;
+pub use label::number_at;
+pub use label::punct_at;
 pub use lexing::lex;
 pub use places::place_at;
 pub use refusal::Refusal;
 pub use refusal::refusal_number;
+pub use token::kind_at;
+pub use token::next_byte;
+pub use token::text_start;
 
 // The class of a byte by itself, one for each of the 256.
 pub enum Class {
@@ -90,4 +100,16 @@ pub enum Walk {
     Done(usize),
     Quote(usize),
     Comment(usize),
+}
+
+// A place in the text of a token, and the mode of its kind: between for a mark, a comment behind its end.
+pub struct Cursor {
+    pub at: usize,
+    pub mode: Mode,
+}
+
+// The next byte of a token's text, or none.
+pub enum Item {
+    Byte(u8, Cursor),
+    End,
 }

@@ -1,7 +1,7 @@
 -- Generated texts, records and names with the Rust's answers. Each case is a theorem that antt computes: a read or a write gives what the
 -- program prints and what is left in a buffer that held 170 everywhere; a lookup gives the refusal's number, start and length.
 -- Made by: tools/check-definitions --sample 100 --seed 1 --out Sample.antt
-use mathlib.Core.List.{List, [], _∷_}
+use mathlib.Core.List.{[], _∷_}
 use mathlib.Core.Path.{_≡_, refl}
 use Rattle.record.specs.Run.{run·read, run·write, run·lookup}
 

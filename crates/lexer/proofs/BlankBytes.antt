@@ -1,0 +1,54 @@
+-- Which bytes are those of a blank: a byte below 192 by its class, a later one by the two bytes behind it. Assumes nothing.
+use Rattle.lexer.proofs.Basics.{chosen, and-false}
+use Prim.Native.Nat.{ℕ, _≤_, _<_}
+use Rattle.lexer.proofs.SymbolLaws.{symbol-high}
+use Rattle.lexer.specs.Base.{pick}
+use Rattle.lexer.specs.Classes.{class, symbol, symbol·of, wide·blank, next1, next2, general·blank, general, rank, newline?, return?, blank?, part?, space?}
+use Rattle.lexer.specs.Scanning.{class·number}
+use Rattle.lexer.specs.declared.Class.{Class}
+use Rattle.lexer.specs.declared.Symbol.{Symbol}
+use borrow.Author.Tests.{lt-ltb, le-ltb}
+use lib.Dec.{eqb, ltb}
+use lib.ListN.{getD}
+use mathlib.Core.Bool.{Bool, true, false, _&&_, _||_}
+use mathlib.Core.List.{List, [], _∷_}
+use mathlib.Core.Path.{_≡_, refl, _∙_}
+use native.Mathlib.Omega.{arith}
+
+-- Is a byte before these bytes one of a blank?
+abbrev pub blank-part : ℕ → List ℕ → Bool
+blank-part b r = space? (symbol b r) || part? (symbol b r)
+
+pub blank-low : (b : ℕ) (r : List ℕ) → b < 192 → ltb (class·number (class b)) 2 || eqb (class·number (class b)) 6 ≡ blank-part b r
+unfolding symbol symbol·of class·number space? newline? return? blank? part? rank pick
+blank-low b r low = go (class b)
+  where
+    P : Symbol → Type 0
+    P s = true ≡ space? s || part? s
+
+    N : Symbol → Type 0
+    N s = false ≡ space? s || part? s
+
+    go : (k : Class) → ltb (class·number k) 2 || eqb (class·number k) 6 ≡ space? (symbol·of k b r) || part? (symbol·of k b r)
+    go Class.Newline = chosen P (eqb b 13 && next1 10 r) {x = Symbol.Return} {y = Symbol.Newline} (λ _. refl) (λ _. refl)
+    go Class.Blank = refl
+    go Class.Quote = chosen N (eqb b 39) {x = Symbol.Single} {y = Symbol.Double} (λ _. refl) (λ _. refl)
+    go Class.Comment = refl
+    go Class.Punctuation = chosen N (eqb b 93) {x = Symbol.Close} {y = Symbol.Punctuation} (λ _. refl) (λ _. refl)
+    go Class.Other = refl
+    go Class.Part = rw (lt-ltb b 192 low)
+
+-- Of the bytes behind it at most two matter, and 0 stands for one that is not there.
+wide-two : (b : ℕ) (r : List ℕ) → wide·blank b (getD r 0 0 ∷ getD r 1 0 ∷ []) ≡ wide·blank b r
+unfolding wide·blank next1 next2 general·blank general
+wide-two b [] = refl
+wide-two b (x ∷ []) = rw (and-false (eqb x 154), and-false (eqb x 128), and-false (eqb x 129))
+wide-two b (x ∷ y ∷ r) = refl
+
+pub blank-high : (b : ℕ) (r : List ℕ) → 192 ≤ b → wide·blank b (getD r 0 0 ∷ getD r 1 0 ∷ []) ≡ blank-part b r
+unfolding pick space? newline? return? blank? part? rank
+blank-high b r high = wide-two b r ∙ rw (symbol-high b (omega arith) r, le-ltb b 192 high) (go (wide·blank b r))
+  where
+    go : (w : Bool) → w ≡ space? (pick w Symbol.Blank Symbol.Other) || part? (pick w Symbol.Blank Symbol.Other)
+    go true = refl
+    go false = refl

@@ -1,0 +1,94 @@
+-- The function `word_byte` meets its contract. A turn passes a comment in the word and keeps what is left of it. The measure is what is left of
+-- the text. Assumes nothing.
+use Prim.Native.Nat.{_-_}
+use Rattle.lexer.proofs.SymbolTags.{tags-stop}
+use Rattle.lexer.proofs.WordBytes.{Spelling, spelling-byte, spelling-over, spelling-turn, spelling-open, spelling-last}
+use Rattle.lexer.proofs.WordEnds.{skip-ahead}
+use Rattle.lexer.proofs.token.word_byte.Statement.{statement}
+use Rattle.lexer.proofs.token.word_byte.Tie as tie
+use borrow.Author.Needs.{needs}
+use lib.ListN.{length}
+use mathlib.Core.Path.{refl}
+use native.Mathlib.Omega.{arith}
+
+abbrev Inv-loop : tie.InvT-loop
+Inv-loop text from i₀ i = Spelling text from i
+
+abbrev μ-loop : tie.MeasureT-loop
+μ-loop text from i₀ i = length text - i
+
+loop-holds : tie.Need-loop-holds Inv-loop μ-loop
+loop-holds c = record { ahead = omega arith; within = omega arith; rest = refl }
+
+symbol-at-requires : tie.Need-symbol-at-requires Inv-loop μ-loop
+symbol-at-requires c κs = search needs
+
+shared-slice-read-t9 : tie.Need-shared-slice-read-t9 Inv-loop μ-loop
+shared-slice-read-t9 c = search needs
+
+add-t10 : tie.Need-add-t10 Inv-loop μ-loop
+add-t10 c = search needs
+
+returns : tie.Need-returns Inv-loop μ-loop
+returns c =
+    let l = c .before .before .before in
+    spelling-byte _ _ _ (l .before .loop .inv) (l .loop-test .taken) _ (c .before .before .symbol-at .ensures) (c .before .match .keys1)
+
+enum-told : tie.Need-enum-told Inv-loop μ-loop
+enum-told c = search needs
+
+comment-end-requires : tie.Need-comment-end-requires Inv-loop μ-loop
+comment-end-requires c κs = search needs
+
+enum-known-j : tie.Need-enum-known-j Inv-loop μ-loop
+enum-known-j c = search needs
+
+loop-less : tie.Need-loop-less Inv-loop μ-loop
+loop-less c =
+    let l = c .before .before .before .before .before .before .before in
+    let ahead = skip-ahead _ _ (l .loop-test .taken) _ (c .before .before .before .comment-end .ensures) _ (c .before .j .given .1) in
+    omega arith
+
+loop-again : tie.Need-loop-again Inv-loop μ-loop
+loop-again c =
+    let e = c .before .before .before in
+    let l = e .before .before .before .before in
+    spelling-turn _ _ _ (l .before .loop .inv) (l .loop-test .taken) _ (e .before .before .before .symbol-at .ensures) (e .before .enum-told .given .1) _ (e .comment-end .ensures) _ (c .before .j .given .1)
+
+enum-told-2 : tie.Need-enum-told-2 Inv-loop μ-loop
+enum-told-2 c = search needs
+
+returns-2 : tie.Need-returns-2 Inv-loop μ-loop
+returns-2 c =
+    let e = c .before .before in
+    let l = e .before .before .before .before in
+    spelling-open _ _ _ (l .before .loop .inv) (l .loop-test .taken) _ (e .before .before .before .symbol-at .ensures) (e .before .enum-told .given .1) _ (e .comment-end .ensures) _ (c .enum-told2 .given .1)
+
+returns-3 : tie.Need-returns-3 Inv-loop μ-loop
+returns-3 c =
+    let l = c .before .before in
+    spelling-over _ _ _ (l .before .loop .inv) (l .loop-test .taken) _ (c .before .symbol-at .ensures) (tags-stop _ (c .match .keys3))
+
+returns-4 : tie.Need-returns-4 Inv-loop μ-loop
+returns-4 c = spelling-last _ _ _ (c .before .loop .inv) (c .loop-test .left)
+
+pub word-byte-spec : {M : Type 1} → statement M
+word-byte-spec =
+    tie.close
+    (tie.spec
+    Inv-loop
+    μ-loop
+    loop-holds
+    symbol-at-requires
+    shared-slice-read-t9
+    add-t10
+    returns
+    enum-told
+    comment-end-requires
+    enum-known-j
+    loop-less
+    loop-again
+    enum-told-2
+    returns-2
+    returns-3
+    returns-4)

@@ -1,0 +1,257 @@
+// What the token that begins at a byte can be taken for: a keyword, a punctuation mark, a name, a number.
+
+ghost use Prim.Native.Nat.{_<_, _≤_, _+_};
+ghost use Rattle.lexer.specs.Base.{pick, lower, alike, given, empty?};
+ghost use Rattle.lexer.specs.Bytes.{left, Readable};
+ghost use Rattle.lexer.specs.Classes.{symbol, wide·blank, space?, part?, blank};
+ghost use Rattle.lexer.specs.Lexing.{token·at, word·at};
+ghost use Rattle.lexer.specs.Words.{is, punct, label, spaced, digits, largest, positive};
+ghost use Rattle.lexer.specs.declared.Cursor.{Cursor};
+ghost use lib.Dec.{eqb, leb};
+ghost use lib.ListN.{length, getD};
+ghost use mathlib.Core.Bool.{_||_};
+ghost use mathlib.Core.List.{[], _∷_};
+ghost use mathlib.Core.Path.{_≡_};
+use super::Cursor;
+use super::Item;
+use super::Kind;
+use super::classes::class_number;
+use super::token::kind_at;
+use super::token::next_byte;
+use super::token::text_start;
+
+// An ASCII capital as its small letter; any other byte is itself.
+fn lower(b: u8) -> u8
+    ensures { λ r. ⌜ r ≡ lower b ⌝ }
+{
+    if (65 <= b) & (b <= 90) {
+        return b + 32;
+    }
+    b
+}
+
+// Is nothing left of the text?
+fn ended(text: &[u8], c: Cursor) -> bool
+    requires { ⌜ (c .at ≤ length (now text)) × Readable (c .mode) ⌝ }
+    ensures { λ r. ⌜ r ≡ empty? (left (now (text .entry)) c) ⌝ }
+{
+    match next_byte(text, c) {
+        Item::Byte(_, _) => false,
+        Item::End => true,
+    }
+}
+
+// Is what is left of the text this key, ASCII case ignored?
+fn text_is(text: &[u8], c: Cursor, key: &[u8]) -> bool
+    requires { ⌜ (c .at ≤ length (now text)) × Readable (c .mode) ⌝ }
+    ensures { λ r. ⌜ r ≡ alike (now (key .entry)) (left (now (text .entry)) c) ⌝ }
+{
+    let mut d = c;
+    let mut i = 0;
+    while i < key.len() {
+        match next_byte(text, d) {
+            Item::Byte(b, e) => {
+                let k = key[i];
+                if lower(k) != lower(b) {
+                    return false;
+                }
+                d = e;
+                i += 1;
+            }
+            Item::End => {
+                return false;
+            }
+        }
+    }
+    ended(text, d)
+}
+
+// Is the token this keyword?
+pub fn is_at(text: &[u8], start: usize, key: &[u8]) -> bool
+    requires { ⌜ start < length (now text) ⌝ }
+    ensures { λ r. ⌜ r ≡ is (now (key .entry)) (word·at (now (text .entry)) start) ⌝ }
+{
+    match kind_at(text, start) {
+        Kind::Word => text_is(text, text_start(text, start), key),
+        _ => false,
+    }
+}
+
+// Is the token this punctuation mark?
+pub fn punct_at(text: &[u8], start: usize, b: u8) -> bool
+    requires { ⌜ start < length (now text) ⌝ }
+    ensures { λ r. ⌜ r ≡ punct b (word·at (now (text .entry)) start) ⌝ }
+{
+    match kind_at(text, start) {
+        Kind::Punctuation(m) => m == b,
+        _ => false,
+    }
+}
+
+// The next byte that is left of the text, or 0.
+fn byte_ahead(text: &[u8], c: Cursor) -> u8
+    requires { ⌜ (c .at ≤ length (now text)) × Readable (c .mode) ⌝ }
+    ensures { λ r. ⌜ r ≡ getD (left (now (text .entry)) c) 0 0 ⌝ }
+{
+    match next_byte(text, c) {
+        Item::Byte(b, _) => b,
+        Item::End => 0,
+    }
+}
+
+// The byte behind the next, or 0.
+fn second_ahead(text: &[u8], c: Cursor) -> u8
+    requires { ⌜ (c .at ≤ length (now text)) × Readable (c .mode) ⌝ }
+    ensures { λ r. ⌜ r ≡ getD (left (now (text .entry)) c) 1 0 ⌝ }
+{
+    match next_byte(text, c) {
+        Item::Byte(_, d) => byte_ahead(text, d),
+        Item::End => 0,
+    }
+}
+
+// Do these three bytes begin with a character of White_Space beyond ASCII?
+fn wide_bytes(b: u8, x: u8, y: u8) -> bool
+    ensures { λ r. ⌜ r ≡ wide·blank b (x ∷ y ∷ []) ⌝ }
+{
+    let latin = (b == 194) & ((x == 133) | (x == 160));
+    let ogham = (b == 225) & ((x == 154) & (y == 128));
+    let wide = ((128 <= y) & (y <= 138)) | (y == 168) | (y == 169) | (y == 175);
+    let general = (b == 226) & (((x == 128) & wide) | ((x == 129) & (y == 159)));
+    latin | ogham | general | ((b == 227) & ((x == 128) & (y == 128)))
+}
+
+// Is a byte before what is left of the text one of a blank?
+fn blank_byte(text: &[u8], b: u8, c: Cursor) -> bool
+    requires { ⌜ (c .at ≤ length (now text)) × Readable (c .mode) ⌝ }
+    ensures { λ r. ⌜ r ≡ (space? (symbol b (left (now (text .entry)) c)) || part? (symbol b (left (now (text .entry)) c))) ⌝ }
+{
+    if b < 192 {
+        let class = class_number(b);
+        return (class < 2) | (class == 6);
+    }
+    wide_bytes(b, byte_ahead(text, c), second_ahead(text, c))
+}
+
+// Is what is left of the text all White_Space?
+fn blank_text(text: &[u8], c: Cursor) -> bool
+    requires { ⌜ (c .at ≤ length (now text)) × Readable (c .mode) ⌝ }
+    ensures { λ r. ⌜ r ≡ blank (left (now (text .entry)) c) ⌝ }
+{
+    let mut d = c;
+    loop {
+        match next_byte(text, d) {
+            Item::Byte(b, e) => {
+                if !blank_byte(text, b, e) {
+                    return false;
+                }
+                d = e;
+            }
+            Item::End => {
+                return true;
+            }
+        }
+    }
+}
+
+// Is the token a name?
+pub fn is_label(text: &[u8], start: usize) -> bool
+    requires { ⌜ start < length (now text) ⌝ }
+    ensures { λ r. ⌜ r ≡ given (label (word·at (now (text .entry)) start)) ⌝ }
+{
+    match kind_at(text, start) {
+        Kind::Word | Kind::Quoted => !blank_text(text, text_start(text, start)),
+        _ => false,
+    }
+}
+
+// A byte of a name as names are compared: `_` is a blank, and ASCII case is ignored.
+fn folded(b: u8) -> u8
+    ensures { λ r. ⌜ r ≡ lower (pick (eqb b 95) 32 b) ⌝ }
+{
+    if b == 95 {
+        return 32;
+    }
+    lower(b)
+}
+
+// Are two texts the same name?
+fn texts_alike(text: &[u8], x: Cursor, y: Cursor) -> bool
+    requires { ⌜ (x .at ≤ length (now text)) × Readable (x .mode) × (y .at ≤ length (now text)) × Readable (y .mode) ⌝ }
+    ensures { λ r. ⌜ r ≡ alike (spaced (left (now (text .entry)) x)) (spaced (left (now (text .entry)) y)) ⌝ }
+{
+    let mut c = x;
+    let mut d = y;
+    loop {
+        match next_byte(text, c) {
+            Item::Byte(a, e) => match next_byte(text, d) {
+                Item::Byte(b, f) => {
+                    if folded(a) != folded(b) {
+                        return false;
+                    }
+                    c = e;
+                    d = f;
+                }
+                Item::End => {
+                    return false;
+                }
+            },
+            Item::End => {
+                return ended(text, d);
+            }
+        }
+    }
+}
+
+// Are two tokens the same name?
+pub fn labels_alike(text: &[u8], a: usize, b: usize) -> bool
+    requires { ⌜ (a < length (now text)) × (b < length (now text)) ⌝ }
+    ensures { λ r. ⌜ r ≡ alike (spaced (token·at (now (text .entry)) a .text)) (spaced (token·at (now (text .entry)) b .text)) ⌝ }
+{
+    texts_alike(text, text_start(text, a), text_start(text, b))
+}
+
+// The value of the decimal digits that are left of the text; 0 if there is another byte among them, or it takes more than 64 bits.
+fn digits_value(text: &[u8], c: Cursor) -> u64
+    requires { ⌜ (c .at ≤ length (now text)) × Readable (c .mode) ⌝ }
+    ensures { λ r. ⌜ r ≡ pick (leb (digits 0 (left (now (text .entry)) c)) largest) (digits 0 (left (now (text .entry)) c)) 0 ⌝ }
+{
+    let mut n: u64 = 0;
+    let mut d = c;
+    loop {
+        match next_byte(text, d) {
+            Item::Byte(b, e) => {
+                let digit = (48 <= b) & (b <= 57);
+                if !digit {
+                    return 0;
+                }
+                let v = (b - 48) as u64;
+                if (18446744073709551615 - v) / 10 < n {
+                    return 0;
+                }
+                n = n * 10 + v;
+                d = e;
+            }
+            Item::End => {
+                return n;
+            }
+        }
+    }
+}
+
+// The positive number that the token spells, or 0.
+pub fn number_at(text: &[u8], start: usize) -> u64
+    requires { ⌜ start < length (now text) ⌝ }
+    ensures { λ r. ⌜ r ≡ positive (token·at (now (text .entry)) start .text) ⌝ }
+{
+    let c = text_start(text, start);
+    match next_byte(text, c) {
+        Item::Byte(b, d) => {
+            if b == 43 {
+                return digits_value(text, d);
+            }
+            digits_value(text, c)
+        }
+        Item::End => 0,
+    }
+}

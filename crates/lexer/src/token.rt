@@ -1,0 +1,184 @@
+// What the token that begins at a byte can be taken for. A token is known by its start alone.
+
+ghost use Prim.Native.Nat.{_<_, _≤_, _+_};
+ghost use Rattle.lexer.specs.Bytes.{left, Plain, Readable, Yields};
+ghost use Rattle.lexer.specs.declared.Cursor.{Cursor};
+ghost use Rattle.lexer.specs.declared.Mode.{Mode};
+ghost use Rattle.lexer.specs.Lexing.{token·at};
+ghost use lib.ListN.{length, getD};
+ghost use mathlib.Core.Path.{_≡_};
+use super::Cursor;
+use super::Item;
+use super::Kind;
+use super::Mode;
+use super::Scan;
+use super::Symbol;
+use super::classes::symbol_at;
+use super::scanning::comment_end;
+
+// The kind of the token at `start`.
+pub fn kind_at(text: &[u8], start: usize) -> Kind
+    requires { ⌜ start < length (now text) ⌝ }
+    ensures { λ r. ⌜ r ≡ token·at (now (text .entry)) start .kind ⌝ }
+{
+    match symbol_at(text, start) {
+        Symbol::Newline => Kind::Newline,
+        Symbol::Single => Kind::Quoted,
+        Symbol::Double => Kind::String,
+        Symbol::Other => Kind::Word,
+        _ => Kind::Punctuation(text[start]),
+    }
+}
+
+// A cursor at the front of the token's text.
+pub fn text_start(text: &[u8], start: usize) -> Cursor
+    requires { ⌜ start < length (now text) ⌝ }
+    ensures { λ r. ⌜ (left (now (text .entry)) r ≡ token·at (now (text .entry)) start .text) × (r .at ≤ length (now (text .entry))) × Readable (r .mode) ⌝ }
+{
+    match symbol_at(text, start) {
+        Symbol::Newline => Cursor {
+            at: start,
+            mode: Mode::Comment(0),
+        },
+        Symbol::Single => Cursor {
+            at: start + 1,
+            mode: Mode::Quoted,
+        },
+        Symbol::Double => Cursor {
+            at: start + 1,
+            mode: Mode::String,
+        },
+        Symbol::Other => Cursor {
+            at: start,
+            mode: Mode::Word,
+        },
+        _ => Cursor {
+            at: start,
+            mode: Mode::Between,
+        },
+    }
+}
+
+// The next byte of a word: comments in it are passed over.
+fn word_byte(text: &[u8], from: usize) -> Item
+    requires { ⌜ from ≤ length (now text) ⌝ }
+    ensures { λ r. ⌜ Yields (now (text .entry)) (record { at = from; mode = Mode.Word }) r ⌝ }
+{
+    let mut i = from;
+    while i < text.len() {
+        match symbol_at(text, i) {
+            Symbol::Other | Symbol::Part => {
+                return Item::Byte(
+                    text[i],
+                    Cursor {
+                        at: i + 1,
+                        mode: Mode::Word,
+                    },
+                );
+            }
+            Symbol::Open => match comment_end(text, i) {
+                Scan::At(j) => {
+                    i = j;
+                }
+                Scan::Open(_) => {
+                    return Item::End;
+                }
+            },
+            _ => {
+                return Item::End;
+            }
+        }
+    }
+    Item::End
+}
+
+// The byte at i of quoted text, with the cursor behind it: every newline is LF, and the CR of a CR LF is none of its own.
+fn text_byte(text: &[u8], i: usize, mode: Mode) -> Item
+    requires { ⌜ (i < length (now text)) × Plain mode (getD (now text) i 0) ⌝ }
+    ensures { λ r. ⌜ Yields (now (text .entry)) (record { at = i; mode = mode }) r ⌝ }
+{
+    let b = text[i];
+    let next = i + 1;
+    if b == 13 {
+        if next < text.len() {
+            if text[next] == 10 {
+                return Item::Byte(10, Cursor { at: next + 1, mode });
+            }
+        }
+        return Item::Byte(10, Cursor { at: next, mode });
+    }
+    Item::Byte(b, Cursor { at: next, mode })
+}
+
+// The next byte of single-quoted text: two quotes are one.
+fn quoted_byte(text: &[u8], i: usize) -> Item
+    requires { ⌜ i ≤ length (now text) ⌝ }
+    ensures { λ r. ⌜ Yields (now (text .entry)) (record { at = i; mode = Mode.Quoted }) r ⌝ }
+{
+    if text.len() <= i {
+        return Item::End;
+    }
+    if text[i] == 39 {
+        let next = i + 1;
+        if next < text.len() {
+            if text[next] == 39 {
+                return Item::Byte(
+                    39,
+                    Cursor {
+                        at: next + 1,
+                        mode: Mode::Quoted,
+                    },
+                );
+            }
+        }
+        return Item::End;
+    }
+    text_byte(text, i, Mode::Quoted)
+}
+
+// The next byte of double-quoted text.
+fn string_byte(text: &[u8], i: usize) -> Item
+    requires { ⌜ i ≤ length (now text) ⌝ }
+    ensures { λ r. ⌜ Yields (now (text .entry)) (record { at = i; mode = Mode.String }) r ⌝ }
+{
+    if text.len() <= i {
+        return Item::End;
+    }
+    if text[i] == 34 {
+        return Item::End;
+    }
+    text_byte(text, i, Mode::String)
+}
+
+// The byte of a mark.
+fn mark_byte(text: &[u8], i: usize) -> Item
+    requires { ⌜ i ≤ length (now text) ⌝ }
+    ensures { λ r. ⌜ Yields (now (text .entry)) (record { at = i; mode = Mode.Between }) r ⌝ }
+{
+    if i < text.len() {
+        return Item::Byte(
+            text[i],
+            Cursor {
+                at: i + 1,
+                mode: Mode::Comment(0),
+            },
+        );
+    }
+    Item::End
+}
+
+// The next byte of a token's text. The cursor is one that `text_start` or this function gives.
+pub fn next_byte(text: &[u8], c: Cursor) -> Item
+    requires { ⌜ (c .at ≤ length (now text)) × Readable (c .mode) ⌝ }
+    ensures { λ r. ⌜ Yields (now (text .entry)) c r ⌝ }
+{
+    let at = c.at;
+    let mode = c.mode;
+    match mode {
+        Mode::Word => word_byte(text, at),
+        Mode::Quoted => quoted_byte(text, at),
+        Mode::String => string_byte(text, at),
+        Mode::Between => mark_byte(text, at),
+        _ => Item::End,
+    }
+}
