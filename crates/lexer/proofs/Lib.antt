@@ -3,6 +3,7 @@ pub mod BlankBytes
 pub mod Cases
 pub mod ClassLaws
 pub mod EndTurns
+pub mod HeldText
 pub mod KindTags
 pub mod LabelLaws
 pub mod LexedAnswers

@@ -29,13 +29,13 @@ move-small n p s h pos = go (newline? s) (return? s || part? s)
     go false true = omega arith
     go false false = omega arith
 
--- The loop: from here, with this place, the definition gives what it gives of the whole.
-pub record Placing (text : List ℕ) (at : ℕ) (p : Place) (i : ℕ) : Type 0 where
+-- The loop: from here, with this place, the definition gives the place that is asked for. Lines and columns begin at `most` or less.
+pub record Placing (text : List ℕ) (at most : ℕ) (asked p : Place) (i : ℕ) : Type 0 where
   pub below : i ≤ at
-  pub small : Small (i + 1) p
-  pub rest : place·from p (at - i) (drop i text) ≡ place text at
+  pub small : Small (i + most) p
+  pub rest : place·from p (at - i) (drop i text) ≡ asked
 
-pub placing-start : (text : List ℕ) (at : ℕ) → Placing text at (record { line = 1; column = 1 }) 0
+pub placing-start : (text : List ℕ) (at : ℕ) → Placing text at 1 (place text at) (record { line = 1; column = 1 }) 0
 unfolding place
 placing-start text at = record { below = omega arith; small = omega arith; rest = rw sub-zero }
 
@@ -44,17 +44,20 @@ passed : (text : List ℕ) (p : Place) (k i : ℕ) → i < length text
 unfolding place·from symbol·at first·symbol
 passed text p k i h = rw (drop-next text i)
 
-pub placing-turn : {text : List ℕ} {at : ℕ} {p q : Place} {i : ℕ} {s : Symbol}
-    → Placing text at p i → at ≤ length text → i < at → s ≡ symbol·at text i → q ≡ move p s → Placing text at q (i + 1)
-placing-turn {text} {at} {p} {q} {i} {s} h within more here moved =
-    rw (moved, here) (record { below = omega arith; small = move-small (i + 1) p (symbol·at text i) (h .small) (omega arith); rest = rest })
+pub placing-turn : {text : List ℕ} {at most : ℕ} {asked p q : Place} {i : ℕ} {s : Symbol}
+    → Placing text at most asked p i → 0 < most → at ≤ length text → i < at → s ≡ symbol·at text i → q ≡ move p s → Placing text at most asked q (i + 1)
+placing-turn {text} {at} {most} {asked} {p} {q} {i} {s} h pos within more here moved =
+    rw (moved, here) (record { below = omega arith; small = small; rest = rest })
   where
     one : at - i ≡ suc (at - (i + 1))
     one = omega arith
 
-    rest : place·from (move p (symbol·at text i)) (at - (i + 1)) (drop (i + 1) text) ≡ place text at
+    small : Small (i + 1 + most) (move p (symbol·at text i))
+    small = let n : i + most + 1 ≡ i + 1 + most = omega arith in rw n at (move-small (i + most) p (symbol·at text i) (h .small) (omega arith))
+
+    rest : place·from (move p (symbol·at text i)) (at - (i + 1)) (drop (i + 1) text) ≡ asked
     rest = sym (passed text p (at - (i + 1)) i (omega arith)) ∙ (rw one at (h .rest))
 
-pub placing-end : {text : List ℕ} {at : ℕ} {p : Place} {i : ℕ} → Placing text at p i → at ≤ i → p ≡ place text at
+pub placing-end : {text : List ℕ} {at most : ℕ} {asked p : Place} {i : ℕ} → Placing text at most asked p i → at ≤ i → p ≡ asked
 unfolding place·from
-placing-end {text} {at} {p} {i} h all = let none : at - i ≡ 0 = omega arith in rw none at (h .rest)
+placing-end {text} {at} {most} {asked} {p} {i} h all = let none : at - i ≡ 0 = omega arith in rw none at (h .rest)

@@ -15,8 +15,8 @@ use super::Step;
 use super::Symbol;
 use super::Walk;
 use super::classes::symbol_at;
+use super::lexer_of::place_in;
 use super::places::no_place;
-use super::places::place_at;
 use super::scanning::comment_end;
 use super::scanning::quoted_end;
 use super::scanning::string_end;
@@ -140,7 +140,7 @@ pub fn lex(text: &[u8], work: &mut [u32]) -> Lexed
     }
     match store_starts(text, work) {
         Walk::Done(count) => Lexed::Tokens(count),
-        Walk::Quote(mark) => Lexed::Refused(Refusal::OpenQuote, place_at(text, mark)),
-        Walk::Comment(mark) => Lexed::Refused(Refusal::OpenComment, place_at(text, mark)),
+        Walk::Quote(mark) => Lexed::Refused(Refusal::OpenQuote, place_in(text, mark)),
+        Walk::Comment(mark) => Lexed::Refused(Refusal::OpenComment, place_in(text, mark)),
     }
 }

@@ -2,6 +2,7 @@
 
 mod classes;
 mod label;
+pub mod lexer_of;
 mod lexing;
 mod places;
 mod refusal;
@@ -14,6 +15,7 @@ pub use label::is_label;
 pub use label::labels_alike;
 pub use label::number_at;
 pub use label::punct_at;
+pub use lexer_of::place_in;
 pub use lexing::lex;
 pub use places::place_at;
 pub use refusal::Refusal;

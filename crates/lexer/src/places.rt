@@ -16,7 +16,7 @@ pub fn no_place() -> Place
 }
 
 // The place after a byte with this symbol.
-fn move_on(p: Place, s: Symbol) -> Place
+pub fn move_on(p: Place, s: Symbol) -> Place
     requires { ⌜ (p .line < 2097152) × (p .column < 2097152) ⌝ }
     ensures { λ r. ⌜ r ≡ move p s ⌝ }
 {

@@ -10,5 +10,3 @@ returns c = refl
 
 pub no-place-spec : {M : Type 1} → statement M
 no-place-spec = tie.close (tie.spec returns)
-
--- timing

@@ -4,10 +4,12 @@ use Prim.Native.Nat.{_-_}
 use Rattle.lexer.proofs.PlaceLaws.{Placing, placing-start, placing-turn, placing-end}
 use Rattle.lexer.proofs.places.place_at.Statement.{statement}
 use Rattle.lexer.proofs.places.place_at.Tie as tie
+use Rattle.lexer.specs.Places.{place}
 use borrow.Author.Needs.{needs}
+use native.Mathlib.Omega.{arith}
 
 abbrev Inv-loop : tie.InvT-loop
-Inv-loop text at p₀ i₀ p i = Placing text at p i
+Inv-loop text at p₀ i₀ p i = Placing text at 1 (place text at) p i
 
 abbrev μ-loop : tie.MeasureT-loop
 μ-loop text at p₀ i₀ p i = at - i
@@ -30,7 +32,7 @@ loop-less c = search needs
 loop-again : tie.Need-loop-again Inv-loop μ-loop
 loop-again c =
     let l = c .before .before .before in
-    placing-turn (l .loop .inv) (l .before .before .pre .0) (c .before .before .loop-test .taken) (c .before .symbol-at .ensures) (c .move-on .ensures)
+    placing-turn (l .loop .inv) (omega arith) (l .before .before .pre .0) (c .before .before .loop-test .taken) (c .before .symbol-at .ensures) (c .move-on .ensures)
 
 returns : tie.Need-returns Inv-loop μ-loop
 returns c = placing-end (c .before .loop .inv) (c .loop-test .left)
