@@ -1,7 +1,9 @@
+pub mod AsciiRuns
 pub mod Basics
 pub mod BlankBytes
 pub mod Cases
 pub mod ClassLaws
+pub mod CommentBlocks
 pub mod EndTurns
 pub mod HeldText
 pub mod KindTags

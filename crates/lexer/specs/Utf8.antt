@@ -46,3 +46,8 @@ utf8·from (suc n) low high (b ∷ r) =
 -- Is the text UTF-8?
 unfoldable pub utf8 : List ℕ → Bool
 utf8 text = utf8·from 0 128 191 text
+
+-- Where the ASCII bytes at the front of the rest end. `i` is where the rest stands.
+unfoldable pub ascii·end : ℕ → List ℕ → ℕ
+ascii·end i [] = i
+ascii·end i (b ∷ r) = let more = ascii·end (suc i) r in pick (ltb b 128) more i

@@ -1,7 +1,9 @@
 // Where what a mark opens has ended: one loop for each kind of mark.
 
 ghost use Prim.Native.Nat.{_<_, _≤_, _+_};
-ghost use Rattle.lexer.specs.Scanning.{comment·end, quote·end, string·end, word·end};
+ghost use Rattle.lexer.specs.Base.{pick};
+ghost use Rattle.lexer.specs.Scanning.{comment·end, count·in, Nested, quote·end, string·end, word·end};
+ghost use lib.Dec.{eqb};
 ghost use lib.ListN.{length, drop};
 ghost use mathlib.Core.Bool.{false};
 ghost use mathlib.Core.Path.{_≡_};
@@ -9,13 +11,63 @@ use super::Scan;
 use super::Symbol;
 use super::classes::symbol_at;
 
+// A place in a comment, and how many more comments are open there.
+pub struct Nesting {
+    pub at: usize,
+    pub depth: usize,
+}
+
+fn one_if(x: u8, b: u8) -> u8
+    ensures { λ r. ⌜ (r ≡ pick (eqb x b) 1 0) × (r ≤ 1) ⌝ }
+{
+    if x == b {
+        return 1;
+    }
+    0
+}
+
+// How many of the eight bytes from `i` on are `b`.
+fn count_eight(text: &[u8], i: usize, b: u8) -> u8
+    requires { ⌜ i + 8 ≤ length (now text) ⌝ }
+    ensures { λ r. ⌜ (r ≡ count·in b 8 (drop i (now (text .entry)))) × (r ≤ 8) ⌝ }
+{
+    one_if(text[i], b)
+        + one_if(text[i + 1], b)
+        + one_if(text[i + 2], b)
+        + one_if(text[i + 3], b)
+        + one_if(text[i + 4], b)
+        + one_if(text[i + 5], b)
+        + one_if(text[i + 6], b)
+        + one_if(text[i + 7], b)
+}
+
+// From `from` on, where `depth` more comments are open, over blocks of eight bytes that have no more closing brackets than that: the comment
+// cannot end in them.
+fn comment_blocks(text: &[u8], from: usize, depth: usize) -> Nesting
+    requires { ⌜ (from ≤ length (now text)) × (depth ≤ from) ⌝ }
+    ensures { λ r. ⌜ Nested (now (text .entry)) from depth (r .at) (r .depth) ⌝ }
+{
+    let mut deep = depth;
+    let mut i = from;
+    while 8 <= text.len() - i {
+        let closing = count_eight(text, i, 93) as usize;
+        if deep < closing {
+            return Nesting { at: i, depth: deep };
+        }
+        deep = deep - closing + count_eight(text, i, 91) as usize;
+        i += 8;
+    }
+    Nesting { at: i, depth: deep }
+}
+
 // Behind the comment that opens at `mark`. Comments nest.
 pub fn comment_end(text: &[u8], mark: usize) -> Scan
     requires { ⌜ mark < length (now text) ⌝ }
     ensures { λ r. ⌜ r ≡ comment·end mark 0 (mark + 1) (drop (mark + 1) (now (text .entry))) ⌝ }
 {
-    let mut depth: usize = 0;
-    let mut i = mark + 1;
+    let first = comment_blocks(text, mark + 1, 0);
+    let mut depth = first.depth;
+    let mut i = first.at;
     while i < text.len() {
         let b = text[i];
         i += 1;
@@ -23,7 +75,9 @@ pub fn comment_end(text: &[u8], mark: usize) -> Scan
             if depth == 0 {
                 return Scan::At(i);
             }
-            depth -= 1;
+            let next = comment_blocks(text, i, depth - 1);
+            depth = next.depth;
+            i = next.at;
         } else {
             if b == 91 {
                 depth += 1;

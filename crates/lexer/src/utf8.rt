@@ -1,7 +1,9 @@
 // UTF-8, judged as Rust's `from_utf8` does.
 
-ghost use Prim.Native.Nat.{_<_, _≤_};
-ghost use Rattle.lexer.specs.Utf8.{utf8, after·lead};
+ghost use Prim.Native.Nat.{_≤_, _+_};
+ghost use Rattle.lexer.specs.Utf8.{utf8, after·lead, ascii·end};
+ghost use lib.ListN.{length, drop};
+ghost use mathlib.Core.Bool.{true};
 ghost use mathlib.Core.Path.{_≡_};
 
 // What follows a byte: so many bytes of the same character, the next of them from low to high.
@@ -42,6 +44,47 @@ fn after_lead(b: u8) -> Follow
     follows_by(3, 128, 191)
 }
 
+// Are the eight bytes from `i` on all ASCII? If so, the run of ASCII bytes goes on behind them.
+fn ascii_eight(text: &[u8], i: usize) -> bool
+    requires { ⌜ i + 8 ≤ length (now text) ⌝ }
+    ensures { λ r. ⌜ (r ≡ true → ascii·end i (drop i (now (text .entry))) ≡ ascii·end (i + 8) (drop (i + 8) (now (text .entry)))) ⌝ }
+{
+    let a = text[i] | text[i + 1] | text[i + 2] | text[i + 3];
+    let b = text[i + 4] | text[i + 5] | text[i + 6] | text[i + 7];
+    (a | b) < 128
+}
+
+// From `from` on, over blocks of sixteen ASCII bytes.
+fn ascii_blocks(text: &[u8], from: usize) -> usize
+    requires { ⌜ from ≤ length (now text) ⌝ }
+    ensures { λ r. ⌜ (r ≤ length (now (text .entry))) × (ascii·end r (drop r (now (text .entry))) ≡ ascii·end from (drop from (now (text .entry)))) ⌝ }
+{
+    let mut i = from;
+    while 16 <= text.len() - i {
+        let ascii = ascii_eight(text, i) & ascii_eight(text, i + 8);
+        if !ascii {
+            return i;
+        }
+        i += 16;
+    }
+    i
+}
+
+// The first byte from `from` on that is not ASCII, or the end.
+fn ascii_run(text: &[u8], from: usize) -> usize
+    requires { ⌜ from ≤ length (now text) ⌝ }
+    ensures { λ r. ⌜ r ≡ ascii·end from (drop from (now (text .entry))) ⌝ }
+{
+    let mut i = ascii_blocks(text, from);
+    while i < text.len() {
+        if 128 <= text[i] {
+            return i;
+        }
+        i += 1;
+    }
+    i
+}
+
 // Is the text UTF-8?
 pub fn is_utf8(text: &[u8]) -> bool
     ensures { λ r. ⌜ r ≡ utf8 (now (text .entry)) ⌝ }
@@ -52,8 +95,11 @@ pub fn is_utf8(text: &[u8]) -> bool
     let mut i = 0;
     while i < text.len() {
         let b = text[i];
+        i += 1;
         if more == 0 {
-            if 128 <= b {
+            if b < 128 {
+                i = ascii_run(text, i);
+            } else {
                 if (b < 194) | (244 < b) {
                     return false;
                 }
@@ -70,7 +116,6 @@ pub fn is_utf8(text: &[u8]) -> bool
             low = 128;
             high = 191;
         }
-        i += 1;
     }
     more == 0
 }

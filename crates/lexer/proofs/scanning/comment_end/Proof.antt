@@ -1,13 +1,13 @@
--- The function `comment_end` meets its contract. A turn passes one bracket or another byte, and keeps the end and that the depth is at most the
--- bytes passed. The measure is what is left of the text. Assumes nothing.
+-- The function `comment_end` meets its contract. A turn passes one bracket or another byte, and behind a closing bracket the blocks that cannot
+-- hold the end; it keeps the end and that the depth is at most the bytes passed. The measure is what is left of the text. Assumes nothing.
 use Prim.Native.Nat.{_-_}
 use Rattle.lexer.proofs.EndTurns.{Commenting, comment-over, comment-closes, comment-opens, comment-goes-on, comment-open}
-use Rattle.lexer.proofs.scanning.comment_end.Statement.{statement}
-use Rattle.lexer.proofs.scanning.comment_end.Tie as tie
 use borrow.Author.Needs.{needs}
 use lib.ListN.{length}
-use mathlib.Core.Path.{refl, sym, _∙_}
+use mathlib.Core.Path.{sym, _∙_}
 use native.Mathlib.Omega.{arith}
+use Rattle.lexer.proofs.scanning.comment_end.Statement.{statement}
+use Rattle.lexer.proofs.scanning.comment_end.Tie as tie
 
 abbrev Inv-loop : tie.InvT-loop
 Inv-loop text mark depth₀ i₀ depth i = Commenting text mark depth i
@@ -15,34 +15,39 @@ Inv-loop text mark depth₀ i₀ depth i = Commenting text mark depth i
 abbrev μ-loop : tie.MeasureT-loop
 μ-loop text mark depth₀ i₀ depth i = length text - i
 
-add-i : tie.Need-add-i Inv-loop μ-loop
-add-i c = search needs
+add-comment-blocks : tie.Need-add-comment-blocks Inv-loop μ-loop
+add-comment-blocks c = search needs
+
+comment-blocks-requires : tie.Need-comment-blocks-requires Inv-loop μ-loop
+comment-blocks-requires c κs = search needs
 
 loop-holds : tie.Need-loop-holds Inv-loop μ-loop
-loop-holds c = record { within = omega arith; deep = omega arith; rest = refl }
+loop-holds c = let e = c .comment-blocks .ensures in record { within = e .within; deep = e .low; rest = e .rest _ }
 
 shared-slice-read-b : tie.Need-shared-slice-read-b Inv-loop μ-loop
 shared-slice-read-b c = search needs
 
-add-i-2 : tie.Need-add-i-2 Inv-loop μ-loop
-add-i-2 c = search needs
+add-i : tie.Need-add-i Inv-loop μ-loop
+add-i c = search needs
 
 returns : tie.Need-returns Inv-loop μ-loop
 returns c = sym (comment-over _ _ _ (c .before .before .before .loop-test .taken) (c .before .if1 .taken) _ (c .if2 .taken)) ∙ c .before .before .before .before .loop .inv .rest
 
-sub-depth : tie.Need-sub-depth Inv-loop μ-loop
-sub-depth c = search needs
+sub-comment-blocks : tie.Need-sub-comment-blocks Inv-loop μ-loop
+sub-comment-blocks c = search needs
+
+comment-blocks-requires-2 : tie.Need-comment-blocks-requires-2 Inv-loop μ-loop
+comment-blocks-requires-2 c κs = search needs
 
 loop-less : tie.Need-loop-less Inv-loop μ-loop
 loop-less c = search needs
 
 loop-again : tie.Need-loop-again Inv-loop μ-loop
 loop-again c =
-    record {
-      within = omega arith;
-      deep = omega arith;
-      rest = sym (comment-closes _ _ _ (c .before .before .before .loop-test .taken) (c .before .if1 .taken) _ (c .if2 .left)) ∙ c .before .before .before .before .loop .inv .rest;
-    }
+    let l = c .before .before .before .before .before in
+    let e = c .comment-blocks2 .ensures in
+    let over = comment-closes _ _ _ (c .before .before .before .before .loop-test .taken) (c .before .before .if1 .taken) (l .loop .depth) (c .before .if2 .left) in
+    record { within = e .within; deep = e .low; rest = e .rest _ ∙ (sym over ∙ l .loop .inv .rest) }
 
 add-depth : tie.Need-add-depth Inv-loop μ-loop
 add-depth c = search needs
@@ -78,12 +83,14 @@ comment-end-spec =
     (tie.spec
     Inv-loop
     μ-loop
-    add-i
+    add-comment-blocks
+    comment-blocks-requires
     loop-holds
     shared-slice-read-b
-    add-i-2
+    add-i
     returns
-    sub-depth
+    sub-comment-blocks
+    comment-blocks-requires-2
     loop-less
     loop-again
     add-depth
