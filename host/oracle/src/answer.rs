@@ -70,6 +70,18 @@ pub fn lookup(name: &[u8], record: &[u8]) -> Vec<u8> {
     format!("refused={number}\nstart={start}\nlength={length}\n").into_bytes()
 }
 
+/// The count of a text's tokens, or the refusal.
+pub fn count(text: &[u8]) -> Result<usize, Refusal> {
+    if text.len() > TEXT_LIMIT {
+        return Err(nowhere(1));
+    }
+    let text = std::str::from_utf8(text).map_err(|_| nowhere(3))?;
+    match lex(text) {
+        Ok(tokens) => Ok(tokens.len()),
+        Err(error) => Err(refusal(&error)),
+    }
+}
+
 /// The tokens of a text, one to a line: kind, line, column and the text's bytes in hexadecimal.
 pub fn tokens(text: &[u8]) -> Answer {
     if text.len() > TEXT_LIMIT {
@@ -113,11 +125,16 @@ pub fn refusal(error: &Error) -> Refusal {
 }
 
 fn refused(number: u32) -> Answer {
-    Answer::Refused(Refusal {
+    Answer::Refused(nowhere(number))
+}
+
+/// A refusal without a place.
+fn nowhere(number: u32) -> Refusal {
+    Refusal {
         number,
         line: 0,
         column: 0,
-    })
+    }
 }
 
 fn within(bytes: Vec<u8>, buffer: u64) -> Answer {

@@ -1,0 +1,2 @@
+-- The definitions of the lexer for programs in other languages.
+pub mod Code

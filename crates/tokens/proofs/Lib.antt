@@ -1,0 +1,2 @@
+pub mod FramedTexts
+pub mod StoredStarts

@@ -1,0 +1,2 @@
+-- The definitions of the program that prints tokens.
+pub mod Framed
