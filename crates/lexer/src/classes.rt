@@ -268,9 +268,16 @@ const CLASSES: [u8; 256] = [
     6,
 ];
 
+// The class of a letter or a digit is other, and needs no look in the table, which is built anew at each look.
 pub fn class_number(b: u8) -> u8
     ensures { λ r. ⌜ r ≡ class·number (class b) ⌝ }
 {
+    let small = (97 <= b) & (b <= 122);
+    let capital = (65 <= b) & (b <= 90);
+    let digit = (48 <= b) & (b <= 57);
+    if small | capital | digit {
+        return 5;
+    }
     let i = b as usize;
     CLASSES[i]
 }
