@@ -59,6 +59,10 @@ module _ (text : List ℕ) (mark i : ℕ) (h : i < length text) where
   unfolding quote·end pick
   quote-doubled e c t = rw (t, add-one i, drop-cons text i 0, e)
 
+  pub quote-same : eqb (getD text i 0) 39 ≡ false → quote·end mark false i (drop i text) ≡ quote·end mark false (i + 1) (drop (i + 1) text)
+  unfolding quote·end pick
+  quote-same e = rw (add-one i, drop-cons text i 0, e)
+
   pub quote-goes-on : (closing : Bool) → closing ≡ false → quote·end mark closing i (drop i text) ≡ quote·end mark (eqb (getD text i 0) 39) (i + 1) (drop (i + 1) text)
   unfolding quote·end pick
   quote-goes-on c f = rw (f, add-one i, drop-cons text i 0) (go (eqb (getD text i 0) 39))

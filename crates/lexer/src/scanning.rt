@@ -92,22 +92,19 @@ pub fn quoted_end(text: &[u8], mark: usize) -> Scan
     requires { ⌜ mark < length (now text) ⌝ }
     ensures { λ r. ⌜ r ≡ quote·end mark false (mark + 1) (drop (mark + 1) (now (text .entry))) ⌝ }
 {
-    let mut closing = false;
     let mut i = mark + 1;
     while i < text.len() {
         let quote = text[i] == 39;
-        if closing {
-            if !quote {
+        i += 1;
+        if quote {
+            if text.len() <= i {
                 return Scan::At(i);
             }
-            closing = false;
-        } else {
-            closing = quote;
+            if text[i] != 39 {
+                return Scan::At(i);
+            }
+            i += 1;
         }
-        i += 1;
-    }
-    if closing {
-        return Scan::At(i);
     }
     Scan::Open(mark)
 }

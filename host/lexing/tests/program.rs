@@ -7,7 +7,7 @@ use std::process::Command;
 use lexing::traps::printed;
 use oracle::frames::write_frame;
 
-const BATCHES: u64 = 100;
+const BATCHES: u64 = 200;
 const TEXTS: u64 = 500;
 const SEED: u64 = 28;
 
