@@ -3,7 +3,7 @@ use Prim.Native.Nat.{ℕ, suc, _+_, _-_, _≤_, _<_}
 use Rattle.lexer.proofs.ListLaws.{drop-next}
 use Rattle.lexer.specs.Base.{pick}
 use Rattle.lexer.specs.Classes.{newline?, return?, part?}
-use Rattle.lexer.specs.Places.{move, place·from, place}
+use Rattle.lexer.specs.Places.{move, place·from}
 use Rattle.lexer.specs.Scanning.{first·symbol, symbol·at}
 use Rattle.lexer.specs.declared.Place.{Place}
 use Rattle.lexer.specs.declared.Symbol.{Symbol}
@@ -11,7 +11,6 @@ use lib.ListN.{length, drop}
 use mathlib.Core.Bool.{Bool, true, false, _||_}
 use mathlib.Core.List.{List}
 use mathlib.Core.Path.{_≡_, sym, _∙_}
-use native.Mathlib.Nat.{sub-zero}
 use native.Mathlib.Omega.{arith}
 
 -- A place whose line and column are so small
@@ -34,10 +33,6 @@ pub record Placing (text : List ℕ) (at most : ℕ) (asked p : Place) (i : ℕ)
   pub below : i ≤ at
   pub small : Small (i + most) p
   pub rest : place·from p (at - i) (drop i text) ≡ asked
-
-pub placing-start : (text : List ℕ) (at : ℕ) → Placing text at 1 (place text at) (record { line = 1; column = 1 }) 0
-unfolding place
-placing-start text at = record { below = omega arith; small = omega arith; rest = rw sub-zero }
 
 passed : (text : List ℕ) (p : Place) (k i : ℕ) → i < length text
     → place·from p (suc k) (drop i text) ≡ place·from (move p (symbol·at text i)) k (drop (i + 1) text)

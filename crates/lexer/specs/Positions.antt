@@ -6,10 +6,12 @@ use lib.ListN.{length, drop}
 use mathlib.Core.List.{List}
 use Rattle.lexer.specs.Base.{pick}
 use Rattle.lexer.specs.Places.{move, place·from}
-use Rattle.lexer.specs.Scanning.{symbol·at}
+use Rattle.lexer.specs.Scanning.{symbol·at, comment·end}
 use Rattle.lexer.specs.declared.Place.{Place}
+use Rattle.lexer.specs.declared.Scan.{Scan}
 use Rattle.lexer.specs.declared.lexer_of.Ahead.{Ahead}
 use Rattle.lexer.specs.declared.lexer_of.Lexer.{Lexer}
+use Rattle.lexer.specs.declared.lexer_of.Passed.{Passed}
 use Rattle.lexer.specs.declared.lexer_of.Position.{Position}
 
 -- What stands at a byte: its symbol, or the end behind the last byte.
@@ -29,6 +31,15 @@ moved·on text at line column =
 -- The position of the byte `to`, from the byte at `at`, which stands at this line and column.
 unfoldable pub moved·to : List ℕ → ℕ → ℕ → ℕ → ℕ → Position
 moved·to text at line column to = position to (place·from (record { line = line; column = column }) (to - at) (drop at text))
+
+-- What is passed over with a comment whose mark is at `at`, which stands at this line and column: to where it has ended; or the place of its
+-- mark, if it does not end.
+unfoldable pub passed : List ℕ → ℕ → ℕ → ℕ → Scan → Passed
+passed text at line column (Scan.At to) = Passed.Behind (moved·to text at line column to)
+passed text at line column (Scan.Open mark) = Passed.Open (record { line = line; column = column })
+
+unfoldable pub passed·comment : List ℕ → ℕ → ℕ → ℕ → Passed
+passed·comment text at line column = passed text at line column (comment·end at 0 (at + 1) (drop (at + 1) text))
 
 -- What can be reached from a position: a byte at it or behind it, in a text of at most 1,048,576 bytes. The bounds keep lines and columns small.
 pub record Reaches (text : List ℕ) (at line column to : ℕ) : Type 0 where

@@ -3,13 +3,15 @@
 
 ghost use Prim.Native.Nat.{_<_, _≤_};
 ghost use Rattle.lexer.specs.Places.{place};
-ghost use Rattle.lexer.specs.Positions.{ahead, moved·on, moved·to, Reaches, start, lexer·at, place·of};
+ghost use Rattle.lexer.specs.Positions.{ahead, moved·on, moved·to, passed·comment, Reaches, start, lexer·at, place·of};
 ghost use lib.ListN.{length};
 ghost use mathlib.Core.Path.{_≡_};
 use super::Place;
+use super::Scan;
 use super::Symbol;
 use super::classes::symbol_at;
 use super::places::move_on;
+use super::scanning::comment_end;
 
 // A byte of a text, with its line and column.
 pub struct Position {
@@ -22,6 +24,12 @@ pub struct Position {
 pub enum Ahead {
     Symbol(Symbol),
     End,
+}
+
+// Behind a comment, or the place of its mark if it does not end.
+pub enum Passed {
+    Behind(Position),
+    Open(Place),
 }
 
 // A text beside a position in it.
@@ -76,6 +84,17 @@ pub fn moved_to(text: &[u8], at: usize, line: usize, column: usize, to: usize) -
     }
 }
 
+// Behind the comment whose mark is at `at`.
+pub fn comment_at(text: &[u8], at: usize, line: usize, column: usize) -> Passed
+    requires { ⌜ (at < length (now text)) × Reaches (now text) at line column (length (now text)) ⌝ }
+    ensures { λ r. ⌜ r ≡ passed·comment (now (text .entry)) at line column ⌝ }
+{
+    match comment_end(text, at) {
+        Scan::At(to) => Passed::Behind(moved_to(text, at, line, column, to)),
+        Scan::Open(_) => Passed::Open(Place { line, column }),
+    }
+}
+
 // A lexer at the front of a text.
 pub fn new<'a>(text: &'a [u8]) -> Lexer<'a>
     ensures { λ r. ⌜ r ≡ lexer·at (text .entry) start ⌝ }
@@ -109,6 +128,14 @@ pub fn next<'a>(l: Lexer<'a>) -> Lexer<'a>
     }
 }
 
+// Behind the comment whose mark is at its place.
+pub fn comment<'a>(l: Lexer<'a>) -> Passed
+    requires { ⌜ (l .at < length (now (l .text))) × Reaches (now (l .text)) (l .at) (l .line) (l .column) (length (now (l .text))) ⌝ }
+    ensures { λ r. ⌜ r ≡ passed·comment (now (l .entry .text)) (l .entry .at) (l .entry .line) (l .entry .column) ⌝ }
+{
+    comment_at(l.text, l.at, l.line, l.column)
+}
+
 // On to the byte `to`.
 pub fn skip_to<'a>(l: Lexer<'a>, to: usize) -> Lexer<'a>
     requires { ⌜ Reaches (now (l .text)) (l .at) (l .line) (l .column) to ⌝ }
@@ -134,7 +161,7 @@ pub fn place_of<'a>(l: Lexer<'a>) -> Place
 }
 
 // The place of the byte at `at`, in a text of at most 1,048,576 bytes. Its parameters are plain, so whoever calls it needs no proof by hand.
-pub fn place_in(text: &[u8], at: usize) -> Place
+pub fn place_at(text: &[u8], at: usize) -> Place
     requires { ⌜ (at ≤ length (now text)) × (length (now text) ≤ 1048576) ⌝ }
     ensures { λ r. ⌜ r ≡ place (now (text .entry)) at ⌝ }
 {

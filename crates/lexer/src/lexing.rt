@@ -15,7 +15,7 @@ use super::Step;
 use super::Symbol;
 use super::Walk;
 use super::classes::symbol_at;
-use super::lexer_of::place_in;
+use super::lexer_of::place_at;
 use super::places::no_place;
 use super::scanning::comment_end;
 use super::scanning::quoted_end;
@@ -140,7 +140,7 @@ pub fn lex(text: &[u8], work: &mut [u32]) -> Lexed
     }
     match store_starts(text, work) {
         Walk::Done(count) => Lexed::Tokens(count),
-        Walk::Quote(mark) => Lexed::Refused(Refusal::OpenQuote, place_in(text, mark)),
-        Walk::Comment(mark) => Lexed::Refused(Refusal::OpenComment, place_in(text, mark)),
+        Walk::Quote(mark) => Lexed::Refused(Refusal::OpenQuote, place_at(text, mark)),
+        Walk::Comment(mark) => Lexed::Refused(Refusal::OpenComment, place_at(text, mark)),
     }
 }

@@ -44,16 +44,16 @@ enum-known-count c = search needs
 enum-known-mark : tie.Need-enum-known-mark
 enum-known-mark c = search needs
 
-place-in-requires : tie.Need-place-in-requires
-place-in-requires c κs =
+place-at-requires : tie.Need-place-at-requires
+place-at-requires c κs =
     let w = c .before .before .before .before .before in
     (open-within _ _ _ (walked-as _ _ _ _ (w .store-starts .ensures) (c .before .mark .given .1)), w .before .before .before .before .before .if1 .left)
 
 enum-known-mark-2 : tie.Need-enum-known-mark-2
 enum-known-mark-2 c = search needs
 
-place-in-requires-2 : tie.Need-place-in-requires-2
-place-in-requires-2 c κs =
+place-at-requires-2 : tie.Need-place-at-requires-2
+place-at-requires-2 c κs =
     let w = c .before .before .before .before .before in
     (open-within _ _ _ (walked-as _ _ _ _ (w .store-starts .ensures) (c .before .mark2 .given .1)), w .before .before .before .before .before .if1 .left)
 
@@ -75,7 +75,7 @@ returns-5 c =
     let w = c .before .before .before .before .before .before in
     let u = w .before .before .before in
     let valid = sym (u .is-utf8 .ensures) ∙ not-false _ (w .before .before .if3 .left) in
-    answer-open _ _ _ (u .before .before .if1 .left) (u .before .if2 .left) valid _ _ _ (walked-as _ _ _ _ (w .store-starts .ensures) (c .before .before .mark .given .1)) (c .place-in .ensures)
+    answer-open _ _ _ (u .before .before .if1 .left) (u .before .if2 .left) valid _ _ _ (walked-as _ _ _ _ (w .store-starts .ensures) (c .before .before .mark .given .1)) (c .place-at .ensures)
 
 same-length-3 : tie.Need-same-length-3
 same-length-3 c = search needs
@@ -85,7 +85,7 @@ returns-6 c =
     let w = c .before .before .before .before .before .before in
     let u = w .before .before .before in
     let valid = sym (u .is-utf8 .ensures) ∙ not-false _ (w .before .before .if3 .left) in
-    answer-open _ _ _ (u .before .before .if1 .left) (u .before .if2 .left) valid _ _ _ (walked-as _ _ _ _ (w .store-starts .ensures) (c .before .before .mark2 .given .1)) (c .place-in2 .ensures)
+    answer-open _ _ _ (u .before .before .if1 .left) (u .before .if2 .left) valid _ _ _ (walked-as _ _ _ _ (w .store-starts .ensures) (c .before .before .mark2 .given .1)) (c .place-at2 .ensures)
 
 pub lex-spec : {M : Type 1} → statement M
 lex-spec =
@@ -103,9 +103,9 @@ lex-spec =
     store-starts-requires
     enum-known-count
     enum-known-mark
-    place-in-requires
+    place-at-requires
     enum-known-mark-2
-    place-in-requires-2
+    place-at-requires-2
     same-length
     returns-4
     same-length-2

@@ -1,4 +1,4 @@
--- The function place_in meets its contract: a walk of its MIR, by hand. A lexer that one call returns is held in a local and passed to the next. All that the proof knows of `new`, `skip_to` and `place_of` is that each meets its contract.
+-- The function place_at meets its contract: a walk of its MIR, by hand. A lexer that one call returns is held in a local and passed to the next. All that the proof knows of `new`, `skip_to` and `place_of` is that each meets its contract.
 -- The machine value that a call returns is stored and passed on as it is. In a local of a body MIR erases the lifetime of the struct's type, so the value is shown to have the type at `erased`: what the struct owns does not say the lifetime's name.
 -- Assumes nothing.
 use mathlib.Core.Path.{_≡_, refl, ap, _∙_}
@@ -60,16 +60,16 @@ use Rattle.lexer.proofs.lexer_of.place_of as place-of
 use Rattle.lexer.proofs.lexer_of.place_of.Symbol as place-of-def
 use Rattle.lexer.proofs.lexer_of.place_of.Symbol.{name as #lexer·place-of}
 use Rattle.lexer.proofs.lexer_of.place_of.Met as place-of-thm
-use Rattle.lexer.proofs.lexer_of.place_in.Key.{name as #lexer·place-in}
-use Rattle.lexer.proofs.lexer_of.place_in as place-in
-use Rattle.lexer.proofs.lexer_of.place_in.Statement as stated
-use Rattle.lexer.proofs.lexer_of.place_in.Code as code
+use Rattle.lexer.proofs.lexer_of.place_at.Key.{name as #lexer·place-at}
+use Rattle.lexer.proofs.lexer_of.place_at as place-at
+use Rattle.lexer.proofs.lexer_of.place_at.Statement as stated
+use Rattle.lexer.proofs.lexer_of.place_at.Code as code
 
 -- the struct's type, over the signature's lifetimes
 abbrev B : Lfts 1 → RattleType
 B κs = T.the-row (namedLft 1 0 tt κs)
 
-abbrev stayed : Stays (place-in.ended .signature .params) (place-in.ended .kept)
+abbrev stayed : Stays (place-at.ended .signature .params) (place-at.ended .kept)
 stayed = (stay-none-slice (0 ∷ []) tt (plain (λ _. u8)) yes, (stay-none (λ _. usize) yes, tt))
 
 -- what `skip_to` answers at a lexer
@@ -100,17 +100,17 @@ module _ {M : Type 1} (𝓤 : URA M) (H : Heap 𝓤) (A : Atoms 𝓤) (W : Given
   abbrev αᵉ : NamedLft
   αᵉ = record { mir = erased; lft = κ }
 
-  abbrev at : Vals place-in.signature (κ, tt)
+  abbrev at : Vals place-at.signature (κ, tt)
   at = (slice s ∷ [], (vint w64 n ∷ [], tt))
 
   abbrev Post : Val → SProp 𝓤
-  Post = walkOf 𝓤 H A place-in.ended stayed (place-in.clauses 𝓤 H A mem run) .post (((κ, tt), (q, tt), tt, (s, (n, tt)), at), tt)
+  Post = walkOf 𝓤 H A place-at.ended stayed (place-at.clauses 𝓤 H A mem run) .post (((κ, tt), (q, tt), tt, (s, (n, tt)), at), tt)
 
   -- the call of `new`: what it is passed, what it asks, and what is known of its result
   abbrev to-new : New 𝓤 H A mem run .Ghost
   to-new = (((κ, tt), (q, tt), tt, (s, tt), (slice s ∷ [], tt)), tt)
 
-  goes-new : ent 𝓤 (onEntry 𝓤 H A place-in.signature (κ, tt) (q, tt) (s, (n, tt)) at) (sep 𝓤 (New 𝓤 H A mem run .pre to-new) (sem 𝓤 H A (Text κ s)))
+  goes-new : ent 𝓤 (onEntry 𝓤 H A place-at.signature (κ, tt) (q, tt) (s, (n, tt)) at) (sep 𝓤 (New 𝓤 H A mem run .pre to-new) (sem 𝓤 H A (Text κ s)))
   goes-new =
       qed W ((‵ (flft κ q) ⊛ ‵ ftrue) ∷ ‵ (owns (ShrSlice (named 0) κ u8 ∷ usize ∷ []) (s, (n, tt)) at) ∷ []) ∵
       move ! (1 ∷ []) $ fsplit ! $ move ! (1 ∷ []) $ drop ! $ use1 W (‵ (Text κ s) ⊛ ‵ (Text κ s)) (shr-slice-copy 𝓤 H A W (named 0) κ u8 .twice s (slice s ∷ [])) $ split ! $
@@ -144,13 +144,13 @@ module _ {M : Type 1} (𝓤 : URA M) (H : Heap 𝓤) (A : Atoms 𝓤) (W : Given
   exits : (t : Place) (u : Val) → t ≡ place (now s) n → ent 𝓤 (⋆ 𝓤 H A (‵ (P.the-row .own t (u ∷ [])) ∷ (‵ (flft κ q) ⊛ ‵ ftrue) ∷ ‵ (Text κ s) ∷ [])) (Post u)
   exits t u e =
       qed W (‵ (P.the-row .own t (u ∷ [])) ∷ (‵ (flft κ q) ⊛ ‵ ftrue) ∷ ‵ (Text κ s) ∷ []) ∵
-      suffices ! _ (ends-at 𝓤 H A place-in.ended stayed (place-in.clauses 𝓤 H A mem run) W (((κ, tt), (q, tt), tt, (s, (n, tt)), at), tt) u t (tt, (tt, tt)) (tt, (tt, tt))) $ says ! e $
+      suffices ! _ (ends-at 𝓤 H A place-at.ended stayed (place-at.clauses 𝓤 H A mem run) W (((κ, tt), (q, tt), tt, (s, (n, tt)), at), tt) u t (tt, (tt, tt)) (tt, (tt, tt))) $ says ! e $
       move ! (1 ∷ []) $ frame ! $ nothing ! $ owned ! usize (Is usize) (uint-makes 𝓤 H A W w64) n _ (refl, n-fits) $ fjoin ! $ move ! (2 ∷ 0 ∷ []) $ fjoin ! $ frame ! $ done !
 
   module _ (C : Calls 𝓤 H) (Λ : Loops 𝓤 H) (fm : FmC 𝓤 H (W .laws) C) (known-new : Triple 𝓤 (C #lexer·new) (New 𝓤 H A mem run)) (known-skip : Triple 𝓤 (C #lexer·skip-to) (SkipTo 𝓤 H A mem run)) (known-place : Triple 𝓤 (C #lexer·place-of) (PlaceOf 𝓤 H A mem run)) where
-    walk : Is (ShrSlice (named 0) κ u8) s (slice s ∷ []) → ent 𝓤 (onEntry 𝓤 H A place-in.signature (κ, tt) (q, tt) (s, (n, tt)) at) (WpFn 𝓤 H C Λ code.function (slice s ∷ vint w64 n ∷ []) Post)
+    walk : Is (ShrSlice (named 0) κ u8) s (slice s ∷ []) → ent 𝓤 (onEntry 𝓤 H A place-at.signature (κ, tt) (q, tt) (s, (n, tt)) at) (WpFn 𝓤 H C Λ code.function (slice s ∷ vint w64 n ∷ []) Post)
     walk p =
-        qed W (raw (onEntry 𝓤 H A place-in.signature (κ, tt) (q, tt) (s, (n, tt)) at) ∷ []) ∵ enter ! C Λ code.function (slice s ∷ vint w64 n ∷ []) _ $
+        qed W (raw (onEntry 𝓤 H A place-at.signature (κ, tt) (q, tt) (s, (n, tt)) at) ∷ []) ∵ enter ! C Λ code.function (slice s ∷ vint w64 n ∷ []) _ $
         alloc1 ! (λ l₀. alloc1 ! (λ l₁. alloc1 ! (λ l₂. alloc1 ! (λ l₃. alloc1 ! (λ l₄. alloc0 ! $ params1 ! $
         pass1 ! (init ! 6 refl (shr-slice-lawful 𝓤 H A W (named 0) κ u8 .typed s (slice s ∷ []) p .0)) $ pass1 ! (init ! 4 refl (tt, record { fits = n-fits })) $ pass0 ! $
         move ! (10 ∷ []) $ use1 W (raw (New 𝓤 H A mem run .pre to-new) ⊛ ‵ (Text κ s)) goes-new $ split ! $
@@ -179,23 +179,23 @@ module _ {M : Type 1} (𝓤 : URA M) (H : Heap 𝓤) (A : Atoms 𝓤) (W : Given
         by ! (exits t u″ (placed s n r r′ t e e′ e″)))))))))))))))))))
 
 module _ {M : Type 1} (𝓤 : URA M) (H : Heap 𝓤) (A : Atoms 𝓤) (W : Given 𝓤 H A) (mem : Memory → SProp 𝓤) (run : Routine → Fun 𝓤) where
-  place-in-walks : (C : Calls 𝓤 H) (Λ : Loops 𝓤 H) → FmC 𝓤 H (W .laws) C → Triple 𝓤 (C #lexer·new) (New 𝓤 H A mem run) → Triple 𝓤 (C #lexer·skip-to) (SkipTo 𝓤 H A mem run) → Triple 𝓤 (C #lexer·place-of) (PlaceOf 𝓤 H A mem run)
-      → Walks 𝓤 H A place-in.ended stayed (WpFn 𝓤 H C Λ code.function) (place-in.clauses 𝓤 H A mem run)
-  place-in-walks C Λ fm known-new known-skip known-place = walked 𝓤 H A place-in.ended stayed (place-in.clauses 𝓤 H A mem run) (WpFn 𝓤 H C Λ code.function) (λ κs. (slice-vals, (uint-vals w64, tt))) (λ κs. (shr-slice-tells (named 0) (κs .0) u8, (uint-tells w64, tt)))
+  place-at-walks : (C : Calls 𝓤 H) (Λ : Loops 𝓤 H) → FmC 𝓤 H (W .laws) C → Triple 𝓤 (C #lexer·new) (New 𝓤 H A mem run) → Triple 𝓤 (C #lexer·skip-to) (SkipTo 𝓤 H A mem run) → Triple 𝓤 (C #lexer·place-of) (PlaceOf 𝓤 H A mem run)
+      → Walks 𝓤 H A place-at.ended stayed (WpFn 𝓤 H C Λ code.function) (place-at.clauses 𝓤 H A mem run)
+  place-at-walks C Λ fm known-new known-skip known-place = walked 𝓤 H A place-at.ended stayed (place-at.clauses 𝓤 H A mem run) (WpFn 𝓤 H C Λ code.function) (λ κs. (slice-vals, (uint-vals w64, tt))) (λ κs. (shr-slice-tells (named 0) (κs .0) u8, (uint-tells w64, tt)))
       (λ κs qs bounds a g are. needs 𝓤 _ _ (λ ok. walk 𝓤 H A W mem run (κs .0) (qs .0) (a .0) (a .1 .0) (are .1 .0 .1) ok C Λ fm known-new known-skip known-place (are .0)))
 
-place-in-meets : {M : Type 1} (𝓤 : URA M) (H : Heap 𝓤) (A : Atoms 𝓤) (W : Given 𝓤 H A) (mem : Memory → SProp 𝓤) (run : Routine → Fun 𝓤) (𝓣 : Tables 𝓤 H)
+place-at-meets : {M : Type 1} (𝓤 : URA M) (H : Heap 𝓤) (A : Atoms 𝓤) (W : Given 𝓤 H A) (mem : Memory → SProp 𝓤) (run : Routine → Fun 𝓤) (𝓣 : Tables 𝓤 H)
     → Triple 𝓤 (𝓣 .C #lexer·new) (New 𝓤 H A mem run) → Triple 𝓤 (𝓣 .C #lexer·skip-to) (SkipTo 𝓤 H A mem run) → Triple 𝓤 (𝓣 .C #lexer·place-of) (PlaceOf 𝓤 H A mem run)
-    → Meets 𝓤 H A place-in.signature (WpFn 𝓤 H (𝓣 .C) (𝓣 .Λ) code.function) (place-in.spec 𝓤 H A mem run)
-place-in-meets 𝓤 H A W mem run 𝓣 known-new known-skip known-place = walk-meets 𝓤 H A place-in.ended stayed W (goes-none-slice 𝓤 H A W 1 (0 ∷ []) tt (plain (λ _. u8)) yes, (goes-none 𝓤 H A W 1 (λ _. usize) yes (λ κs x f. refl), tt)) (place-in.clauses 𝓤 H A mem run) (WpFn 𝓤 H (𝓣 .C) (𝓣 .Λ) code.function) (WpFn-mono 𝓤 H (W .laws) 𝓣 code.function)
-    (place-in-walks 𝓤 H A W mem run (𝓣 .C) (𝓣 .Λ) (fmOf 𝓤 H (W .laws) 𝓣) known-new known-skip known-place)
+    → Meets 𝓤 H A place-at.signature (WpFn 𝓤 H (𝓣 .C) (𝓣 .Λ) code.function) (place-at.spec 𝓤 H A mem run)
+place-at-meets 𝓤 H A W mem run 𝓣 known-new known-skip known-place = walk-meets 𝓤 H A place-at.ended stayed W (goes-none-slice 𝓤 H A W 1 (0 ∷ []) tt (plain (λ _. u8)) yes, (goes-none 𝓤 H A W 1 (λ _. usize) yes (λ κs x f. refl), tt)) (place-at.clauses 𝓤 H A mem run) (WpFn 𝓤 H (𝓣 .C) (𝓣 .Λ) code.function) (WpFn-mono 𝓤 H (W .laws) 𝓣 code.function)
+    (place-at-walks 𝓤 H A W mem run (𝓣 .C) (𝓣 .Λ) (fmOf 𝓤 H (W .laws) 𝓣) known-new known-skip known-place)
 
-pub place-in-spec : {M : Type 1} → stated.statement M
+pub place-at-spec : {M : Type 1} → stated.statement M
 unfolding code.routine tablesOf
-place-in-spec 𝓤 H 𝓜 𝓖 𝓡 =
-    entered 𝓤 H (tripleOf 𝓤 H (𝓖 .A) place-in.signature (place-in.spec 𝓤 H (𝓖 .A) (𝓜 .mem) (𝓡 .run)))
-    (tables 𝓤 H 𝓜 𝓡 code.env .C) (tables 𝓤 H 𝓜 𝓡 code.env .Λ) #lexer·place-in code.function (code.unfolded 𝓤 H 𝓜 𝓡)
-    (place-in-meets 𝓤 H (𝓖 .A) (givenOf 𝓤 H 𝓜 𝓖) (𝓜 .mem) (𝓡 .run) (tablesOf 𝓤 H 𝓜 (tables 𝓤 H 𝓜 𝓡 code.env))
+place-at-spec 𝓤 H 𝓜 𝓖 𝓡 =
+    entered 𝓤 H (tripleOf 𝓤 H (𝓖 .A) place-at.signature (place-at.spec 𝓤 H (𝓖 .A) (𝓜 .mem) (𝓡 .run)))
+    (tables 𝓤 H 𝓜 𝓡 code.env .C) (tables 𝓤 H 𝓜 𝓡 code.env .Λ) #lexer·place-at code.function (code.unfolded 𝓤 H 𝓜 𝓡)
+    (place-at-meets 𝓤 H (𝓖 .A) (givenOf 𝓤 H 𝓜 𝓖) (𝓜 .mem) (𝓡 .run) (tablesOf 𝓤 H 𝓜 (tables 𝓤 H 𝓜 𝓡 code.env))
     (cited 𝓤 H (New 𝓤 H (𝓖 .A) (𝓜 .mem) (𝓡 .run)) 𝓜 𝓡 code.env #lexer·new new-def.routine code.calls-lexer·lexer-of·new (new-thm.met 𝓤 H 𝓜 𝓖 𝓡))
     (cited 𝓤 H (SkipTo 𝓤 H (𝓖 .A) (𝓜 .mem) (𝓡 .run)) 𝓜 𝓡 code.env #lexer·skip-to skip-to-def.routine code.calls-lexer·lexer-of·skip-to (skip-to-thm.met 𝓤 H 𝓜 𝓖 𝓡))
     (cited 𝓤 H (PlaceOf 𝓤 H (𝓖 .A) (𝓜 .mem) (𝓡 .run)) 𝓜 𝓡 code.env #lexer·place-of place-of-def.routine code.calls-lexer·lexer-of·place-of (place-of-thm.met 𝓤 H 𝓜 𝓖 𝓡)))
