@@ -1,10 +1,10 @@
--- What every command keeps of the state of reading, whatever is claimed of the names that were declared, of the format, of the label commands
--- and of the matrix. Assumes nothing.
+-- What every command keeps of the state of reading, whatever is claimed of the dimensions and names that were declared, of the format, of the
+-- label commands and of the matrix. Assumes nothing.
 use Prim.Native.Nat.{ℕ, zero, suc}
 use Rattle.block.proofs.OutcomeLaws.{then-done, pick-else, pick-when, pick-either, pick-test, refused-done, done-inj, All, all-one, all-map, Opt, opt-map}
 use Rattle.block.specs.Blocks.{Data, Phase, outside, in·taxa, in·data, in·assumptions, in·trees, State, at·start, in·phase, begin·assumptions, no·data, begin·block, begin·words, taxa·count, taxa·step, matrix, labelling, labelled·by, with·dimensions, with·format, with·taxa, with·matrix, label·step, data·command, data·step, options, assumption·step, with·types, taxa·end, data·end, end·block, inner·step, ends, block·step, outside?, step}
 use Rattle.block.specs.Commands.{Command, command, empty, unended, words}
-use Rattle.block.specs.Dimensions.{dimensions}
+use Rattle.block.specs.Dimensions.{Dimensions, dimensions}
 use Rattle.block.specs.Format.{Format, format}
 use Rattle.block.specs.Labels.{Labelling, LabelCommand}
 use Rattle.block.specs.Names.{unique·names}
@@ -24,6 +24,7 @@ use mathlib.Core.Path.{_≡_, refl}
 
 -- What is claimed of the parts of a state.
 pub record Claims : Type 1 where
+  pub dimensions : Dimensions → Type 0
   pub names : List (List ℕ) → Type 0
   pub format : Format → Type 0
   pub labels : LabelCommand → Type 0
@@ -31,6 +32,7 @@ pub record Claims : Type 1 where
 
 -- Of a data block: what MATRIX is read by, and the matrix.
 pub record Ready (m : Claims) (d : Data) : Type 0 where
+  pub dimensions : Opt (m .dimensions) (d .dimensions)
   pub format : Opt (m .format) (d .format)
   pub taxa : Opt (m .names) (d .taxa)
   pub labels : All (m .labels) (d .labels)
@@ -56,6 +58,7 @@ pub record Kept (m : Claims) (s : State) : Type 0 where
 -- What the command must bring in, where it is read in this state: the claims of what it declares or reads.
 pub record Brings (m : Claims) (s : State) (h : Numbered) (raw : List Numbered) : Type 0 where
   pub named : is (bytes "TAXLABELS") h ≡ true → (names : List (List ℕ)) → unique·names (words raw) ≡ done names → m .names names
+  pub sized : (x : Dimensions) → dimensions (words raw) ≡ done x → m .dimensions x
   pub formatted : (f : Format) → format (h .index) (words raw) ≡ done f → m .format f
   pub labelled : (l : Labelling) → m .labels (record { what = l; head = h .index; words = words raw })
   pub read : is (bytes "MATRIX") h ≡ true → (b : ℕ) (d : Data) → s .phase ≡ in·data b d → Ready m d → (r : Reading) → matrix d h raw ≡ done r → m .reading r
@@ -80,7 +83,7 @@ module _ (m : Claims) (s : State) (h : Numbered) (raw : List Numbered) (u : Brin
 
   block-begins : (taxa : Option (List (List ℕ))) → Opt (m .names) taxa → Block m (no·data taxa)
   unfolding no·data
-  block-begins taxa d = record { ready = record { format = tt; taxa = d; labels = tt }; matrix = tt }
+  block-begins taxa d = record { ready = record { dimensions = tt; format = tt; taxa = d; labels = tt }; matrix = tt }
 
   begin-kept : (b : Numbered) (t : State) → Kept m s → begin·block s b ≡ done t → Kept m t
   unfolding begin·block
@@ -121,7 +124,7 @@ module _ (m : Claims) (s : State) (h : Numbered) (raw : List Numbered) (u : Brin
   label-kept d (some l) e b q =
       let one : LabelCommand = record { what = l; head = h .index; words = words raw } in
       let k = pick-else (labelled·by l (d .labels)) Refusal.Command (h .index) _ e q in
-      rw (← done-inj (k .1)) (record { ready = record { format = b .ready .format; taxa = b .ready .taxa; labels = all-one (m .labels) (d .labels) one (b .ready .labels) (u .labelled l) }; matrix = b .matrix })
+      rw (← done-inj (k .1)) (record { ready = record { dimensions = b .ready .dimensions; format = b .ready .format; taxa = b .ready .taxa; labels = all-one (m .labels) (d .labels) one (b .ready .labels) (u .labelled l) }; matrix = b .matrix })
 
   data-kept : (i : ℕ) (d : Data) (e : Data) → s .phase ≡ in·data i d → Block m d → data·command d h raw ≡ done e → Block m e
   unfolding data·command
@@ -135,22 +138,22 @@ module _ (m : Claims) (s : State) (h : Numbered) (raw : List Numbered) (u : Brin
       sizes : then (dimensions (words raw)) (λ x. done (with·dimensions d x)) ≡ done e → Block m e
       sizes p =
           let x = then-done (dimensions (words raw)) (λ x. done (with·dimensions d x)) e p in
-          rw (← done-inj (x .2)) (unfold with·dimensions in record { ready = record { format = b .ready .format; taxa = b .ready .taxa; labels = b .ready .labels }; matrix = b .matrix })
+          rw (← done-inj (x .2)) (unfold with·dimensions in record { ready = record { dimensions = u .sized (x .0) (x .1); format = b .ready .format; taxa = b .ready .taxa; labels = b .ready .labels }; matrix = b .matrix })
 
       formatted : then (format (h .index) (words raw)) (λ x. done (with·format d x)) ≡ done e → Block m e
       formatted p =
           let x = then-done (format (h .index) (words raw)) (λ x. done (with·format d x)) e p in
-          rw (← done-inj (x .2)) (unfold with·format in record { ready = record { format = u .formatted (x .0) (x .1); taxa = b .ready .taxa; labels = b .ready .labels }; matrix = b .matrix })
+          rw (← done-inj (x .2)) (unfold with·format in record { ready = record { dimensions = b .ready .dimensions; format = u .formatted (x .0) (x .1); taxa = b .ready .taxa; labels = b .ready .labels }; matrix = b .matrix })
 
       named : is (bytes "TAXLABELS") h ≡ true → then (unique·names (words raw)) (λ x. done (with·taxa d x)) ≡ done e → Block m e
       named t p =
           let x = then-done (unique·names (words raw)) (λ x. done (with·taxa d x)) e p in
-          rw (← done-inj (x .2)) (unfold with·taxa in record { ready = record { format = b .ready .format; taxa = u .named t (x .0) (x .1); labels = b .ready .labels }; matrix = b .matrix })
+          rw (← done-inj (x .2)) (unfold with·taxa in record { ready = record { dimensions = b .ready .dimensions; format = b .ready .format; taxa = u .named t (x .0) (x .1); labels = b .ready .labels }; matrix = b .matrix })
 
       read·rows : is (bytes "MATRIX") h ≡ true → then (matrix d h raw) (λ x. done (with·matrix d x)) ≡ done e → Block m e
       read·rows t p =
           let x = then-done (matrix d h raw) (λ x. done (with·matrix d x)) e p in
-          rw (← done-inj (x .2)) (unfold with·matrix in record { ready = record { format = b .ready .format; taxa = b .ready .taxa; labels = b .ready .labels }; matrix = u .read t i d at (b .ready) (x .0) (x .1) })
+          rw (← done-inj (x .2)) (unfold with·matrix in record { ready = record { dimensions = b .ready .dimensions; format = b .ready .format; taxa = b .ready .taxa; labels = b .ready .labels }; matrix = u .read t i d at (b .ready) (x .0) (x .1) })
 
   -- ASSUMPTIONS: the matrix stays as it is until the block ends.
   assumption-kept : (ws : List Numbered) (b : ℕ) (r : Reading) (default : Option CharacterOrdering) (set : Option Types) (q : Phase) → m .reading r → assumption·step h ws b r default set ≡ done q → Inside m q
@@ -233,6 +236,7 @@ start-kept m = record { phase = tt; taxa = tt; matrix = tt }
 
 -- Claims that follow from others.
 pub record Weaker (m n : Claims) : Type 0 where
+  pub dimensions : (d : Dimensions) → m .dimensions d → n .dimensions d
   pub names : (l : List (List ℕ)) → m .names l → n .names l
   pub format : (f : Format) → m .format f → n .format f
   pub labels : (c : LabelCommand) → m .labels c → n .labels c
@@ -244,6 +248,7 @@ module _ (m n : Claims) (w : Weaker m n) where
       record {
         ready =
             record {
+              dimensions = opt-map (m .dimensions) (n .dimensions) (w .dimensions) (d .dimensions) (b .ready .dimensions);
               format = opt-map (m .format) (n .format) (w .format) (d .format) (b .ready .format);
               taxa = opt-map (m .names) (n .names) (w .names) (d .taxa) (b .ready .taxa);
               labels = all-map (m .labels) (n .labels) (w .labels) (d .labels) (b .ready .labels);

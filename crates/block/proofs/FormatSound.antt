@@ -1,6 +1,7 @@
 -- A format that is read has symbols that a record may have. Assumes nothing.
 use Prim.Native.Nat.{ℕ, _≤_}
-use Rattle.block.proofs.OutcomeLaws.{then-done, pick-else, pick-when, pick-either, refused-done, done-inj, All, fold-keeps}
+use Rattle.block.proofs.CommandWords.{Any, all-any}
+use Rattle.block.proofs.OutcomeLaws.{then-done, pick-else, pick-when, pick-either, refused-done, done-inj, fold-keeps}
 use Rattle.block.proofs.Pigeonhole.{pigeonhole}
 use Rattle.block.specs.Dna.{acgt}
 use Rattle.block.specs.Format.{Format, Options, Formatting, option, perhaps, equals, value, Key, datatype-key, symbols-key, missing-key, gap-key, interleave-key, equal, valid·symbol, valid·symbols, options, no·options, with·type, with·symbols, with·missing, with·gap, with·interleave, with·case, with·labels, with·no·tokens, once, format·option, unspaced, single·symbol, symbol·value, format·value, format·turn, format·end, settled, format·of, dna·options, all·valid, clashes, all·differ, signs, good·symbols, judged, format, default·format}
@@ -87,13 +88,6 @@ value-signed o interleave-key i w t p h =
     pick-either (is (bytes "YES") w) _ _ t (done-signed (option (with·interleave true o)) t (record { missing = p .missing; gap = p .gap }))
     (pick-either (is (bytes "NO") w) _ _ t (done-signed (option (with·interleave false o)) t (record { missing = p .missing; gap = p .gap }))
     (refused-done Refusal.FormatOption (w .index) t)) h
-
-abbrev pub Any : Numbered → Type 0
-Any w = Unit {0}
-
-pub all-any : (ws : List Numbered) → All Any ws
-all-any [] = tt
-all-any (w ∷ r) = (tt, all-any r)
 
 turn-signed : (s : Formatting) (w : Numbered) (t : Formatting) → SignedAt s → Any w → format·turn s w ≡ done t → SignedAt t
 unfolding format·turn

@@ -1,5 +1,5 @@
 -- A matrix that was read: what it was read by, its rows, and the taxa in their order. Assumes nothing.
-use Prim.Native.Nat.{ℕ}
+use Prim.Native.Nat.{ℕ, suc}
 use Rattle.block.proofs.ChunkSound.{none-some, some-inj, pick-some}
 use Rattle.block.proofs.OutcomeLaws.{then-done, need-done, pick-else, done-inj}
 use Rattle.block.specs.Blocks.{Data, declared·count, agrees, row·of, arranged, in·order, unordered, rows, matrix·reading, matrix·shape, matrix}
@@ -20,7 +20,12 @@ use lib.ListN.{length}
 use mathlib.Core.Bool.{true, false, _&&_, _||_, not}
 use mathlib.Core.List.{List, [], _∷_}
 use mathlib.Core.Option.{Option, none, some, Option·getD}
-use mathlib.Core.Path.{_≡_, refl, sym}
+use mathlib.Core.Path.{_≡_, refl, sym, ap}
+
+pub length-names : (ts : List Taxon) → length (names ts) ≡ length ts
+unfolding names
+length-names [] = refl
+length-names (t ∷ r) = ap suc (length-names r)
 
 -- The row of a declared name has that name.
 row-named : (name : List ℕ) (taken : List Taxon) (t : Taxon) → row·of name taken ≡ some t → t .name ≡ name
@@ -51,13 +56,15 @@ order-follows head none taken ts h = sym (done-inj h)
 order-follows head (some declared) taken ts h = arranged-follows head taken declared ts h
 
 -- A shape that MATRIX can be read by, after what was declared.
-pub record Shaped (d : Data) (sh : Shape) : Type 0 where
+pub record Shaped (d : Data) (dims : Dimensions) (sh : Shape) : Type 0 where
+  pub taxa : sh .taxa ≡ declared·count (d .taxa) (dims .taxa)
+  pub characters : sh .characters ≡ dims .characters
   pub formatted : sh .format ≡ Option·getD (d .format) default·format
   pub some·characters : eqb (sh .characters) 0 ≡ false
   pub some·taxa : eqb (sh .taxa) 0 ≡ false
   pub agreed : agrees (d .taxa) (sh .taxa) ≡ true
 
-pub matrix-shaped : (d : Data) (dims : Dimensions) (head : ℕ) (sh : Shape) → matrix·shape d dims head ≡ done sh → Shaped d sh
+pub matrix-shaped : (d : Data) (dims : Dimensions) (head : ℕ) (sh : Shape) → matrix·shape d dims head ≡ done sh → Shaped d dims sh
 unfolding matrix·shape
 matrix-shaped d dims head sh e =
     let n = declared·count (d .taxa) (dims .taxa) in
@@ -66,6 +73,8 @@ matrix-shaped d dims head sh e =
     let new = pick-else (dims .new·taxa && eqb (dims .taxa) 0) Refusal.Absent head _ sh (same .1) in
     rw (← done-inj (new .1))
     (record {
+      taxa = refl;
+      characters = refl;
       formatted = refl;
       some·characters = or-left (eqb (dims .characters) 0) (eqb n 0) (counts .0);
       some·taxa = or-right (eqb (dims .characters) 0) (eqb n 0) (counts .0);
@@ -78,7 +87,7 @@ pub record Parts (d : Data) (h : Numbered) (raw : List Numbered) (r : Reading) :
   pub sized : d .dimensions ≡ some dimensions
   pub shape : Shape
   pub by : matrix·shape d dimensions (h .index) ≡ done shape
-  pub shaped : Shaped d shape
+  pub shaped : Shaped d dimensions shape
   pub taken : List Taxon
   pub read : rows shape raw ≡ done taken
   pub taxa : List Taxon

@@ -1,16 +1,17 @@
 -- The reading of a matrix is sound but for the types of its characters. Assumes nothing.
-use Prim.Native.Nat.{ℕ, suc}
+use Prim.Native.Nat.{ℕ, suc, _≤_}
 use Rattle.block.proofs.BlocksKept.{Claims, Ready}
 use Rattle.block.proofs.ChunkSound.{Fine, none-some, some-inj, pick-some}
 use Rattle.block.proofs.CommandWords.{all-words}
+use Rattle.block.proofs.DimensionsFew.{Few}
 use Rattle.block.proofs.FormatSound.{Good, default-good}
 use Rattle.block.proofs.LabelsSound.{States, Given, Labels, CleanLabels, labels-labelled}
-use Rattle.block.proofs.MatrixParts.{matrix-parts}
+use Rattle.block.proofs.MatrixParts.{length-names, matrix-parts}
 use Rattle.block.proofs.NamesSound.{Clean, Named, Names, Sound·name, all-sound}
 use Rattle.block.proofs.OutcomeLaws.{pick-either, All, Opt}
 use Rattle.block.proofs.PagesSound.{interleaved-matrix}
 use Rattle.block.proofs.RowsSound.{Whole, Matrix, sequential-matrix}
-use Rattle.block.specs.Blocks.{Data, agrees, row·of, unordered, rows, matrix, orderable}
+use Rattle.block.specs.Blocks.{Data, declared·count, agrees, row·of, unordered, rows, matrix, orderable}
 use Rattle.block.specs.Cell.{Cell}
 use Rattle.block.specs.Commands.{words}
 use Rattle.block.specs.Format.{Format, default·format}
@@ -21,11 +22,11 @@ use Rattle.block.specs.Reading.{Taxon, Reading}
 use Rattle.block.specs.Sequential.{Shape, names, sequential}
 use Rattle.block.specs.Sound.{sound·names, names·differ, sound·labels, few·states, sound·cells, sound·rows, gap?, gap·among, gap·in, sound·symbols, Sound}
 use Rattle.block.specs.TaxonOrder.{all·rows, Follows}
-use Rattle.lexer.proofs.Basics.{and-both, by-test}
+use Rattle.lexer.proofs.Basics.{and-left, and-right, and-both, by-test}
 use Rattle.lexer.specs.Base.{empty?, given, alike}
-use Rattle.lexer.specs.Words.{Numbered}
-use borrow.Author.Tests.{eqb-true, eqb-false, eq-eqb, le-leb}
-use lib.Dec.{eqb}
+use Rattle.lexer.specs.Words.{Numbered, largest}
+use borrow.Author.Tests.{eqb-true, eqb-false, eq-eqb, leb-true, le-leb}
+use lib.Dec.{leb, eqb}
 use lib.ListN.{length}
 use mathlib.Core.Bool.{true, false, false≢true}
 use mathlib.Core.List.{List, [], _∷_}
@@ -37,6 +38,8 @@ use native.Mathlib.Omega.{arith}
 pub record Untyped (N : List ℕ → Type 0) (r : Reading) : Type 0 where
   pub some·taxon : empty? (r .taxa) ≡ false
   pub some·character : empty? (r .characters) ≡ false
+  pub taxa·few : leb (length (r .taxa)) largest ≡ true
+  pub characters·few : leb (length (r .characters)) largest ≡ true
   pub rows·long : all·long (length (r .characters)) (r .taxa) ≡ true
   pub cells·sound : sound·rows (length (r .symbols)) (r .taxa) ≡ true
   pub symbols·sound : sound·symbols (r .data·type) (r .symbols) (gap·in (r .taxa)) ≡ true
@@ -50,6 +53,8 @@ typed-sound r u o =
     record {
       some·taxon = u .some·taxon;
       some·character = u .some·character;
+      taxa·few = u .taxa·few;
+      characters·few = u .characters·few;
       rows·long = u .rows·long;
       cells·sound = u .cells·sound;
       symbols·sound = u .symbols·sound;
@@ -109,11 +114,6 @@ record Arranged (N : List ℕ → Type 0) (sh : Shape) (ts : List Taxon) : Type 
   whole : All (Whole (sh .format) (sh .characters)) ts
   counted : length ts ≡ sh .taxa
 
-length-names : (ts : List Taxon) → length (names ts) ≡ length ts
-unfolding names
-length-names [] = refl
-length-names (t ∷ r) = ap suc (length-names r)
-
 follows-arranged : (N : List ℕ → Type 0) (sh : Shape) (declared : Option (List (List ℕ))) (taken ts : List Taxon) → Opt (Named N) declared → agrees declared (sh .taxa) ≡ true → Matrix N sh taken → Follows declared taken ts → Arranged N sh ts
 unfolding agrees
 follows-arranged N sh none taken ts d a m h = rw h (record { named = m .rowed .named; whole = m .rowed .whole; counted = m .counted })
@@ -121,7 +121,7 @@ follows-arranged N sh (some declared) taken ts d a m h =
     record {
       named = rw (h .0) d;
       whole = rows-whole (sh .format) (sh .characters) taken ts (m .rowed .whole) (h .1);
-      counted = sym (length-names ts) ∙ ap length (h .0) ∙ eqb-true (length declared) (sh .taxa) a;
+      counted = sym (length-names ts) ∙ ap length (h .0) ∙ eqb-true (length declared) (sh .taxa) (and-left (eqb (length declared) (sh .taxa)) (leb (sh .taxa) largest) a);
     }
 
 -- Characters with labels, as tests.
@@ -154,13 +154,19 @@ module _ {A : Type 0} where
   some-of [] n e h = absurd (eqb-false n 0 h (sym e))
   some-of (a ∷ l) n e h = refl
 
+-- A count of taxa has 64 bits, whether NTAX or the declared names give it.
+taxa-few : (declared : Option (List (List ℕ))) (n k : ℕ) → n ≤ largest → k ≡ declared·count declared n → agrees declared k ≡ true → k ≤ largest
+unfolding agrees declared·count
+taxa-few none n k few e a = rw e few
+taxa-few (some names) n k few e a = leb-true k largest (and-right (eqb (length names) k) (leb k largest) a)
+
 default-formatted : (f : Option Format) → Opt Good f → Good (Option·getD f default·format)
 default-formatted none p = default-good
 default-formatted (some f) p = p
 
 -- What is claimed of the parts of a state, so that the reading of a matrix is such.
 abbrev pub claims : (List ℕ → Type 0) → Claims
-claims N = record { names = Named N; format = Good; labels = CleanLabels; reading = Untyped N }
+claims N = record { dimensions = Few; names = Named N; format = Good; labels = CleanLabels; reading = Untyped N }
 
 -- Words of clean tokens, of whose names something holds.
 pub record Naming (Q : Numbered → Type 0) (N : List ℕ → Type 0) : Type 0 where
@@ -181,11 +187,14 @@ module _ (N : List ℕ → Type 0) (Q : Numbered → Type 0) (law : Naming Q N) 
       let good : Good f = rw (k .shaped .formatted) (default-formatted (d .format) (p .format)) in
       let m = follows-arranged N sh (d .taxa) (k .taken) (k .taxa) (p .taxa) (k .shaped .agreed) (rows-matrix sh good raw (k .taken) q (k .read)) (k .follows) in
       let l = labels-labelled (length (f .symbols)) (sh .characters) (d .labels) (k .labelled) (p .labels) (k .labels) in
+      let few : Few (k .dimensions) = rw (k .sized) at (p .dimensions) in
       let size : length (unordered (k .labelled)) ≡ sh .characters = unordered-length (length (f .symbols)) (k .labelled) ∙ l .sized in
       rw (← k .is)
       (record {
         some·taxon = some-of (k .taxa) (sh .taxa) (m .counted) (k .shaped .some·taxa);
         some·character = some-of (unordered (k .labelled)) (sh .characters) size (k .shaped .some·characters);
+        taxa·few = le-leb (length (k .taxa)) largest (rw (m .counted) (taxa-few (d .taxa) (k .dimensions .taxa) (sh .taxa) (few .taxa) (k .shaped .taxa) (k .shaped .agreed)));
+        characters·few = le-leb (length (unordered (k .labelled))) largest (rw (size, k .shaped .characters) (few .characters));
         rows·long = rw size (whole-long f (sh .characters) (k .taxa) (m .whole));
         cells·sound = whole-sound f (sh .characters) (k .taxa) (m .whole);
         symbols·sound = good .symbols (gap·in (k .taxa)) (gap-rows f (sh .characters) (k .taxa) (m .whole));

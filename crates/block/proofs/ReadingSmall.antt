@@ -1,7 +1,7 @@
 -- A reading is no larger than its text: it has at most as many taxa, and at most as many characters, as the text has bytes. Assumes nothing.
 use Prim.Native.Nat.{ℕ, suc, _≤_}
 use Rattle.block.proofs.ChunkSound.{none-some, some-inj, pick-some}
-use Rattle.block.proofs.MatrixParts.{matrix-shaped}
+use Rattle.block.proofs.MatrixParts.{length-names, matrix-shaped}
 use Rattle.block.proofs.OutcomeLaws.{pick-either, All}
 use Rattle.block.proofs.PagesSmall.{interleaved-taken}
 use Rattle.block.proofs.ReadingSound.{reading-sound}
@@ -20,9 +20,9 @@ use Rattle.lexer.proofs.Basics.{and-left, by-test}
 use Rattle.lexer.proofs.TokenSizes.{tokens-small}
 use Rattle.lexer.specs.Base.{pick, empty?, alike}
 use Rattle.lexer.specs.Tokens.{tokens}
-use Rattle.lexer.specs.Words.{Numbered, numbered}
+use Rattle.lexer.specs.Words.{Numbered, numbered, largest}
 use borrow.Author.Tests.{eqb-true}
-use lib.Dec.{eqb}
+use lib.Dec.{leb, eqb}
 use lib.ListN.{length}
 use mathlib.Core.Bool.{Bool, true, false, true≢false}
 use mathlib.Core.List.{List, [], _∷_, List·Memᴰ, List·Memᴰ·head, List·Memᴰ·not-nil, List·Memᴰ·cases-cons, Memᴰ·append-right}
@@ -98,11 +98,6 @@ module _ (n : ℕ) where
   all-short taken [] p h = tt
   all-short taken (t ∷ r) p h = (row-short (t .name) taken t p (h .0), all-short taken r p (h .1))
 
-length-names : (ts : List Taxon) → length (names ts) ≡ length ts
-unfolding names
-length-names [] = refl
-length-names (t ∷ r) = ap suc (length-names r)
-
 -- Taxa that follow the rows are no more than those, and no longer.
 follows-small : (n : ℕ) (declared : Option (List (List ℕ))) (sh : Shape) (taken taxa : List Taxon) → agrees declared (sh .taxa) ≡ true → Taken sh n taken → Follows declared taken taxa → (length taxa ≤ n) × All (Short n) taxa
 unfolding agrees
@@ -113,7 +108,7 @@ follows-small n none sh taken taxa a m f =
 follows-small n (some declared) sh taken taxa a m f =
     let names = length-names taxa in
     let same = ap length (f .0) in
-    let count = eqb-true (length declared) (sh .taxa) a in
+    let count = eqb-true (length declared) (sh .taxa) (and-left (eqb (length declared) (sh .taxa)) (leb (sh .taxa) largest) a) in
     let k = bulk-few taken in
     let l = m .light in
     let c = m .counted in

@@ -2,6 +2,7 @@
 use Prim.Native.Nat.{ℕ, suc}
 use Rattle.block.proofs.BlocksKept.{Brings, Kept, step-kept, start-kept}
 use Rattle.block.proofs.CommandWords.{Of·tokens, all-words, commands-of, all-behind}
+use Rattle.block.proofs.DimensionsFew.{dimensions-few}
 use Rattle.block.proofs.FormatSound.{format-good}
 use Rattle.block.proofs.MatrixSound.{Untyped, typed-sound, claims, Naming, matrix-untyped}
 use Rattle.block.proofs.NamesSound.{Clean, Sound·name, label-sound, unique-names-named}
@@ -62,6 +63,8 @@ types-untyped N r default set u =
     record {
       some·taxon = u .some·taxon;
       some·character = retyped-some o ts (r .characters) ∙ u .some·character;
+      taxa·few = u .taxa·few;
+      characters·few = rw (retyped-length o ts (r .characters)) (u .characters·few);
       rows·long = rw (retyped-length o ts (r .characters)) (u .rows·long);
       cells·sound = u .cells·sound;
       symbols·sound = u .symbols·sound;
@@ -77,6 +80,7 @@ module _ (N : List ℕ → Type 0) (Q : Numbered → Type 0) (law : Naming Q N) 
   brings s h raw q =
       record {
         named = λ t names e. unique-names-named N Q (law .name) (words raw) names (all-words Q raw q) e;
+        sized = dimensions-few (words raw);
         formatted = format-good (h .index) (words raw);
         labelled = λ l. all-map Q Clean (law .clean) (words raw) (all-words Q raw q);
         read = λ t b d at p r e. matrix-untyped N Q law d h raw r p q e;

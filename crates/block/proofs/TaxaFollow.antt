@@ -24,7 +24,7 @@ pub record Following (cs : List Command) (r : Reading) : Type 0 where
 
 -- What is claimed of a state behind these commands: declared names and the matrix come from them.
 abbrev come·from : List Command → Claims
-come·from cs = record { names = Declares cs; format = λ f. Unit {0}; labels = λ c. Unit {0}; reading = Following cs }
+come·from cs = record { dimensions = λ d. Unit {0}; names = Declares cs; format = λ f. Unit {0}; labels = λ c. Unit {0}; reading = Following cs }
 
 module _ (cs : List Command) (c : Command) where
   declares-later : (ns : List (List ℕ)) → Declares cs ns → Declares (cs ++ (c ∷ [])) ns
@@ -58,7 +58,7 @@ module _ (cs : List Command) (c : Command) where
   following-later r f = record { made = matrix-later (f .made); follows = f .follows }
 
   kept-later : (s : State) → Kept (come·from cs) s → Kept (come·from (cs ++ (c ∷ []))) s
-  kept-later s k = kept-map (come·from cs) (come·from (cs ++ (c ∷ []))) (record { names = declares-later; format = λ f p. p; labels = λ l p. p; reading = following-later }) s k
+  kept-later s k = kept-map (come·from cs) (come·from (cs ++ (c ∷ []))) (record { dimensions = λ d p. p; names = declares-later; format = λ f p. p; labels = λ l p. p; reading = following-later }) s k
 
 -- The next command brings in names that it declares, and a matrix with the rows that it holds.
 module _ (before : List Command) (s : State) (reached : fold step at·start before ≡ done s) (k : Kept (come·from before) s) (h : Numbered) (raw : List Numbered) where
@@ -103,6 +103,7 @@ module _ (before : List Command) (s : State) (reached : fold step at·start befo
   brings =
       record {
         named = λ t ns e. record { head = h; raw = raw; among = last; word = t; named = e };
+        sized = λ d e. tt;
         formatted = λ f e. tt;
         labelled = λ l. tt;
         read = λ t b d at p r e. following t b d at r e;

@@ -1,12 +1,12 @@
 -- Blocks: the state of reading after each command, and the step that a command makes.
 use Prim.Native.Nat.{ℕ, zero, suc}
-use lib.Dec.{eqb}
+use lib.Dec.{leb, eqb}
 use lib.ListN.{length}
 use mathlib.Core.Bool.{Bool, true, false, _&&_, _||_, not}
 use mathlib.Core.List.{List, [], _∷_, _++_}
 use mathlib.Core.Option.{Option, none, some, Option·getD}
 use Rattle.lexer.specs.Base.{pick, bytes, alike, empty?, given, byte}
-use Rattle.lexer.specs.Words.{Numbered, is, punct}
+use Rattle.lexer.specs.Words.{Numbered, is, punct, largest}
 use Rattle.lexer.specs.declared.refusal.Refusal.{Refusal}
 use Rattle.block.specs.Commands.{Command, command, empty, unended, words}
 use Rattle.block.specs.Dimensions.{Dimensions, dimensions}
@@ -100,9 +100,10 @@ declared·count none n = n
 declared·count (some names) zero = length names
 declared·count (some names) (suc n) = suc n
 
+-- Names agree with the count if there are so many; it has 64 bits, as one that DIMENSIONS declares.
 unfoldable pub agrees : Option (List (List ℕ)) → ℕ → Bool
 agrees none n = true
-agrees (some names) n = eqb (length names) n
+agrees (some names) n = eqb (length names) n && leb n largest
 
 -- The rows in declared order with the declared names, or as they came.
 unfoldable pub row·of : List ℕ → List Taxon → Option Taxon

@@ -8,6 +8,7 @@ use mathlib.Core.Path.{_≡_}
 use Rattle.lexer.specs.Base.{among, same, empty?, byte}
 use Rattle.lexer.specs.Classes.{blank}
 use Rattle.lexer.specs.Utf8.{utf8}
+use Rattle.lexer.specs.Words.{largest}
 use Rattle.block.specs.Blocks.{orderable}
 use Rattle.block.specs.Cell.{Cell, state, uncertain, polymorphic, missing, gap}
 use Rattle.block.specs.Dna.{acgt}
@@ -105,6 +106,9 @@ few·states count (c ∷ r) = let more = few·states count r in leb (length (c .
 pub record Sound (r : Reading) : Type 0 where
   pub some·taxon : empty? (r .taxa) ≡ false
   pub some·character : empty? (r .characters) ≡ false
+  -- both counts have 64 bits, so that DIMENSIONS can declare them
+  pub taxa·few : leb (length (r .taxa)) largest ≡ true
+  pub characters·few : leb (length (r .characters)) largest ≡ true
   -- every row has exactly as many cells as there are characters
   pub rows·long : all·long (length (r .characters)) (r .taxa) ≡ true
   -- indices rise strictly in a set, and are below the symbol count
@@ -126,6 +130,8 @@ unfoldable pub sound : Reading → Bool
 sound r =
     not (empty? (r .taxa))
     && not (empty? (r .characters))
+    && leb (length (r .taxa)) largest
+    && leb (length (r .characters)) largest
     && all·long (length (r .characters)) (r .taxa)
     && sound·rows (length (r .symbols)) (r .taxa)
     && sound·symbols (r .data·type) (r .symbols) (gap·in (r .taxa))

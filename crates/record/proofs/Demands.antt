@@ -12,13 +12,12 @@ use Rattle.block.specs.Sound.{Sound}
 use Rattle.block.specs.TaxonOrder.{Token·named, all·named}
 use Rattle.lexer.specs.Base.{pick}
 use Rattle.lexer.specs.Lexing.{longest}
-use Rattle.lexer.specs.Words.{largest}
 use Rattle.record.proofs.FormClosed.{form-closed}
 use Rattle.record.proofs.FormLexed.{form-lexed, form-utf8}
 use Rattle.record.proofs.FormParsed.{form-parsed}
 use Rattle.record.proofs.SpellLaws.{unspell-spell}
 use Rattle.record.proofs.UnspellLaws.{spell-unspell}
-use Rattle.record.specs.Demands.{Reads, Counted, Stated, Agree, Every·reading·is·sound, Taxa·follow·the·declaration, Names·come·from·tokens, Records·are·read·back, Records·are·spelled, Records·of·texts·pass, Not·refused·is·some·reading, Forms·are·read·again, Forms·tell·readings·apart, Forms·tell·texts·apart}
+use Rattle.record.specs.Demands.{Reads, Counted, Agree, Every·reading·is·sound, Taxa·follow·the·declaration, Names·come·from·tokens, Records·are·read·back, Records·are·spelled, Records·of·texts·pass, Not·refused·is·some·reading, Forms·are·read·again, Forms·tell·readings·apart, Forms·tell·texts·apart}
 use Rattle.record.specs.Form.{form}
 use Rattle.record.specs.Spell.{spell}
 use Rattle.record.specs.Unspell.{unspell, most}
@@ -57,12 +56,7 @@ records-of-texts-pass text r few h =
 
 pub forms-are-read-again : Forms·are·read·again
 unfolding read read·tokens placed pick
-forms-are-read-again r s c = rw (form-utf8 r s, form-lexed r s, form-closed r, form-parsed r s c) refl
-
--- What is within the counts of a record can be stated.
-counted-stated : (r : Reading) → Counted r → Stated r
-unfolding most largest
-counted-stated r c = record { taxa = omega (arith, c .taxa); characters = omega (arith, c .characters) }
+forms-are-read-again r s = rw (form-utf8 r s, form-lexed r s, form-closed r, form-parsed r s) refl
 
 pub not-refused-is-some-reading : Not·refused·is·some·reading
 not-refused-is-some-reading b = (spelled, refused)
@@ -70,7 +64,7 @@ not-refused-is-some-reading b = (spelled, refused)
     spelled : (r : Reading) × (unspell b ≡ some r) → (text : List ℕ) × (r : Reading) × Reads text r × Sound r × Counted r × (spell r ≡ b)
     spelled h =
         let k = spell-unspell b (h .0) (h .1) in
-        (form (h .0), h .0, forms-are-read-again (h .0) (k .1) (counted-stated (h .0) (k .2)), k .1, k .2, k .0)
+        (form (h .0), h .0, forms-are-read-again (h .0) (k .1), k .1, k .2, k .0)
 
     refused : (text : List ℕ) × (r : Reading) × Reads text r × Sound r × Counted r × (spell r ≡ b) → (r : Reading) × (unspell b ≡ some r)
     refused h = (h .1, ap unspell (sym (h .5)) ∙ unspell-spell (h .1) (h .3) (h .4))
@@ -118,14 +112,8 @@ one-reading : (text : List ℕ) (r s : Reading) → Reads text r → Reads text 
 one-reading text r s p q = let e : reading r ≡ reading s = sym p ∙ q in cc
 
 pub forms-tell-readings-apart : Forms·tell·readings·apart
-forms-tell-readings-apart r s p c q d =
-    (λ e. equal-agree r s (one-reading (form s) r s (subst (λ (t : List ℕ). Reads t r) e (forms-are-read-again r p c)) (forms-are-read-again s q d)), λ a. ap form (agree-equal r s a))
-
-text-stated : (text : List ℕ) (r : Reading) → length text ≤ largest → Reads text r → Stated r
-text-stated text r few h =
-    let small = reading-small text r h in
-    record { taxa = omega (arith, small .taxa); characters = omega (arith, small .characters) }
+forms-tell-readings-apart r s p q =
+    (λ e. equal-agree r s (one-reading (form s) r s (subst (λ (t : List ℕ). Reads t r) e (forms-are-read-again r p)) (forms-are-read-again s q)), λ a. ap form (agree-equal r s a))
 
 pub forms-tell-texts-apart : Forms·tell·texts·apart
-forms-tell-texts-apart t u r s few less p q =
-    forms-tell-readings-apart r s (reading-sound t r p) (text-stated t r few p) (reading-sound u s q) (text-stated u s less q)
+forms-tell-texts-apart t u r s p q = forms-tell-readings-apart r s (reading-sound t r p) (reading-sound u s q)

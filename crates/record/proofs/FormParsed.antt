@@ -23,9 +23,9 @@ use Rattle.record.proofs.LabelsRead.{state·labels, labels·of}
 use Rattle.record.proofs.MatrixRead.{written·format, counts, with·labels, Labelled·by, matrix·words, some-length, matrix-read}
 use Rattle.record.proofs.TypesRead.{untyped, with·characters, behind·blocks, assumptions-read}
 use Rattle.record.specs.Decimal.{decimal}
-use Rattle.record.specs.Demands.{Stated}
 use Rattle.record.specs.Form.{labelled}
 use Rattle.block.specs.Sound.{Sound, gap·in, sound·labels, few·states}
+use borrow.Author.Tests.{leb-true}
 use lib.ListN.{length}
 use mathlib.Core.Bool.{Bool, true, false}
 use mathlib.Core.List.{List, [], _∷_}
@@ -69,7 +69,7 @@ from·begin r = newline ∷ key "BEGIN" ∷ key "DATA" ∷ mark 59 ∷ newline �
 abbrev last : Reading → State
 last r = behind·blocks r (has·ordered (r .characters))
 
-module _ (r : Reading) (s : Sound r) (stated : Stated r) where
+module _ (r : Reading) (s : Sound r) where
   matrix-to-end : (b : ℕ) (ls : List LabelCommand) → Labelled·by r ls → Reads (in·form b (with·labels r ls none)) (from·matrix r) (last r)
   matrix-to-end b ls labels =
       matrix-read r s b ls labels
@@ -79,7 +79,7 @@ module _ (r : Reading) (s : Sound r) (stated : Stated r) where
   format-to-end b =
       rw (format-words (r .data·type) (r .symbols) (gap·in (r .taxa)) (labels·tokens (r .characters) (from·matrix r)))
       (format-read b (counts r) (r .data·type) (r .symbols) (gap·in (r .taxa)) (s .symbols·sound)
-      (newline-read (labels-read b (length (r .symbols)) (counts r) (written·format r) (r .characters) (stated .characters) (s .labels·sound) (s .states·few) (matrix-to-end b))))
+      (newline-read (labels-read b (length (r .symbols)) (counts r) (written·format r) (r .characters) (leb-true (length (r .characters)) largest (s .characters·few)) (s .labels·sound) (s .states·few) (matrix-to-end b))))
 
   dimensions-to-end : (b : ℕ) → Reads (in·form b (declared none none [] none)) (dimensions·tokens r (from·format r)) (last r)
   unfolding dimensions·tokens
@@ -87,13 +87,13 @@ module _ (r : Reading) (s : Sound r) (stated : Stated r) where
       let (n, taxa) = some-length (r .taxa) (s .some·taxon) in
       let (m, characters) = some-length (r .characters) (s .some·character) in
       dimensions-read b n m (decimal (length (r .taxa))) (decimal (length (r .characters)))
-      (positive-decimal (length (r .taxa)) (omega arith) (stated .taxa) ∙ taxa)
-      (positive-decimal (length (r .characters)) (omega arith) (stated .characters) ∙ characters)
+      (positive-decimal (length (r .taxa)) (omega arith) (leb-true (length (r .taxa)) largest (s .taxa·few)) ∙ taxa)
+      (positive-decimal (length (r .characters)) (omega arith) (leb-true (length (r .characters)) largest (s .characters·few)) ∙ characters)
       (newline-read (rw (taxa, characters) at (format-to-end b)))
 
   form-read : Reads at·start (from·begin r) (last r)
   form-read = newline-read (begin-data-read (λ b. newline-read (dimensions-to-end b)))
 
-pub form-parsed : (r : Reading) → Sound r → Stated r → parse (form·tokens r) ≡ done r
+pub form-parsed : (r : Reading) → Sound r → parse (form·tokens r) ≡ done r
 unfolding words·from form·tokens parse parse·from parse·behind commands finish finish·in matrix·read final
-form-parsed r s stated = rw (form-read r s stated .read 1, s .dna·unordered) refl
+form-parsed r s = rw (form-read r s .read 1, s .dna·unordered) refl

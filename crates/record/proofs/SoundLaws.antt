@@ -5,8 +5,10 @@ use Rattle.block.specs.Reading.{Reading}
 use Rattle.block.specs.Sequential.{names}
 use Rattle.lexer.proofs.Basics.{and-left, and-right}
 use Rattle.lexer.specs.Base.{empty?}
+use Rattle.lexer.specs.Words.{largest}
 use Rattle.block.specs.Sound.{Sound, sound, sound·rows, sound·symbols, gap·in, sound·names, names·differ, sound·labels, few·states}
 use borrow.Author.Tests.{not-true}
+use lib.Dec.{leb}
 use lib.ListN.{length}
 use mathlib.Core.Bool.{Bool, true, _&&_, not}
 use mathlib.Core.List.{List, [], _∷_}
@@ -15,7 +17,7 @@ use mathlib.Core.Path.{_≡_}
 pub sound-test : (r : Reading) → Sound r → sound r ≡ true
 unfolding sound
 sound-test r s =
-    rw (s .some·taxon, s .some·character, s .rows·long, s .cells·sound, s .symbols·sound, s .names·sound, s .names·unlike, s .labels·sound, s .states·few, s .dna·unordered)
+    rw (s .some·taxon, s .some·character, s .taxa·few, s .characters·few, s .rows·long, s .cells·sound, s .symbols·sound, s .names·sound, s .names·unlike, s .labels·sound, s .states·few, s .dna·unordered)
 
 -- A test and more of them, all of which hold.
 abbrev chain : Bool → List Bool → Bool
@@ -38,6 +40,8 @@ test-sound r t =
     let e =
     chain-each (not (empty? (r .taxa)))
     (not (empty? (r .characters))
+    ∷ leb (length (r .taxa)) largest
+    ∷ leb (length (r .characters)) largest
     ∷ all·long (length (r .characters)) (r .taxa)
     ∷ sound·rows (length (r .symbols)) (r .taxa)
     ∷ sound·symbols (r .data·type) (r .symbols) (gap·in (r .taxa))
@@ -51,12 +55,14 @@ test-sound r t =
     record {
       some·taxon = not-true _ (e .0);
       some·character = not-true _ (e .1 .0);
-      rows·long = e .1 .1 .0;
-      cells·sound = e .1 .1 .1 .0;
-      symbols·sound = e .1 .1 .1 .1 .0;
-      names·sound = e .1 .1 .1 .1 .1 .0;
-      names·unlike = e .1 .1 .1 .1 .1 .1 .0;
-      labels·sound = e .1 .1 .1 .1 .1 .1 .1 .0;
-      states·few = e .1 .1 .1 .1 .1 .1 .1 .1 .0;
-      dna·unordered = e .1 .1 .1 .1 .1 .1 .1 .1 .1 .0;
+      taxa·few = e .1 .1 .0;
+      characters·few = e .1 .1 .1 .0;
+      rows·long = e .1 .1 .1 .1 .0;
+      cells·sound = e .1 .1 .1 .1 .1 .0;
+      symbols·sound = e .1 .1 .1 .1 .1 .1 .0;
+      names·sound = e .1 .1 .1 .1 .1 .1 .1 .0;
+      names·unlike = e .1 .1 .1 .1 .1 .1 .1 .1 .0;
+      labels·sound = e .1 .1 .1 .1 .1 .1 .1 .1 .1 .0;
+      states·few = e .1 .1 .1 .1 .1 .1 .1 .1 .1 .1 .0;
+      dna·unordered = e .1 .1 .1 .1 .1 .1 .1 .1 .1 .1 .1 .0;
     }

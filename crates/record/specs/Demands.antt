@@ -6,7 +6,6 @@ use mathlib.Core.Logic.{_↔_}
 use mathlib.Core.Option.{some}
 use mathlib.Core.Path.{_≡_}
 use Rattle.lexer.specs.Lexing.{longest}
-use Rattle.lexer.specs.Words.{largest}
 use Rattle.block.specs.Parse.{reading, read}
 use Rattle.block.specs.Reading.{Taxon, Character, Reading}
 use Rattle.block.specs.Sequential.{names}
@@ -38,11 +37,6 @@ pub record Counted (r : Reading) : Type 0 where
   pub taxa : length (r .taxa) ≤ most
   pub characters : length (r .characters) ≤ most
 
--- The counts that DIMENSIONS can state: those of 64 bits.
-pub record Stated (r : Reading) : Type 0 where
-  pub taxa : length (r .taxa) ≤ largest
-  pub characters : length (r .characters) ≤ largest
-
 -- Demand 3. A record gives back its reading.
 abbrev pub Records·are·read·back : Type 0
 Records·are·read·back = (r : Reading) → Sound r → Counted r → unspell (spell r) ≡ some r
@@ -62,10 +56,9 @@ Not·refused·is·some·reading =
     (b : List ℕ) →
     ((r : Reading) × (unspell b ≡ some r)) ↔ ((text : List ℕ) × (r : Reading) × Reads text r × Sound r × Counted r × (spell r ≡ b))
 
--- Demand 3. The written form is read again, whatever its length. A reading with 2^64 taxa or characters has no such form, since no DIMENSIONS
--- command can state that count.
+-- Demand 3. The written form is read again, whatever its length.
 abbrev pub Forms·are·read·again : Type 0
-Forms·are·read·again = (r : Reading) → Sound r → Stated r → Reads (form r) r
+Forms·are·read·again = (r : Reading) → Sound r → Reads (form r) r
 
 -- Readings agree if each of these is equal in both: the data type; the symbols in order; the taxa's names and cells; for each character its
 -- label, its state labels and its type. Lists are equal also in length.
@@ -80,9 +73,8 @@ pub record Agree (r s : Reading) : Type 0 where
 
 -- Demand 3. Two readings have equal forms exactly when they agree.
 abbrev pub Forms·tell·readings·apart : Type 0
-Forms·tell·readings·apart = (r s : Reading) → Sound r → Stated r → Sound s → Stated s → (form r ≡ form s) ↔ Agree r s
+Forms·tell·readings·apart = (r s : Reading) → Sound r → Sound s → (form r ≡ form s) ↔ Agree r s
 
 -- Demand 3. Two texts that are read have written forms with the same bytes exactly when their readings agree.
 abbrev pub Forms·tell·texts·apart : Type 0
-Forms·tell·texts·apart =
-    (t u : List ℕ) (r s : Reading) → length t ≤ largest → length u ≤ largest → Reads t r → Reads u s → (form r ≡ form s) ↔ Agree r s
+Forms·tell·texts·apart = (t u : List ℕ) (r s : Reading) → Reads t r → Reads u s → (form r ≡ form s) ↔ Agree r s
