@@ -1,16 +1,16 @@
 -- The reading of a matrix is sound but for the types of its characters. Assumes nothing.
 use Prim.Native.Nat.{ℕ, suc}
 use Rattle.block.proofs.BlocksKept.{Claims, Ready}
-use Rattle.block.proofs.ChunkSound.{Fine, none-some, some-inj, pick-some}
+use Rattle.block.proofs.ChunkSound.{Fine}
 use Rattle.block.proofs.CommandWords.{all-words}
 use Rattle.block.proofs.FormatSound.{Good, default-good}
 use Rattle.block.proofs.LabelsSound.{States, Given, Labels, CleanLabels, labels-labelled}
-use Rattle.block.proofs.MatrixParts.{matrix-parts}
+use Rattle.block.proofs.MatrixParts.{rows-keep, matrix-parts}
 use Rattle.block.proofs.NamesSound.{Clean, Named, Names, Sound·name, all-sound}
 use Rattle.block.proofs.OutcomeLaws.{pick-either, All, Opt}
 use Rattle.block.proofs.PagesSound.{interleaved-matrix}
-use Rattle.block.proofs.RowsSound.{Whole, Matrix, sequential-matrix}
-use Rattle.block.specs.Blocks.{Data, agrees, row·of, unordered, rows, matrix, orderable}
+use Rattle.block.proofs.RowsSound.{Whole, length-names, Matrix, sequential-matrix}
+use Rattle.block.specs.Blocks.{Data, agrees, unordered, rows, matrix, orderable}
 use Rattle.block.specs.Cell.{Cell}
 use Rattle.block.specs.Commands.{words}
 use Rattle.block.specs.Format.{Format, default·format}
@@ -22,7 +22,7 @@ use Rattle.block.specs.Sequential.{Shape, names, sequential}
 use Rattle.block.specs.Sound.{sound·names, names·differ, sound·labels, few·states, sound·cells, sound·rows, gap?, gap·among, gap·in, sound·symbols, Sound}
 use Rattle.block.specs.TaxonOrder.{all·rows, Follows}
 use Rattle.lexer.proofs.Basics.{and-both, by-test}
-use Rattle.lexer.specs.Base.{empty?, given, alike}
+use Rattle.lexer.specs.Base.{empty?, given}
 use Rattle.lexer.specs.Words.{Numbered}
 use borrow.Author.Tests.{eqb-true, eqb-false, eq-eqb, le-leb}
 use lib.Dec.{eqb}
@@ -88,31 +88,15 @@ module _ (f : Format) (n : ℕ) where
   gap-rows [] p h = absurd (false≢true h)
   gap-rows (t ∷ r) p h = by-test (gap·among (t .cells)) (gap-cells (t .cells) (p .0 .fine)) (λ e. gap-rows r (p .1) (rw e at h))
 
-  -- A row of a declared name is whole, and so are rows in declared order.
-  row-whole : (name : List ℕ) (taken : List Taxon) (t : Taxon) → All (Whole f n) taken → row·of name taken ≡ some t → Whole f n t
-  unfolding row·of
-  row-whole name [] t p h = none-some t h
-  row-whole name (x ∷ r) t p h =
-      let row : Taxon = record { name = name; cells = x .cells } in
-      pick-some (alike name (x .name)) (some row) (row·of name r) t
-      (λ e. rw (← some-inj {a = row} e) (record { long = p .0 .long; fine = p .0 .fine }))
-      (row-whole name r t (p .1)) h
-
+  -- Rows in declared order are whole.
   rows-whole : (taken ts : List Taxon) → All (Whole f n) taken → all·rows taken ts → All (Whole f n) ts
-  unfolding all·rows
-  rows-whole taken [] p a = tt
-  rows-whole taken (t ∷ r) p a = (row-whole (t .name) taken t p (a .0), rows-whole taken r p (a .1))
+  rows-whole = rows-keep (Whole f n) (λ x name w. record { long = w .long; fine = w .fine })
 
 -- The taxa of a matrix: rows that are whole, names that differ and of which something holds, and as many as NTAX.
 record Arranged (N : List ℕ → Type 0) (sh : Shape) (ts : List Taxon) : Type 0 where
   named : Named N (names ts)
   whole : All (Whole (sh .format) (sh .characters)) ts
   counted : length ts ≡ sh .taxa
-
-length-names : (ts : List Taxon) → length (names ts) ≡ length ts
-unfolding names
-length-names [] = refl
-length-names (t ∷ r) = ap suc (length-names r)
 
 follows-arranged : (N : List ℕ → Type 0) (sh : Shape) (declared : Option (List (List ℕ))) (taken ts : List Taxon) → Opt (Named N) declared → agrees declared (sh .taxa) ≡ true → Matrix N sh taken → Follows declared taken ts → Arranged N sh ts
 unfolding agrees

@@ -1,6 +1,6 @@
 -- Sequential rows that are read: NTAX of them, each with NCHAR cells that are fine; their names differ, and what holds of the names of words
 -- holds of them. Assumes nothing.
-use Prim.Native.Nat.{ℕ}
+use Prim.Native.Nat.{ℕ, suc}
 use Rattle.block.proofs.ChunkSound.{Fine, RowFine, chunk-fine}
 use Rattle.block.proofs.FormatSound.{Good}
 use Rattle.block.proofs.NamesSound.{Names, Named, named-none, named-one, need-named}
@@ -40,6 +40,11 @@ names-append (r ∷ rs) more = ap (λ l. r .name ∷ l) (names-append rs more)
 pub names-one : (rows : List Taxon) (t : Taxon) → names (rows ++ (t ∷ [])) ≡ names rows ++ (t .name ∷ [])
 unfolding names
 names-one rows t = names-append rows (t ∷ [])
+
+pub length-names : (rows : List Taxon) → length (names rows) ≡ length rows
+unfolding names
+length-names [] = refl
+length-names (r ∷ rs) = ap suc (length-names rs)
 
 -- What the rows of a matrix are.
 pub record Matrix (N : List ℕ → Type 0) (sh : Shape) (rows : List Taxon) : Type 0 where
