@@ -18,7 +18,7 @@ use Rattle.block.specs.Reading.{Taxon, Character, Reading}
 use Rattle.block.specs.Sequential.{names}
 use Rattle.block.specs.declared.data.DataType.{DataType}
 
--- A name: UTF-8 without `_` and CR; not all White_Space, unless a U+0020 is in it.
+-- A name: UTF-8 without `_` and CR; not all White_Space (nor empty), unless a U+0020 is in it.
 unfoldable pub sound·name : List ℕ → Bool
 sound·name n = utf8 n && not (among (byte "_") n) && not (among (byte "\r") n) && (not (blank n) || among (byte " ") n)
 
@@ -111,10 +111,11 @@ pub record Sound (r : Reading) : Type 0 where
   pub cells·sound : sound·rows (length (r .symbols)) (r .taxa) ≡ true
   -- symbols are valid and different, 2 to 73, or 72 beside a gap cell; those of DNA are ACGT
   pub symbols·sound : sound·symbols (r .data·type) (r .symbols) (gap·in (r .taxa)) ≡ true
-  -- names hold no `_` and no CR, and are blank-only only with a U+0020
+  -- names are UTF-8, hold no `_` and no CR, and are blank-only only with a U+0020
   pub names·sound : sound·names (names (r .taxa)) ≡ true
   -- names differ, ASCII case ignored
   pub names·unlike : names·differ (names (r .taxa)) ≡ true
+  -- labels, where they are not absent, and state labels are such names; they may be alike
   pub labels·sound : sound·labels (r .characters) ≡ true
   -- at most as many state labels as symbols
   pub states·few : few·states (length (r .symbols)) (r .characters) ≡ true

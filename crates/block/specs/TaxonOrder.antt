@@ -16,11 +16,12 @@ use Rattle.block.specs.Outcome.{done, fold}
 use Rattle.block.specs.Reading.{Taxon}
 use Rattle.block.specs.Sequential.{Shape, names}
 
--- The commands of a text: those behind its first word.
+-- The tokens behind the header, the first that is no newline.
 unfoldable pub behind·header : List Numbered → List Numbered
 behind·header [] = []
 behind·header (w ∷ r) = let later = behind·header r in pick (newline w) later r
 
+-- The commands of a text.
 unfoldable pub commands·of : List ℕ → List Command
 commands·of text = commands (behind·header (numbered 0 (tokens text)))
 
@@ -34,17 +35,20 @@ pub record Declares (cs : List Command) (declared : List (List ℕ)) : Type 0 wh
 
 -- The MATRIX command of a text: the commands before it lead to a data block, by which its rows are read.
 pub record Matrix·of (cs : List Command) : Type 0 where
+  -- the command, between those before it and those after it
   pub before : List Command
   pub head : Numbered
   pub raw : List Numbered
   pub after : List Command
   pub here : cs ≡ before ++ (command head raw ∷ after)
   pub word : is (bytes "MATRIX") head ≡ true
+  -- the state before it, with the open data block
   pub state : State
   pub reached : fold step at·start before ≡ done state
   pub block : ℕ
   pub block·data : Data
   pub inside : state .phase ≡ in·data block block·data
+  -- what the block says that the matrix is to be, and its rows as they come
   pub dimensions : Dimensions
   pub sized : block·data .dimensions ≡ some dimensions
   pub shape : Shape
