@@ -12,6 +12,8 @@ use Rattle.block.specs.Reading.{Taxon, Character, Reading}
 use Rattle.block.specs.Sequential.{names}
 use Rattle.block.specs.Sound.{Sound}
 use Rattle.block.specs.TaxonOrder.{commands·of, Matrix·of, Follows, all·named}
+use Rattle.lexer.specs.declared.refusal.Refusal.{Refusal}
+use Rattle.record.specs.Calls.{refuse, write·result, not·found, lookup·answer}
 use Rattle.record.specs.Form.{form}
 use Rattle.record.specs.Spell.{spell}
 use Rattle.record.specs.Unspell.{unspell, most}
@@ -55,12 +57,22 @@ Records·are·spelled = (b : List ℕ) (r : Reading) → unspell b ≡ some r �
 abbrev pub Records·of·texts·pass : Type 0
 Records·of·texts·pass = (text : List ℕ) (r : Reading) → length text ≤ longest → Reads text r → unspell (spell r) ≡ some r
 
--- 31 stands exactly where no text of any length has these bytes as its record, or a count is above 1,048,576: bytes are not refused if and only
--- if some text's reading, sound and within the counts, spells them.
+-- Some text's reading, sound and within the counts, spells these bytes.
+abbrev pub Some·reading·spells : List ℕ → Type 0
+Some·reading·spells b = (text : List ℕ) × (r : Reading) × Reads text r × Sound r × Counted r × (spell r ≡ b)
+
+-- Demands 2 and 3. 31 stands exactly where no text of any length has these bytes as its record, or a count is above 1,048,576: bytes are not
+-- refused if and only if some text's reading, sound and within the counts, spells them.
 abbrev pub Not·refused·is·some·reading : Type 0
-Not·refused·is·some·reading =
-    (b : List ℕ) →
-    ((r : Reading) × (unspell b ≡ some r)) ↔ ((text : List ℕ) × (r : Reading) × Reads text r × Sound r × Counted r × (spell r ≡ b))
+Not·refused·is·some·reading = (b : List ℕ) → ((r : Reading) × (unspell b ≡ some r)) ↔ Some·reading·spells b
+
+-- The same of the calls: what write comes to, and what a lookup of any name answers, is refusal 31 if and only if no such reading spells the
+-- bytes.
+abbrev pub Refused·is·no·reading : Type 0
+Refused·is·no·reading =
+    (b name : List ℕ) →
+    ((write·result b ≡ refuse Refusal.NotRecord) ↔ ¬ (Some·reading·spells b))
+    × ((lookup·answer name b ≡ not·found Refusal.NotRecord) ↔ ¬ (Some·reading·spells b))
 
 -- Demand 3. The written form is read again, whatever its length. A reading with 2^64 taxa or characters has no such form, since no DIMENSIONS
 -- command can state that count.
