@@ -8,7 +8,6 @@ use Rattle.block.proofs.TaxaFollow.{taxa-follow}
 use Rattle.block.specs.Parse.{reading, read, read·tokens, placed}
 use Rattle.block.specs.Reading.{Taxon, Character, Reading}
 use Rattle.block.specs.Sequential.{names}
-use Rattle.block.specs.Sound.{Sound}
 use Rattle.block.specs.TaxonOrder.{Token·named, all·named}
 use Rattle.lexer.specs.Base.{pick}
 use Rattle.lexer.specs.Lexing.{longest}
@@ -23,7 +22,6 @@ use Rattle.record.specs.Demands.{Reads, Counted, Stated, Agree, Every·r
 use Rattle.record.specs.Calls.{bytes·of, refuse, written, write·result, not·found, found, looked·up, lookup·answer}
 use Rattle.record.specs.Form.{form}
 use Rattle.record.specs.Lookup.{Stretch, lookup}
-use Rattle.record.specs.Spell.{spell}
 use Rattle.record.specs.Unspell.{unspell, most}
 use lib.Dec.{leb}
 use lib.ListN.{length}
