@@ -66,8 +66,8 @@ Some·reading·spells b = (text : List ℕ) × (r : Reading) × Reads text r × 
 abbrev pub Not·refused·is·some·reading : Type 0
 Not·refused·is·some·reading = (b : List ℕ) → ((r : Reading) × (unspell b ≡ some r)) ↔ Some·reading·spells b
 
--- The same of the calls: what write comes to, and what a lookup of any name answers, is refusal 31 if and only if no such reading spells the
--- bytes.
+-- Demands 2 and 3. The same of the calls: what write comes to, and what a lookup of any name answers, is refusal 31 if and only if no such
+-- reading spells the bytes.
 abbrev pub Refused·is·no·reading : Type 0
 Refused·is·no·reading =
     (b name : List ℕ) →
