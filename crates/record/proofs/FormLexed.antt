@@ -175,16 +175,17 @@ labels-lexed cs h e =
     chosen-alike Lexes (labelled cs) (word-lexed (bytes "CHARSTATELABELS") refl refl (entries-parts true 1 cs h (semicolon-parts e))) e
 
 -- ASSUMPTIONS
-order-parts : (o : CharacterOrdering) {r : List ℕ} {ts : List Token}
-    → Parts r ts → Parts (32 ∷ order·word o ++ r) (word (order·word o) ∷ ts)
-unfolding order·word all·plain plain? plain·class run·tokens
-order-parts CharacterOrdering.Ordered e = blank-parts (word-lexed (bytes "ORD") refl refl e)
-order-parts CharacterOrdering.Unordered e = blank-parts (word-lexed (bytes "UNORD") refl refl e)
-
 types-parts : (cs : List Character) {r : List ℕ} {ts : List Token} → Parts r ts → Parts (form·types cs r) (types·tokens cs ts)
-unfolding form·types types·tokens
+unfolding form·types types·tokens order·word all·plain plain? plain·class run·tokens
 types-parts [] e = e
-types-parts (c ∷ cs) e = order-parts (c .ordering) (types-parts cs e)
+types-parts (c ∷ cs) {r} {ts} e = go (c .ordering) (types-parts cs e)
+  where
+    go : (o : CharacterOrdering)
+        → Parts (form·types cs r) (types·tokens cs ts)
+        → Parts (form·types (record { label = c .label; states = c .states; ordering = o } ∷ cs) r)
+        (types·tokens (record { label = c .label; states = c .states; ordering = o } ∷ cs) ts)
+    go CharacterOrdering.Ordered more = blank-parts (word-lexed (bytes "ORD") refl refl more)
+    go CharacterOrdering.Unordered more = blank-parts (word-lexed (bytes "UNORD") refl refl more)
 
 assumptions-lexed : (cs : List Character) → Lexes (form·assumptions cs) (assumptions·tokens cs)
 unfolding form·assumptions assumptions·tokens run·tokens
