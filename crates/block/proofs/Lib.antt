@@ -2,6 +2,7 @@ pub mod BlocksKept
 pub mod Cases
 pub mod ChunkSound
 pub mod CommandWords
+pub mod DeclaredHeld
 pub mod FormatSound
 pub mod LabelsSound
 pub mod MatrixParts

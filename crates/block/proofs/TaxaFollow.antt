@@ -1,6 +1,7 @@
 -- The taxa of a reading follow the declared order: what TAXLABELS declared before the MATRIX of the text, or the rows as they come. Assumes nothing.
 use Prim.Native.Nat.{ℕ}
 use Rattle.block.proofs.BlocksKept.{Claims, Block, Brings, Kept, kept-map, step-kept, start-kept}
+use Rattle.block.proofs.DeclaredHeld.{declares-holds}
 use Rattle.block.proofs.MatrixParts.{matrix-parts}
 use Rattle.block.proofs.OutcomeLaws.{fold-history}
 use Rattle.block.proofs.ReadCommands.{read-finished}
@@ -13,7 +14,8 @@ use Rattle.block.specs.TaxonOrder.{commands·of, Declares, Matrix·of, F
 use Rattle.lexer.specs.Base.{bytes}
 use Rattle.lexer.specs.Words.{Numbered, is}
 use mathlib.Core.Bool.{true}
-use mathlib.Core.List.{List, [], _∷_, _++_, append-assoc, List·Memᴰ, List·Memᴰ·head, Memᴰ·append-left, Memᴰ·append-right}
+use mathlib.Core.List.{List, [], _∷_, _++_, append-assoc}
+use mathlib.Core.Logic.{_↔_}
 use mathlib.Core.Option.{some}
 use mathlib.Core.Path.{_≡_, refl, ap, _∙_, subst}
 
@@ -28,7 +30,19 @@ come·from cs = record { names = Declares cs; format = λ f. Unit {0}; labels = 
 
 module _ (cs : List Command) (c : Command) where
   declares-later : (ns : List (List ℕ)) → Declares cs ns → Declares (cs ++ (c ∷ [])) ns
-  declares-later ns d = record { head = d .head; raw = d .raw; among = Memᴰ·append-left (c ∷ []) (d .among); word = d .word; named = d .named }
+  declares-later ns d =
+      record {
+        before = d .before;
+        head = d .head;
+        raw = d .raw;
+        after = d .after ++ (c ∷ []);
+        here = ap (λ l. l ++ (c ∷ [])) (d .here) ∙ append-assoc (d .before) (command (d .head) (d .raw) ∷ d .after) (c ∷ []);
+        word = d .word;
+        state = d .state;
+        reached = d .reached;
+        inside = d .inside;
+        named = d .named;
+      }
 
   matrix-later : Matrix·of cs → Matrix·of (cs ++ (c ∷ []))
   matrix-later m =
@@ -62,13 +76,13 @@ module _ (cs : List Command) (c : Command) where
 
 -- The next command brings in names that it declares, and a matrix with the rows that it holds.
 module _ (before : List Command) (s : State) (reached : fold step at·start before ≡ done s) (k : Kept (come·from before) s) (h : Numbered) (raw : List Numbered) where
-  last : List·Memᴰ (command h raw) (before ++ (command h raw ∷ []))
-  last = Memᴰ·append-right before (List·Memᴰ·head refl)
-
-  declared : (b : ℕ) (d : Data) → s .phase ≡ in·data b d → (ns : List (List ℕ)) → d .taxa ≡ some ns → Declares before ns
-  declared b d at ns e =
-      let block : Block (come·from before) d = rw at at (k .phase) in
-      rw e at (block .ready .taxa)
+  declared : (b : ℕ) (d : Data) → s .phase ≡ in·data b d → (ns : List (List ℕ)) → (d .taxa ≡ some ns) ↔ Declares before ns
+  declared b d at ns = (comes, λ p. rw at at (declares-holds before s reached ns p))
+    where
+      comes : d .taxa ≡ some ns → Declares before ns
+      comes e =
+          let block : Block (come·from before) d = rw at at (k .phase) in
+          rw e at (block .ready .taxa)
 
   following : is (bytes "MATRIX") h ≡ true → (b : ℕ) (d : Data) → s .phase ≡ in·data b d → (r : Reading) → matrix d h raw ≡ done r → Following (before ++ (command h raw ∷ [])) r
   following word b d at r e =
@@ -102,7 +116,7 @@ module _ (before : List Command) (s : State) (reached : fold step at·start befo
   unfolding with·types
   brings =
       record {
-        named = λ t ns e. record { head = h; raw = raw; among = last; word = t; named = e };
+        named = λ t p ns e. record { before = before; head = h; raw = raw; after = []; here = refl; word = t; state = s; reached = reached; inside = p; named = e };
         formatted = λ f e. tt;
         labelled = λ l. tt;
         read = λ t b d at p r e. following t b d at r e;

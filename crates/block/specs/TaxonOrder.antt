@@ -1,13 +1,14 @@
 -- The order of the taxa, and where their names come from, as statements about a text's commands and tokens.
 use Prim.Native.Nat.{ℕ}
-use mathlib.Core.Bool.{true}
+use mathlib.Core.Bool.{Bool, true, false}
 use mathlib.Core.List.{List, [], _∷_, _++_, List·Memᴰ}
+use mathlib.Core.Logic.{_↔_}
 use mathlib.Core.Option.{Option, none, some}
 use mathlib.Core.Path.{_≡_}
 use Rattle.lexer.specs.Base.{pick, bytes}
 use Rattle.lexer.specs.Tokens.{tokens}
 use Rattle.lexer.specs.Words.{Numbered, numbered, is, label}
-use Rattle.block.specs.Blocks.{Data, State, in·data, at·start, step, row·of, matrix·shape}
+use Rattle.block.specs.Blocks.{Data, Phase, outside, in·taxa, in·data, in·assumptions, in·trees, State, at·start, step, row·of, matrix·shape}
 use Rattle.block.specs.Blocks as Blocks
 use Rattle.block.specs.Commands.{Command, command, commands, words, newline}
 use Rattle.block.specs.Dimensions.{Dimensions}
@@ -25,12 +26,25 @@ behind·header (w ∷ r) = let later = behind·header r in pick (newline w) late
 unfoldable pub commands·of : List ℕ → List Command
 commands·of text = commands (behind·header (numbered 0 (tokens text)))
 
--- A TAXLABELS command among these that declares the names.
+-- The blocks in which TAXLABELS declares taxa: TAXA, and DATA or CHARACTERS.
+unfoldable pub declaring? : Phase → Bool
+declaring? outside = false
+declaring? (in·taxa b count names) = true
+declaring? (in·data b d) = true
+declaring? (in·assumptions b r default set) = false
+declaring? (in·trees b) = false
+
+-- A TAXLABELS command among these that declares the names: the commands before it lead to such a block.
 pub record Declares (cs : List Command) (declared : List (List ℕ)) : Type 0 where
+  pub before : List Command
   pub head : Numbered
   pub raw : List Numbered
-  pub among : List·Memᴰ (command head raw) cs
+  pub after : List Command
+  pub here : cs ≡ before ++ (command head raw ∷ after)
   pub word : is (bytes "TAXLABELS") head ≡ true
+  pub state : State
+  pub reached : fold step at·start before ≡ done state
+  pub inside : declaring? (state .phase) ≡ true
   pub named : unique·names (words raw) ≡ done declared
 
 -- The MATRIX command of a text: the commands before it lead to a data block, by which its rows are read.
@@ -55,8 +69,8 @@ pub record Matrix·of (cs : List Command) : Type 0 where
   pub shaped : matrix·shape block·data dimensions (head .index) ≡ done shape
   pub rows : List Taxon
   pub read : Blocks.rows shape raw ≡ done rows
-  -- what was declared before it comes from a TAXLABELS command
-  pub declared : (ns : List (List ℕ)) → block·data .taxa ≡ some ns → Declares before ns
+  -- the block has names as declared exactly where a TAXLABELS command before it declares them
+  pub declared : (ns : List (List ℕ)) → (block·data .taxa ≡ some ns) ↔ Declares before ns
 
 -- Each of these taxa has the cells of the row with its name.
 unfoldable pub all·rows : List Taxon → List Taxon → Type 0

@@ -26,7 +26,8 @@ Reads text r = read text ≡ reading r
 abbrev pub Every·reading·is·sound : Type 0
 Every·reading·is·sound = (text : List ℕ) (r : Reading) → Reads text r → Sound r
 
--- Demand 2. Rows follow any declared order: the k-th taxon has the k-th declared name, with the cells of the row of that name.
+-- Demand 2. Rows follow any declared order: the k-th taxon has the k-th declared name, with the cells of the row of that name. Names are
+-- declared exactly where a TAXLABELS command before MATRIX declares them (`Matrix·of`); where none does, taxa are the rows as they come.
 abbrev pub Taxa·follow·the·declaration : Type 0
 Taxa·follow·the·declaration =
     (text : List ℕ) (r : Reading) → Reads text r → (m : Matrix·of (commands·of text)) × Follows (m .block·data .taxa) (m .rows) (r .taxa)
