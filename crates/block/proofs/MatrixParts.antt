@@ -65,13 +65,14 @@ order-follows head none taken ts h = sym (done-inj h)
 order-follows head (some declared) taken ts h = arranged-follows head taken declared ts h
 
 -- A shape that MATRIX can be read by, after what was declared.
-pub record Shaped (d : Data) (sh : Shape) : Type 0 where
+pub record Shaped (d : Data) (dims : Dimensions) (sh : Shape) : Type 0 where
+  pub sized : sh .characters ≡ dims .characters
   pub formatted : sh .format ≡ Option·getD (d .format) default·format
   pub some·characters : eqb (sh .characters) 0 ≡ false
   pub some·taxa : eqb (sh .taxa) 0 ≡ false
   pub agreed : agrees (d .taxa) (sh .taxa) ≡ true
 
-pub matrix-shaped : (d : Data) (dims : Dimensions) (head : ℕ) (sh : Shape) → matrix·shape d dims head ≡ done sh → Shaped d sh
+pub matrix-shaped : (d : Data) (dims : Dimensions) (head : ℕ) (sh : Shape) → matrix·shape d dims head ≡ done sh → Shaped d dims sh
 unfolding matrix·shape
 matrix-shaped d dims head sh e =
     let n = declared·count (d .taxa) (dims .taxa) in
@@ -80,6 +81,7 @@ matrix-shaped d dims head sh e =
     let new = pick-else (dims .new·taxa && eqb (dims .taxa) 0) Refusal.Absent head _ sh (same .1) in
     rw (← done-inj (new .1))
     (record {
+      sized = refl;
       formatted = refl;
       some·characters = or-left (eqb (dims .characters) 0) (eqb n 0) (counts .0);
       some·taxa = or-right (eqb (dims .characters) 0) (eqb n 0) (counts .0);
@@ -92,7 +94,7 @@ pub record Parts (d : Data) (h : Numbered) (raw : List Numbered) (r : Reading) :
   pub sized : d .dimensions ≡ some dimensions
   pub shape : Shape
   pub by : matrix·shape d dimensions (h .index) ≡ done shape
-  pub shaped : Shaped d shape
+  pub shaped : Shaped d dimensions shape
   pub taken : List Taxon
   pub read : rows shape raw ≡ done taken
   pub taxa : List Taxon

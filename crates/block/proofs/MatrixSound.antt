@@ -62,7 +62,7 @@ typed-sound r u o =
 
 -- Whole rows, as tests.
 module _ (f : Format) (n : ℕ) where
-  whole-long : (rows : List Taxon) → All (Whole f n) rows → all·long n rows ≡ true
+  pub whole-long : (rows : List Taxon) → All (Whole f n) rows → all·long n rows ≡ true
   unfolding all·long
   whole-long [] p = refl
   whole-long (t ∷ r) p = and-both (eq-eqb (length (t .cells)) n (p .0 .long)) (whole-long r (p .1))
@@ -138,7 +138,7 @@ module _ {A : Type 0} where
   some-of [] n e h = absurd (eqb-false n 0 h (sym e))
   some-of (a ∷ l) n e h = refl
 
-default-formatted : (f : Option Format) → Opt Good f → Good (Option·getD f default·format)
+pub default-formatted : (f : Option Format) → Opt Good f → Good (Option·getD f default·format)
 default-formatted none p = default-good
 default-formatted (some f) p = p
 
@@ -151,19 +151,20 @@ pub record Naming (Q : Numbered → Type 0) (N : List ℕ → Type 0) : Type 0 w
   pub clean : (w : Numbered) → Q w → Clean w
   pub name : Names Q N
 
-module _ (N : List ℕ → Type 0) (Q : Numbered → Type 0) (law : Naming Q N) where
-  rows-matrix : (sh : Shape) (good : Good (sh .format)) (raw : List Numbered) (taken : List Taxon) → All Q raw → rows sh raw ≡ done taken → Matrix N sh taken
+module _ (N : List ℕ → Type 0) (Q : Numbered → Type 0) (name : Names Q N) where
+  pub rows-matrix : (sh : Shape) (good : Good (sh .format)) (raw : List Numbered) (taken : List Taxon) → All Q raw → rows sh raw ≡ done taken → Matrix N sh taken
   unfolding rows
   rows-matrix sh good raw taken q h =
-      pick-either (sh .format .interleave) (interleaved sh raw) (sequential sh (words raw)) taken (interleaved-matrix N Q (law .name) sh good raw taken q) (sequential-matrix N Q (law .name) sh good (words raw) taken (all-words Q raw q)) h
+      pick-either (sh .format .interleave) (interleaved sh raw) (sequential sh (words raw)) taken (interleaved-matrix N Q name sh good raw taken q) (sequential-matrix N Q name sh good (words raw) taken (all-words Q raw q)) h
 
+module _ (N : List ℕ → Type 0) (Q : Numbered → Type 0) (law : Naming Q N) where
   pub matrix-untyped : (d : Data) (h : Numbered) (raw : List Numbered) (r : Reading) → Ready (claims N) d → All Q raw → matrix d h raw ≡ done r → Untyped N r
   matrix-untyped d h raw r p q e =
       let k = matrix-parts d h raw r e in
       let sh = k .shape in
       let f = sh .format in
       let good : Good f = rw (k .shaped .formatted) (default-formatted (d .format) (p .format)) in
-      let m = follows-arranged N sh (d .taxa) (k .taken) (k .taxa) (p .taxa) (k .shaped .agreed) (rows-matrix sh good raw (k .taken) q (k .read)) (k .follows) in
+      let m = follows-arranged N sh (d .taxa) (k .taken) (k .taxa) (p .taxa) (k .shaped .agreed) (rows-matrix N Q (law .name) sh good raw (k .taken) q (k .read)) (k .follows) in
       let l = labels-labelled (length (f .symbols)) (sh .characters) (d .labels) (k .labelled) (p .labels) (k .labels) in
       let size : length (unordered (k .labelled)) ≡ sh .characters = unordered-length (length (f .symbols)) (k .labelled) ∙ l .sized in
       rw (← k .is)

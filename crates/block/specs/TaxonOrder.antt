@@ -12,6 +12,7 @@ use Rattle.block.specs.Blocks.{Data, Phase, outside, in·taxa, in·data,
 use Rattle.block.specs.Blocks as Blocks
 use Rattle.block.specs.Commands.{Command, command, commands, words, newline}
 use Rattle.block.specs.Dimensions.{Dimensions}
+use Rattle.block.specs.Interleaved.{all·long}
 use Rattle.block.specs.Names.{unique·names}
 use Rattle.block.specs.Outcome.{done, fold}
 use Rattle.block.specs.Reading.{Taxon}
@@ -25,6 +26,17 @@ behind·header (w ∷ r) = let later = behind·header r in pick (newline w) late
 -- The commands of a text.
 unfoldable pub commands·of : List ℕ → List Command
 commands·of text = commands (behind·header (numbered 0 (tokens text)))
+
+-- One of these tokens is this name.
+pub record Token·named (ws : List Numbered) (n : List ℕ) : Type 0 where
+  pub token : Numbered
+  pub among : List·Memᴰ token ws
+  pub named : label token ≡ some n
+
+-- The name of each of these taxa is that of one of the tokens.
+unfoldable pub all·named : List Numbered → List Taxon → Type 0
+all·named ws [] = Unit {0}
+all·named ws (t ∷ r) = Token·named ws (t .name) × all·named ws r
 
 -- The blocks in which TAXLABELS declares taxa: TAXA, and DATA or CHARACTERS.
 unfoldable pub declaring? : Phase → Bool
@@ -69,6 +81,9 @@ pub record Matrix·of (cs : List Command) : Type 0 where
   pub shaped : matrix·shape block·data dimensions (head .index) ≡ done shape
   pub rows : List Taxon
   pub read : Blocks.rows shape raw ≡ done rows
+  -- every row has NCHAR cells, and its name is that of one of the command's tokens
+  pub long : all·long (dimensions .characters) rows ≡ true
+  pub named : all·named raw rows
   -- the block has names as declared exactly where a TAXLABELS command before it declares them
   pub declared : (ns : List (List ℕ)) → (block·data .taxa ≡ some ns) ↔ Declares before ns
 
@@ -82,13 +97,3 @@ all·rows rows (t ∷ r) = (row·of (t .name) rows ≡ some t) × all·rows rows
 abbrev pub Follows : Option (List (List ℕ)) → List Taxon → List Taxon → Type 0
 Follows none rows taxa = taxa ≡ rows
 Follows (some declared) rows taxa = (names taxa ≡ declared) × all·rows rows taxa
-
--- A token of the text is this name.
-pub record Token·named (text : List ℕ) (n : List ℕ) : Type 0 where
-  pub token : Numbered
-  pub among : List·Memᴰ token (numbered 0 (tokens text))
-  pub named : label token ≡ some n
-
-unfoldable pub all·named : List ℕ → List Taxon → Type 0
-all·named text [] = Unit {0}
-all·named text (t ∷ r) = Token·named text (t .name) × all·named text r

@@ -1,14 +1,12 @@
 -- The promises of specs/Demands.antt, each with its proof. Assumes nothing.
 use Prim.Native.Nat.{ℕ, _≤_}
 use Rattle.block.proofs.NamesFromTokens.{names-from-tokens}
-use Rattle.block.proofs.OutcomeLaws.{All}
 use Rattle.block.proofs.ReadingSmall.{reading-small}
 use Rattle.block.proofs.ReadingSound.{reading-sound}
 use Rattle.block.proofs.TaxaFollow.{taxa-follow}
 use Rattle.block.specs.Parse.{reading, read, read·tokens, placed}
 use Rattle.block.specs.Reading.{Taxon, Character, Reading}
 use Rattle.block.specs.Sequential.{names}
-use Rattle.block.specs.TaxonOrder.{Token·named, all·named}
 use Rattle.lexer.specs.Base.{pick}
 use Rattle.lexer.specs.Lexing.{longest}
 use Rattle.lexer.specs.Words.{largest}
@@ -39,12 +37,7 @@ pub taxa-follow-the-declaration : Taxa·follow·the·declaration
 taxa-follow-the-declaration = taxa-follow
 
 pub names-come-from-tokens : Names·come·from·tokens
-unfolding all·named
-names-come-from-tokens text r h = go (r .taxa) (names-from-tokens text r h)
-  where
-    go : (ts : List Taxon) → All (λ t. Token·named text (t .name)) ts → all·named text ts
-    go [] p = tt
-    go (t ∷ ts) p = (p .0, go ts (p .1))
+names-come-from-tokens = names-from-tokens
 
 pub records-are-read-back : Records·are·read·back
 records-are-read-back = unspell-spell

@@ -6,7 +6,8 @@ use mathlib.Core.Logic.{_↔_}
 use mathlib.Core.Option.{some}
 use mathlib.Core.Path.{_≡_}
 use Rattle.lexer.specs.Lexing.{longest}
-use Rattle.lexer.specs.Words.{largest}
+use Rattle.lexer.specs.Tokens.{tokens}
+use Rattle.lexer.specs.Words.{numbered, largest}
 use Rattle.block.specs.Parse.{reading, read}
 use Rattle.block.specs.Reading.{Taxon, Character, Reading}
 use Rattle.block.specs.Sequential.{names}
@@ -28,13 +29,14 @@ Every·reading·is·sound = (text : List ℕ) (r : Reading) → Reads text r →
 
 -- Demand 2. Rows follow any declared order: the k-th taxon has the k-th declared name, with the cells of the row of that name. Names are
 -- declared exactly where a TAXLABELS command before MATRIX declares them (`Matrix·of`); where none does, taxa are the rows as they come.
+-- Every row has NCHAR cells and the name of a token of MATRIX.
 abbrev pub Taxa·follow·the·declaration : Type 0
 Taxa·follow·the·declaration =
     (text : List ℕ) (r : Reading) → Reads text r → (m : Matrix·of (commands·of text)) × Follows (m .block·data .taxa) (m .rows) (r .taxa)
 
 -- Demand 2. Names are those of the text's tokens.
 abbrev pub Names·come·from·tokens : Type 0
-Names·come·from·tokens = (text : List ℕ) (r : Reading) → Reads text r → all·named text (r .taxa)
+Names·come·from·tokens = (text : List ℕ) (r : Reading) → Reads text r → all·named (numbered 0 (tokens text)) (r .taxa)
 
 -- The counts of a record are at most 1,048,576.
 pub record Counted (r : Reading) : Type 0 where
