@@ -19,5 +19,6 @@ pub mod ReadingSound
 pub mod RisingLaws
 pub mod RowsSmall
 pub mod RowsSound
+pub mod SoundParts
 pub mod TaxaFollow
 pub mod Weights

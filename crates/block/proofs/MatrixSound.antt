@@ -10,6 +10,7 @@ use Rattle.block.proofs.NamesSound.{Clean, Named, Names, Sound·name, a
 use Rattle.block.proofs.OutcomeLaws.{pick-either, All, Opt}
 use Rattle.block.proofs.PagesSound.{interleaved-matrix}
 use Rattle.block.proofs.RowsSound.{Whole, length-names, Matrix, sequential-matrix}
+use Rattle.block.proofs.SoundParts.{sound-parts}
 use Rattle.block.specs.Blocks.{Data, agrees, unordered, rows, matrix, orderable}
 use Rattle.block.specs.Cell.{Cell}
 use Rattle.block.specs.Commands.{words}
@@ -47,18 +48,7 @@ pub record Untyped (N : List ℕ → Type 0) (r : Reading) : Type 0 where
 
 pub typed-sound : (r : Reading) → Untyped Sound·name r → orderable (r .data·type) (r .characters) ≡ true → Sound r
 typed-sound r u o =
-    record {
-      some·taxon = u .some·taxon;
-      some·character = u .some·character;
-      rows·long = u .rows·long;
-      cells·sound = u .cells·sound;
-      symbols·sound = u .symbols·sound;
-      names·sound = all-sound (names (r .taxa)) (u .names·each);
-      names·unlike = u .names·unlike;
-      labels·sound = u .labels·sound;
-      states·few = u .states·few;
-      dna·unordered = o;
-    }
+    sound-parts r (u .some·taxon) (u .some·character) (u .rows·long) (u .cells·sound) (u .symbols·sound) (all-sound (names (r .taxa)) (u .names·each)) (u .names·unlike) (u .labels·sound) (u .states·few) o
 
 -- Whole rows, as tests.
 module _ (f : Format) (n : ℕ) where

@@ -1,5 +1,6 @@
 -- The written form of a sound reading is UTF-8 and is lexed as expected: its commands, and the whole. Assumes nothing.
 use Prim.Native.Nat.{ℕ, suc}
+use Rattle.block.proofs.SoundParts.{symbols-sound, names-sound, labels-sound}
 use Rattle.block.specs.Blocks.{has·ordered}
 use Rattle.block.specs.Format.{valid·symbol, all·valid}
 use Rattle.block.specs.Reading.{Character, Reading}
@@ -203,11 +204,11 @@ assumptions-lexed cs =
 form-lexes : (r : Reading) → Sound r → Lexes (form r) (form·tokens r)
 unfolding form form·tokens run·tokens
 form-lexes r s =
-    let signs = signs-valid (r .data·type) (r .symbols) (gap·in (r .taxa)) (s .symbols·sound) in
+    let signs = signs-valid (r .data·type) (r .symbols) (gap·in (r .taxa)) (symbols-sound r s) in
     let end = end-parts (assumptions-lexed (r .characters)) .between in
-    let rows = rows-lexed signs (r .taxa) (s .cells·sound) (s .names·sound) (λ y. y) end in
+    let rows = rows-lexed signs (r .taxa) (s .cells·sound) (names-sound r s) (λ y. y) end in
     let matrix = text-lexed (bytes "MATRIX\n") (key "MATRIX" ∷ newline ∷ []) (λ x. refl) (λ x. refl) rows in
-    let format = format-lexed (r .data·type) signs (labels-lexed (r .characters) (s .labels·sound) matrix) in
+    let format = format-lexed (r .data·type) signs (labels-lexed (r .characters) (labels-sound r s) matrix) in
     text-lexed (bytes "#NEXUS\nBEGIN DATA;\n")
     (key "#NEXUS" ∷ newline ∷ key "BEGIN" ∷ key "DATA" ∷ mark 59 ∷ newline ∷ [])
     (λ x. refl) (λ x. refl) (dimensions-lexed r format)
