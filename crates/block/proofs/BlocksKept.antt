@@ -10,6 +10,7 @@ use Rattle.block.specs.Labels.{Labelling, LabelCommand}
 use Rattle.block.specs.Names.{unique·names}
 use Rattle.block.specs.Outcome.{done, refused, then}
 use Rattle.block.specs.Reading.{Reading}
+use Rattle.block.specs.TaxonOrder.{declaring?}
 use Rattle.block.specs.Typeset.{Types, typeset, Typeset}
 use Rattle.block.specs.declared.model.CharacterOrdering.{CharacterOrdering}
 use Rattle.lexer.specs.Base.{pick, empty?, given, bytes}
@@ -57,7 +58,7 @@ pub record Kept (m : Claims) (s : State) : Type 0 where
 
 -- What the command must bring in, where it is read in this state: the claims of what it declares or reads.
 pub record Brings (m : Claims) (s : State) (h : Numbered) (raw : List Numbered) : Type 0 where
-  pub named : is (bytes "TAXLABELS") h ≡ true → (names : List (List ℕ)) → unique·names (words raw) ≡ done names → m .names names
+  pub named : is (bytes "TAXLABELS") h ≡ true → declaring? (s .phase) ≡ true → (names : List (List ℕ)) → unique·names (words raw) ≡ done names → m .names names
   pub sized : (x : Dimensions) → dimensions (words raw) ≡ done x → m .dimensions x
   pub formatted : (f : Format) → format (h .index) (words raw) ≡ done f → m .format f
   pub labelled : (l : Labelling) → m .labels (record { what = l; head = h .index; words = words raw })
@@ -103,19 +104,19 @@ module _ (m : Claims) (s : State) (h : Numbered) (raw : List Numbered) (u : Brin
   words-kept (b ∷ c ∷ r) t k e = refused-done Refusal.NotBegin (h .index) t e
 
   -- TAXA
-  taxa-kept : (b count : ℕ) (names : Option (List (List ℕ))) (q : Phase) → taxa·step h (words raw) b count names ≡ done q → Inside m q
-  unfolding taxa·step taxa·count
-  taxa-kept b count (some names) q e = refused-done Refusal.Command (h .index) q e
-  taxa-kept b zero none q e =
+  taxa-kept : (b count : ℕ) (names : Option (List (List ℕ))) (q : Phase) → s .phase ≡ in·taxa b count names → taxa·step h (words raw) b count names ≡ done q → Inside m q
+  unfolding taxa·step taxa·count declaring?
+  taxa-kept b count (some names) q at e = refused-done Refusal.Command (h .index) q e
+  taxa-kept b zero none q at e =
       let k = pick-when (is (bytes "DIMENSIONS") h) Refusal.Command (h .index) _ q e in
       let d = then-done (dimensions (words raw)) (taxa·count h b) q (k .1) in
       let one = pick-else (not (eqb (d .0 .characters) 0) || d .0 .new·taxa) Refusal.Dimension (h .index) _ q (d .2) in
       let two = pick-else (eqb (d .0 .taxa) 0) Refusal.Absent (h .index) _ q (one .1) in
       inside (in·taxa b (d .0 .taxa) none) q tt (two .1)
-  taxa-kept b (suc n) none q e =
+  taxa-kept b (suc n) none q at e =
       let k = pick-when (is (bytes "TAXLABELS") h) Refusal.Command (h .index) _ q e in
       let names = then-done (unique·names (words raw)) (λ names. done (in·taxa b (suc n) (some names))) q (k .1) in
-      inside (in·taxa b (suc n) (some (names .0))) q (u .named (k .0) (names .0) (names .1)) (names .2)
+      inside (in·taxa b (suc n) (some (names .0))) q (u .named (k .0) (rw at refl) (names .0) (names .1)) (names .2)
 
   -- DATA: what each command adds.
   label-kept : (d : Data) (l : Option Labelling) (e : Data) → Block m d → label·step d h (words raw) l ≡ done e → Block m e
@@ -148,7 +149,7 @@ module _ (m : Claims) (s : State) (h : Numbered) (raw : List Numbered) (u : Brin
       named : is (bytes "TAXLABELS") h ≡ true → then (unique·names (words raw)) (λ x. done (with·taxa d x)) ≡ done e → Block m e
       named t p =
           let x = then-done (unique·names (words raw)) (λ x. done (with·taxa d x)) e p in
-          rw (← done-inj (x .2)) (unfold with·taxa in record { ready = record { dimensions = b .ready .dimensions; format = b .ready .format; taxa = u .named t (x .0) (x .1); labels = b .ready .labels }; matrix = b .matrix })
+          rw (← done-inj (x .2)) (unfold with·taxa in record { ready = record { dimensions = b .ready .dimensions; format = b .ready .format; taxa = u .named t (unfold declaring? in rw at refl) (x .0) (x .1); labels = b .ready .labels }; matrix = b .matrix })
 
       read·rows : is (bytes "MATRIX") h ≡ true → then (matrix d h raw) (λ x. done (with·matrix d x)) ≡ done e → Block m e
       read·rows t p =
@@ -199,7 +200,7 @@ module _ (m : Claims) (s : State) (h : Numbered) (raw : List Numbered) (u : Brin
   inner-kept : (p q : Phase) → s .phase ≡ p → Inside m p → inner·step h raw p ≡ done q → Inside m q
   unfolding inner·step data·step
   inner-kept outside q at i e = inside outside q tt e
-  inner-kept (in·taxa b count names) q at i e = taxa-kept b count names q e
+  inner-kept (in·taxa b count names) q at i e = taxa-kept b count names q at e
   inner-kept (in·data b d) q at i e =
       let k = pick-else (given (d .matrix)) Refusal.Command (h .index) _ q e in
       let x = then-done (data·command d h raw) (λ x. done (in·data b x)) q (k .1) in

@@ -8,14 +8,6 @@ use Rattle.lexer.specs.Words.{Numbered}
 use mathlib.Core.Bool.{Bool, true, false}
 use mathlib.Core.List.{List, [], _∷_}
 
--- Of any word nothing is asked.
-abbrev pub Any : Numbered → Type 0
-Any w = Unit {0}
-
-pub all-any : (ws : List Numbered) → All Any ws
-all-any [] = tt
-all-any (w ∷ r) = (tt, all-any r)
-
 -- A command of such tokens.
 abbrev pub Of·tokens : (Numbered → Type 0) → Command → Type 0
 Of·tokens Q (command h raw) = All Q raw

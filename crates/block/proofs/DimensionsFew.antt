@@ -1,7 +1,6 @@
 -- The counts that DIMENSIONS declares have 64 bits. Assumes nothing.
 use Prim.Native.Nat.{ℕ, zero, suc, _≤_}
-use Rattle.block.proofs.CommandWords.{Any, all-any}
-use Rattle.block.proofs.OutcomeLaws.{then-done, pick-either, pick-when, refused-done, done-inj, fold-keeps}
+use Rattle.block.proofs.OutcomeLaws.{then-done, pick-either, pick-when, refused-done, done-inj, Any, all-any, fold-keeps}
 use Rattle.block.specs.Dimensions.{Dimensions, Count, ntax, nchar, Dimensioning, option, equals, value, no·dimensions, with·count, count·option, dimension·option, dimension·value, dimension·turn, dimension·end, dimensions}
 use Rattle.block.specs.Outcome.{done, fold}
 use Rattle.lexer.specs.Base.{pick, bytes, byte}

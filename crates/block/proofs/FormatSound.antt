@@ -1,7 +1,6 @@
 -- A format that is read has symbols that a record may have. Assumes nothing.
 use Prim.Native.Nat.{ℕ, _≤_}
-use Rattle.block.proofs.CommandWords.{Any, all-any}
-use Rattle.block.proofs.OutcomeLaws.{then-done, pick-else, pick-when, pick-either, refused-done, done-inj, fold-keeps}
+use Rattle.block.proofs.OutcomeLaws.{then-done, pick-else, pick-when, pick-either, refused-done, done-inj, Any, all-any, fold-keeps}
 use Rattle.block.proofs.Pigeonhole.{pigeonhole}
 use Rattle.block.specs.Dna.{acgt}
 use Rattle.block.specs.Format.{Format, Options, Formatting, option, perhaps, equals, value, Key, datatype-key, symbols-key, missing-key, gap-key, interleave-key, equal, valid·symbol, valid·symbols, options, no·options, with·type, with·symbols, with·missing, with·gap, with·interleave, with·case, with·labels, with·no·tokens, once, format·option, unspaced, single·symbol, symbol·value, format·value, format·turn, format·end, settled, format·of, dna·options, all·valid, clashes, all·differ, signs, good·symbols, judged, format, default·format}

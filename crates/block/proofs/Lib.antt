@@ -2,6 +2,7 @@ pub mod BlocksKept
 pub mod Cases
 pub mod ChunkSound
 pub mod CommandWords
+pub mod DeclaredHeld
 pub mod DimensionsFew
 pub mod FormatSound
 pub mod LabelsSound
@@ -19,5 +20,6 @@ pub mod ReadingSound
 pub mod RisingLaws
 pub mod RowsSmall
 pub mod RowsSound
+pub mod SoundParts
 pub mod TaxaFollow
 pub mod Weights

@@ -1,7 +1,7 @@
 -- A matrix that was read: what it was read by, its rows, and the taxa in their order. Assumes nothing.
-use Prim.Native.Nat.{ℕ, suc}
+use Prim.Native.Nat.{ℕ}
 use Rattle.block.proofs.ChunkSound.{none-some, some-inj, pick-some}
-use Rattle.block.proofs.OutcomeLaws.{then-done, need-done, pick-else, done-inj}
+use Rattle.block.proofs.OutcomeLaws.{then-done, need-done, pick-else, done-inj, All}
 use Rattle.block.specs.Blocks.{Data, declared·count, agrees, row·of, arranged, in·order, unordered, rows, matrix·reading, matrix·shape, matrix}
 use Rattle.block.specs.Dimensions.{Dimensions}
 use Rattle.block.specs.Format.{default·format}
@@ -20,12 +20,7 @@ use lib.ListN.{length}
 use mathlib.Core.Bool.{true, false, _&&_, _||_, not}
 use mathlib.Core.List.{List, [], _∷_}
 use mathlib.Core.Option.{Option, none, some, Option·getD}
-use mathlib.Core.Path.{_≡_, refl, sym, ap}
-
-pub length-names : (ts : List Taxon) → length (names ts) ≡ length ts
-unfolding names
-length-names [] = refl
-length-names (t ∷ r) = ap suc (length-names r)
+use mathlib.Core.Path.{_≡_, refl, sym}
 
 -- The row of a declared name has that name.
 row-named : (name : List ℕ) (taken : List Taxon) (t : Taxon) → row·of name taken ≡ some t → t .name ≡ name
@@ -34,6 +29,20 @@ row-named name [] t h = none-some t h
 row-named name (x ∷ r) t h =
     let row : Taxon = record { name = name; cells = x .cells } in
     pick-some (alike name (x .name)) (some row) (row·of name r) t (λ e. rw (← some-inj {a = row} e)) (row-named name r t) h
+
+-- What holds of every row, whatever its name, holds of every taxon that has the cells of a row.
+module _ (P : Taxon → Type 0) (renamed : (x : Taxon) (name : List ℕ) → P x → P (record { name = name; cells = x .cells })) where
+  row-keeps : (name : List ℕ) (taken : List Taxon) (t : Taxon) → All P taken → row·of name taken ≡ some t → P t
+  unfolding row·of
+  row-keeps name [] t p h = none-some t h
+  row-keeps name (x ∷ r) t p h =
+      let row : Taxon = record { name = name; cells = x .cells } in
+      pick-some (alike name (x .name)) (some row) (row·of name r) t (λ e. rw (← some-inj {a = row} e) (renamed x name (p .0))) (row-keeps name r t (p .1)) h
+
+  pub rows-keep : (taken ts : List Taxon) → All P taken → all·rows taken ts → All P ts
+  unfolding all·rows
+  rows-keep taken [] p a = tt
+  rows-keep taken (t ∷ r) p a = (row-keeps (t .name) taken t p (a .0), rows-keep taken r p (a .1))
 
 -- Rows in declared order: the declared names, one row each.
 arranged-follows : (head : ℕ) (taken : List Taxon) (declared : List (List ℕ)) (ts : List Taxon) → arranged head taken declared ≡ done ts → Follows (some declared) taken ts
@@ -57,8 +66,8 @@ order-follows head (some declared) taken ts h = arranged-follows head taken decl
 
 -- A shape that MATRIX can be read by, after what was declared.
 pub record Shaped (d : Data) (dims : Dimensions) (sh : Shape) : Type 0 where
-  pub taxa : sh .taxa ≡ declared·count (d .taxa) (dims .taxa)
-  pub characters : sh .characters ≡ dims .characters
+  pub counted : sh .taxa ≡ declared·count (d .taxa) (dims .taxa)
+  pub sized : sh .characters ≡ dims .characters
   pub formatted : sh .format ≡ Option·getD (d .format) default·format
   pub some·characters : eqb (sh .characters) 0 ≡ false
   pub some·taxa : eqb (sh .taxa) 0 ≡ false
@@ -73,8 +82,8 @@ matrix-shaped d dims head sh e =
     let new = pick-else (dims .new·taxa && eqb (dims .taxa) 0) Refusal.Absent head _ sh (same .1) in
     rw (← done-inj (new .1))
     (record {
-      taxa = refl;
-      characters = refl;
+      counted = refl;
+      sized = refl;
       formatted = refl;
       some·characters = or-left (eqb (dims .characters) 0) (eqb n 0) (counts .0);
       some·taxa = or-right (eqb (dims .characters) 0) (eqb n 0) (counts .0);

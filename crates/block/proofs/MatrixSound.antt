@@ -1,17 +1,18 @@
 -- The reading of a matrix is sound but for the types of its characters. Assumes nothing.
 use Prim.Native.Nat.{ℕ, suc, _≤_}
 use Rattle.block.proofs.BlocksKept.{Claims, Ready}
-use Rattle.block.proofs.ChunkSound.{Fine, none-some, some-inj, pick-some}
+use Rattle.block.proofs.ChunkSound.{Fine}
 use Rattle.block.proofs.CommandWords.{all-words}
 use Rattle.block.proofs.DimensionsFew.{Few}
 use Rattle.block.proofs.FormatSound.{Good, default-good}
 use Rattle.block.proofs.LabelsSound.{States, Given, Labels, CleanLabels, labels-labelled}
-use Rattle.block.proofs.MatrixParts.{length-names, matrix-parts}
+use Rattle.block.proofs.MatrixParts.{rows-keep, matrix-parts}
 use Rattle.block.proofs.NamesSound.{Clean, Named, Names, Sound·name, all-sound}
 use Rattle.block.proofs.OutcomeLaws.{pick-either, All, Opt}
 use Rattle.block.proofs.PagesSound.{interleaved-matrix}
-use Rattle.block.proofs.RowsSound.{Whole, Matrix, sequential-matrix}
-use Rattle.block.specs.Blocks.{Data, declared·count, agrees, row·of, unordered, rows, matrix, orderable}
+use Rattle.block.proofs.RowsSound.{Whole, length-names, Matrix, sequential-matrix}
+use Rattle.block.proofs.SoundParts.{sound-parts}
+use Rattle.block.specs.Blocks.{Data, declared·count, agrees, unordered, rows, matrix, orderable}
 use Rattle.block.specs.Cell.{Cell}
 use Rattle.block.specs.Commands.{words}
 use Rattle.block.specs.Format.{Format, default·format}
@@ -23,7 +24,7 @@ use Rattle.block.specs.Sequential.{Shape, names, sequential}
 use Rattle.block.specs.Sound.{sound·names, names·differ, sound·labels, few·states, sound·cells, sound·rows, gap?, gap·among, gap·in, sound·symbols, Sound}
 use Rattle.block.specs.TaxonOrder.{all·rows, Follows}
 use Rattle.lexer.proofs.Basics.{and-left, and-right, and-both, by-test}
-use Rattle.lexer.specs.Base.{empty?, given, alike}
+use Rattle.lexer.specs.Base.{empty?, given}
 use Rattle.lexer.specs.Words.{Numbered, largest}
 use borrow.Author.Tests.{eqb-true, eqb-false, eq-eqb, leb-true, le-leb}
 use lib.Dec.{leb, eqb}
@@ -50,24 +51,11 @@ pub record Untyped (N : List ℕ → Type 0) (r : Reading) : Type 0 where
 
 pub typed-sound : (r : Reading) → Untyped Sound·name r → orderable (r .data·type) (r .characters) ≡ true → Sound r
 typed-sound r u o =
-    record {
-      some·taxon = u .some·taxon;
-      some·character = u .some·character;
-      taxa·few = u .taxa·few;
-      characters·few = u .characters·few;
-      rows·long = u .rows·long;
-      cells·sound = u .cells·sound;
-      symbols·sound = u .symbols·sound;
-      names·sound = all-sound (names (r .taxa)) (u .names·each);
-      names·unlike = u .names·unlike;
-      labels·sound = u .labels·sound;
-      states·few = u .states·few;
-      dna·unordered = o;
-    }
+    sound-parts r (u .some·taxon) (u .some·character) (u .taxa·few) (u .characters·few) (u .rows·long) (u .cells·sound) (u .symbols·sound) (all-sound (names (r .taxa)) (u .names·each)) (u .names·unlike) (u .labels·sound) (u .states·few) o
 
 -- Whole rows, as tests.
 module _ (f : Format) (n : ℕ) where
-  whole-long : (rows : List Taxon) → All (Whole f n) rows → all·long n rows ≡ true
+  pub whole-long : (rows : List Taxon) → All (Whole f n) rows → all·long n rows ≡ true
   unfolding all·long
   whole-long [] p = refl
   whole-long (t ∷ r) p = and-both (eq-eqb (length (t .cells)) n (p .0 .long)) (whole-long r (p .1))
@@ -93,20 +81,9 @@ module _ (f : Format) (n : ℕ) where
   gap-rows [] p h = absurd (false≢true h)
   gap-rows (t ∷ r) p h = by-test (gap·among (t .cells)) (gap-cells (t .cells) (p .0 .fine)) (λ e. gap-rows r (p .1) (rw e at h))
 
-  -- A row of a declared name is whole, and so are rows in declared order.
-  row-whole : (name : List ℕ) (taken : List Taxon) (t : Taxon) → All (Whole f n) taken → row·of name taken ≡ some t → Whole f n t
-  unfolding row·of
-  row-whole name [] t p h = none-some t h
-  row-whole name (x ∷ r) t p h =
-      let row : Taxon = record { name = name; cells = x .cells } in
-      pick-some (alike name (x .name)) (some row) (row·of name r) t
-      (λ e. rw (← some-inj {a = row} e) (record { long = p .0 .long; fine = p .0 .fine }))
-      (row-whole name r t (p .1)) h
-
+  -- Rows in declared order are whole.
   rows-whole : (taken ts : List Taxon) → All (Whole f n) taken → all·rows taken ts → All (Whole f n) ts
-  unfolding all·rows
-  rows-whole taken [] p a = tt
-  rows-whole taken (t ∷ r) p a = (row-whole (t .name) taken t p (a .0), rows-whole taken r p (a .1))
+  rows-whole = rows-keep (Whole f n) (λ x name w. record { long = w .long; fine = w .fine })
 
 -- The taxa of a matrix: rows that are whole, names that differ and of which something holds, and as many as NTAX.
 record Arranged (N : List ℕ → Type 0) (sh : Shape) (ts : List Taxon) : Type 0 where
@@ -160,7 +137,7 @@ unfolding agrees declared·count
 taxa-few none n k few e a = rw e few
 taxa-few (some names) n k few e a = leb-true k largest (and-right (eqb (length names) k) (leb k largest) a)
 
-default-formatted : (f : Option Format) → Opt Good f → Good (Option·getD f default·format)
+pub default-formatted : (f : Option Format) → Opt Good f → Good (Option·getD f default·format)
 default-formatted none p = default-good
 default-formatted (some f) p = p
 
@@ -173,19 +150,20 @@ pub record Naming (Q : Numbered → Type 0) (N : List ℕ → Type 0) : Type 0 w
   pub clean : (w : Numbered) → Q w → Clean w
   pub name : Names Q N
 
-module _ (N : List ℕ → Type 0) (Q : Numbered → Type 0) (law : Naming Q N) where
-  rows-matrix : (sh : Shape) (good : Good (sh .format)) (raw : List Numbered) (taken : List Taxon) → All Q raw → rows sh raw ≡ done taken → Matrix N sh taken
+module _ (N : List ℕ → Type 0) (Q : Numbered → Type 0) (name : Names Q N) where
+  pub rows-matrix : (sh : Shape) (good : Good (sh .format)) (raw : List Numbered) (taken : List Taxon) → All Q raw → rows sh raw ≡ done taken → Matrix N sh taken
   unfolding rows
   rows-matrix sh good raw taken q h =
-      pick-either (sh .format .interleave) (interleaved sh raw) (sequential sh (words raw)) taken (interleaved-matrix N Q (law .name) sh good raw taken q) (sequential-matrix N Q (law .name) sh good (words raw) taken (all-words Q raw q)) h
+      pick-either (sh .format .interleave) (interleaved sh raw) (sequential sh (words raw)) taken (interleaved-matrix N Q name sh good raw taken q) (sequential-matrix N Q name sh good (words raw) taken (all-words Q raw q)) h
 
+module _ (N : List ℕ → Type 0) (Q : Numbered → Type 0) (law : Naming Q N) where
   pub matrix-untyped : (d : Data) (h : Numbered) (raw : List Numbered) (r : Reading) → Ready (claims N) d → All Q raw → matrix d h raw ≡ done r → Untyped N r
   matrix-untyped d h raw r p q e =
       let k = matrix-parts d h raw r e in
       let sh = k .shape in
       let f = sh .format in
       let good : Good f = rw (k .shaped .formatted) (default-formatted (d .format) (p .format)) in
-      let m = follows-arranged N sh (d .taxa) (k .taken) (k .taxa) (p .taxa) (k .shaped .agreed) (rows-matrix sh good raw (k .taken) q (k .read)) (k .follows) in
+      let m = follows-arranged N sh (d .taxa) (k .taken) (k .taxa) (p .taxa) (k .shaped .agreed) (rows-matrix N Q (law .name) sh good raw (k .taken) q (k .read)) (k .follows) in
       let l = labels-labelled (length (f .symbols)) (sh .characters) (d .labels) (k .labelled) (p .labels) (k .labels) in
       let few : Few (k .dimensions) = rw (k .sized) at (p .dimensions) in
       let size : length (unordered (k .labelled)) ≡ sh .characters = unordered-length (length (f .symbols)) (k .labelled) ∙ l .sized in
@@ -193,8 +171,8 @@ module _ (N : List ℕ → Type 0) (Q : Numbered → Type 0) (law : Naming Q N) 
       (record {
         some·taxon = some-of (k .taxa) (sh .taxa) (m .counted) (k .shaped .some·taxa);
         some·character = some-of (unordered (k .labelled)) (sh .characters) size (k .shaped .some·characters);
-        taxa·few = le-leb (length (k .taxa)) largest (rw (m .counted) (taxa-few (d .taxa) (k .dimensions .taxa) (sh .taxa) (few .taxa) (k .shaped .taxa) (k .shaped .agreed)));
-        characters·few = le-leb (length (unordered (k .labelled))) largest (rw (size, k .shaped .characters) (few .characters));
+        taxa·few = le-leb (length (k .taxa)) largest (rw (m .counted) (taxa-few (d .taxa) (k .dimensions .taxa) (sh .taxa) (few .taxa) (k .shaped .counted) (k .shaped .agreed)));
+        characters·few = le-leb (length (unordered (k .labelled))) largest (rw (size, k .shaped .sized) (few .characters));
         rows·long = rw size (whole-long f (sh .characters) (k .taxa) (m .whole));
         cells·sound = whole-sound f (sh .characters) (k .taxa) (m .whole);
         symbols·sound = good .symbols (gap·in (k .taxa)) (gap-rows f (sh .characters) (k .taxa) (m .whole));

@@ -3,7 +3,7 @@ use Prim.Native.Nat.{ℕ}
 use Rattle.block.proofs.OutcomeLaws.{then-done, need-done, pick-else, done-inj, All, all-one, all-left, fold-keeps}
 use Rattle.block.specs.Names.{known, add·name, name·turn, unique·names}
 use Rattle.block.specs.Outcome.{done, need}
-use Rattle.block.specs.Sound.{sound·name, sound·names, names·differ}
+use Rattle.block.specs.Sound.{no·underscore, no·return, not·blank, sound·name, sound·names, names·differ}
 use Rattle.lexer.proofs.Basics.{and-left, and-right, and-both, or-both, or-left, or-right, alike-sym}
 use Rattle.lexer.proofs.LabelLaws.{label-parts}
 use Rattle.lexer.proofs.TokensClean.{clean-text}
@@ -21,7 +21,7 @@ abbrev pub Clean : Numbered → Type 0
 Clean w = clean-text (w .token .text) ≡ true
 
 pub label-sound : (w : Numbered) (n : List ℕ) → Clean w → label w ≡ some n → sound·name n ≡ true
-unfolding sound·name
+unfolding sound·name no·underscore no·return not·blank
 label-sound w n c h =
     let p = label-parts w n h c in
     and-both (and-both (and-both (p .utf) (rw (p .unlined))) (rw (p .returnless))) (p .marked)

@@ -5,7 +5,7 @@ use Rattle.lexer.specs.Base.{pick}
 use Rattle.lexer.specs.declared.refusal.Refusal.{Refusal}
 use lib.ListN.{getD, set, replicate}
 use mathlib.Core.Bool.{Bool, true, false}
-use mathlib.Core.List.{List, [], _∷_, _++_, append-assoc, append-nil}
+use mathlib.Core.List.{List, [], _∷_, _++_, append-assoc, append-nil, List·Memᴰ, List·Memᴰ·head, List·Memᴰ·tail}
 use mathlib.Core.Option.{Option, none, some}
 use mathlib.Core.Path.{_≡_, refl}
 use native.Mathlib.Omega.{arith}
@@ -68,6 +68,23 @@ module _ {A : Type 0} where
   pub all-map : (P Q : A → Type 0) → ((a : A) → P a → Q a) → (l : List A) → All P l → All Q l
   all-map P Q f [] p = tt
   all-map P Q f (a ∷ l) p = (f a (p .0), all-map P Q f l (p .1))
+
+  pub all-both : (P Q : A → Type 0) (l : List A) → All P l → All Q l → All (λ a. P a × Q a) l
+  all-both P Q [] p q = tt
+  all-both P Q (a ∷ l) p q = ((p .0, q .0), all-both P Q l (p .1) (q .1))
+
+  -- every member is found among them
+  pub members : (l : List A) → All (λ a. List·Memᴰ a l) l
+  members [] = tt
+  members (a ∷ l) = (List·Memᴰ·head refl, all-map (λ b. List·Memᴰ b l) (λ b. List·Memᴰ b (a ∷ l)) (λ b q. List·Memᴰ·tail q) l (members l))
+
+  -- nothing is asked
+  abbrev pub Any : A → Type 0
+  Any a = Unit {0}
+
+  pub all-any : (l : List A) → All Any l
+  all-any [] = tt
+  all-any (a ∷ l) = (tt, all-any l)
 
   -- something holds of an option's value, if there is one
   abbrev pub Opt : (A → Type 0) → Option A → Type 0

@@ -1,10 +1,9 @@
 -- Interleaved pages: their rows keep the names of the first page, and their cells are fine. Assumes nothing.
 use Prim.Native.Nat.{ℕ, suc}
 use Rattle.block.proofs.ChunkSound.{Fine, RowFine, chunk-fine, row-end-fine}
-use Rattle.block.proofs.CommandWords.{Any, all-any}
 use Rattle.block.proofs.FormatSound.{Good}
 use Rattle.block.proofs.NamesSound.{Names, Named, named-none, named-one, named-left, named-right, need-named}
-use Rattle.block.proofs.OutcomeLaws.{then-done, pick-else, pick-when, refused-done, done-inj, All, all-append, all-one, all-left, all-right, fold-keeps}
+use Rattle.block.proofs.OutcomeLaws.{then-done, pick-else, pick-when, refused-done, done-inj, All, all-append, all-one, all-left, all-right, Any, all-any, fold-keeps}
 use Rattle.block.proofs.RowsSound.{Whole, Matrix, names-one}
 use Rattle.block.specs.Cell.{Cell}
 use Rattle.block.specs.Chunk.{Row, plain, chunk, row·end}

@@ -1,14 +1,14 @@
 -- A reading is no larger than its text: it has at most as many taxa, and at most as many characters, as the text has bytes. Assumes nothing.
-use Prim.Native.Nat.{ℕ, suc, _≤_}
-use Rattle.block.proofs.ChunkSound.{none-some, some-inj, pick-some}
-use Rattle.block.proofs.MatrixParts.{length-names, matrix-shaped}
+use Prim.Native.Nat.{ℕ, _≤_}
+use Rattle.block.proofs.MatrixParts.{rows-keep, matrix-shaped}
 use Rattle.block.proofs.OutcomeLaws.{pick-either, All}
 use Rattle.block.proofs.PagesSmall.{interleaved-taken}
 use Rattle.block.proofs.ReadingSound.{reading-sound}
 use Rattle.block.proofs.RowsSmall.{bulk, Taken, sequential-taken}
+use Rattle.block.proofs.RowsSound.{length-names}
 use Rattle.block.proofs.TaxaFollow.{taxa-follow}
 use Rattle.block.proofs.Weights.{weights, words-light, to-end-light, numbered-weights}
-use Rattle.block.specs.Blocks.{agrees, row·of, rows}
+use Rattle.block.specs.Blocks.{agrees, rows}
 use Rattle.block.specs.Commands.{command, empty, unended, newline, semicolon, ended, up·to·end, begun, commands·from, commands, words}
 use Rattle.block.specs.Interleaved.{all·long, interleaved}
 use Rattle.block.specs.Outcome.{done}
@@ -18,7 +18,7 @@ use Rattle.block.specs.Sequential.{Shape, names, sequential}
 use Rattle.block.specs.TaxonOrder.{behind·header, commands·of, all·rows, Follows}
 use Rattle.lexer.proofs.Basics.{and-left, by-test}
 use Rattle.lexer.proofs.TokenSizes.{tokens-small}
-use Rattle.lexer.specs.Base.{pick, empty?, alike}
+use Rattle.lexer.specs.Base.{pick, empty?}
 use Rattle.lexer.specs.Tokens.{tokens}
 use Rattle.lexer.specs.Words.{Numbered, numbered, largest}
 use borrow.Author.Tests.{eqb-true}
@@ -86,17 +86,8 @@ module _ (n : ℕ) where
       (λ e. let k = interleaved-taken sh raw taken e in record { light = omega arith; counted = k .counted })
       (λ e. let k = sequential-taken sh (words raw) taken e in let l = words-light raw in record { light = omega arith; counted = k .counted }) h
 
-  row-short : (name : List ℕ) (taken : List Taxon) (t : Taxon) → All (Short n) taken → row·of name taken ≡ some t → Short n t
-  unfolding row·of
-  row-short name [] t p h = none-some t h
-  row-short name (x ∷ r) t p h =
-      let row : Taxon = record { name = name; cells = x .cells } in
-      pick-some (alike name (x .name)) (some row) (row·of name r) t (λ e. rw (← some-inj {a = row} e) (p .0)) (row-short name r t (p .1)) h
-
   all-short : (taken taxa : List Taxon) → All (Short n) taken → all·rows taken taxa → All (Short n) taxa
-  unfolding all·rows
-  all-short taken [] p h = tt
-  all-short taken (t ∷ r) p h = (row-short (t .name) taken t p (h .0), all-short taken r p (h .1))
+  all-short = rows-keep (Short n) (λ x name s. s)
 
 -- Taxa that follow the rows are no more than those, and no longer.
 follows-small : (n : ℕ) (declared : Option (List (List ℕ))) (sh : Shape) (taken taxa : List Taxon) → agrees declared (sh .taxa) ≡ true → Taken sh n taken → Follows declared taken taxa → (length taxa ≤ n) × All (Short n) taxa

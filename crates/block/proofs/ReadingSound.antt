@@ -79,7 +79,7 @@ module _ (N : List ℕ → Type 0) (Q : Numbered → Type 0) (law : Naming Q N) 
   brings : (s : State) (h : Numbered) (raw : List Numbered) → All Q raw → Brings (claims N) s h raw
   brings s h raw q =
       record {
-        named = λ t names e. unique-names-named N Q (law .name) (words raw) names (all-words Q raw q) e;
+        named = λ t p names e. unique-names-named N Q (law .name) (words raw) names (all-words Q raw q) e;
         sized = dimensions-few (words raw);
         formatted = format-good (h .index) (words raw);
         labelled = λ l. all-map Q Clean (law .clean) (words raw) (all-words Q raw q);

@@ -1,6 +1,6 @@
 -- Sequential rows that are read: NTAX of them, each with NCHAR cells that are fine; their names differ, and what holds of the names of words
 -- holds of them. Assumes nothing.
-use Prim.Native.Nat.{ℕ}
+use Prim.Native.Nat.{ℕ, suc}
 use Rattle.block.proofs.ChunkSound.{Fine, RowFine, chunk-fine}
 use Rattle.block.proofs.FormatSound.{Good}
 use Rattle.block.proofs.NamesSound.{Names, Named, named-none, named-one, need-named}
@@ -11,6 +11,7 @@ use Rattle.block.specs.Names.{known}
 use Rattle.block.specs.Outcome.{done, then, fold, need}
 use Rattle.block.specs.Reading.{Taxon}
 use Rattle.block.specs.Sequential.{Shape, names, Sequence, between, inside, row·begins, row·grown, sequential·turn, row·open, sequential·end, sequential}
+use Rattle.block.specs.TaxonOrder.{Token·named, all·named}
 use Rattle.lexer.proofs.Basics.{by-test}
 use Rattle.lexer.specs.Base.{pick}
 use Rattle.lexer.specs.Words.{Numbered, label}
@@ -40,6 +41,16 @@ names-append (r ∷ rs) more = ap (λ l. r .name ∷ l) (names-append rs more)
 pub names-one : (rows : List Taxon) (t : Taxon) → names (rows ++ (t ∷ [])) ≡ names rows ++ (t .name ∷ [])
 unfolding names
 names-one rows t = names-append rows (t ∷ [])
+
+pub length-names : (rows : List Taxon) → length (names rows) ≡ length rows
+unfolding names
+length-names [] = refl
+length-names (r ∷ rs) = ap suc (length-names rs)
+
+pub all-named : (ws : List Numbered) (rows : List Taxon) → All (Token·named ws) (names rows) → all·named ws rows
+unfolding names all·named
+all-named ws [] p = tt
+all-named ws (r ∷ rs) p = (p .0, all-named ws rs (p .1))
 
 -- What the rows of a matrix are.
 pub record Matrix (N : List ℕ → Type 0) (sh : Shape) (rows : List Taxon) : Type 0 where

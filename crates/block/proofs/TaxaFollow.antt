@@ -1,19 +1,24 @@
 -- The taxa of a reading follow the declared order: what TAXLABELS declared before the MATRIX of the text, or the rows as they come. Assumes nothing.
 use Prim.Native.Nat.{ℕ}
 use Rattle.block.proofs.BlocksKept.{Claims, Block, Brings, Kept, kept-map, step-kept, start-kept}
+use Rattle.block.proofs.DeclaredHeld.{declares-holds}
+use Rattle.block.proofs.FormatSound.{Good, format-good}
 use Rattle.block.proofs.MatrixParts.{matrix-parts}
-use Rattle.block.proofs.OutcomeLaws.{fold-history}
+use Rattle.block.proofs.MatrixSound.{whole-long, default-formatted, rows-matrix}
+use Rattle.block.proofs.OutcomeLaws.{members, Opt, fold-history}
 use Rattle.block.proofs.ReadCommands.{read-finished}
+use Rattle.block.proofs.RowsSound.{all-named}
 use Rattle.block.specs.Blocks.{Data, in·data, State, at·start, step, matrix, with·types}
-use Rattle.block.specs.Commands.{Command, command}
+use Rattle.block.specs.Commands.{Command, command, words}
 use Rattle.block.specs.Outcome.{done, fold}
 use Rattle.block.specs.Parse.{reading, read}
 use Rattle.block.specs.Reading.{Taxon, Reading}
-use Rattle.block.specs.TaxonOrder.{commands·of, Declares, Matrix·of, Follows}
+use Rattle.block.specs.TaxonOrder.{commands·of, Token·named, Declares, Matrix·of, Follows}
 use Rattle.lexer.specs.Base.{bytes}
 use Rattle.lexer.specs.Words.{Numbered, is}
 use mathlib.Core.Bool.{true}
-use mathlib.Core.List.{List, [], _∷_, _++_, append-assoc, List·Memᴰ, List·Memᴰ·head, Memᴰ·append-left, Memᴰ·append-right}
+use mathlib.Core.List.{List, [], _∷_, _++_, append-assoc, List·Memᴰ}
+use mathlib.Core.Logic.{_↔_}
 use mathlib.Core.Option.{some}
 use mathlib.Core.Path.{_≡_, refl, ap, _∙_, subst}
 
@@ -24,11 +29,23 @@ pub record Following (cs : List Command) (r : Reading) : Type 0 where
 
 -- What is claimed of a state behind these commands: declared names and the matrix come from them.
 abbrev come·from : List Command → Claims
-come·from cs = record { dimensions = λ d. Unit {0}; names = Declares cs; format = λ f. Unit {0}; labels = λ c. Unit {0}; reading = Following cs }
+come·from cs = record { dimensions = λ d. Unit {0}; names = Declares cs; format = Good; labels = λ c. Unit {0}; reading = Following cs }
 
 module _ (cs : List Command) (c : Command) where
   declares-later : (ns : List (List ℕ)) → Declares cs ns → Declares (cs ++ (c ∷ [])) ns
-  declares-later ns d = record { head = d .head; raw = d .raw; among = Memᴰ·append-left (c ∷ []) (d .among); word = d .word; named = d .named }
+  declares-later ns d =
+      record {
+        before = d .before;
+        head = d .head;
+        raw = d .raw;
+        after = d .after ++ (c ∷ []);
+        here = ap (λ l. l ++ (c ∷ [])) (d .here) ∙ append-assoc (d .before) (command (d .head) (d .raw) ∷ d .after) (c ∷ []);
+        word = d .word;
+        state = d .state;
+        reached = d .reached;
+        inside = d .inside;
+        named = d .named;
+      }
 
   matrix-later : Matrix·of cs → Matrix·of (cs ++ (c ∷ []))
   matrix-later m =
@@ -50,6 +67,8 @@ module _ (cs : List Command) (c : Command) where
         shaped = m .shaped;
         rows = m .rows;
         read = m .read;
+        long = m .long;
+        named = m .named;
         declared = m .declared;
       }
 
@@ -62,17 +81,19 @@ module _ (cs : List Command) (c : Command) where
 
 -- The next command brings in names that it declares, and a matrix with the rows that it holds.
 module _ (before : List Command) (s : State) (reached : fold step at·start before ≡ done s) (k : Kept (come·from before) s) (h : Numbered) (raw : List Numbered) where
-  last : List·Memᴰ (command h raw) (before ++ (command h raw ∷ []))
-  last = Memᴰ·append-right before (List·Memᴰ·head refl)
+  declared : (b : ℕ) (d : Data) → s .phase ≡ in·data b d → (ns : List (List ℕ)) → (d .taxa ≡ some ns) ↔ Declares before ns
+  declared b d at ns = (comes, λ p. rw at at (declares-holds before s reached ns p))
+    where
+      comes : d .taxa ≡ some ns → Declares before ns
+      comes e =
+          let block : Block (come·from before) d = rw at at (k .phase) in
+          rw e at (block .ready .taxa)
 
-  declared : (b : ℕ) (d : Data) → s .phase ≡ in·data b d → (ns : List (List ℕ)) → d .taxa ≡ some ns → Declares before ns
-  declared b d at ns e =
-      let block : Block (come·from before) d = rw at at (k .phase) in
-      rw e at (block .ready .taxa)
-
-  following : is (bytes "MATRIX") h ≡ true → (b : ℕ) (d : Data) → s .phase ≡ in·data b d → (r : Reading) → matrix d h raw ≡ done r → Following (before ++ (command h raw ∷ [])) r
-  following word b d at r e =
+  following : is (bytes "MATRIX") h ≡ true → (b : ℕ) (d : Data) → s .phase ≡ in·data b d → Opt Good (d .format) → (r : Reading) → matrix d h raw ≡ done r → Following (before ++ (command h raw ∷ [])) r
+  following word b d at formatted r e =
       let p = matrix-parts d h raw r e in
+      let good : Good (p .shape .format) = rw (p .shaped .formatted) (default-formatted (d .format) formatted) in
+      let m = rows-matrix (Token·named raw) (λ w. List·Memᴰ w raw) (λ w n q e. record { token = w; among = q; named = e }) (p .shape) good raw (p .taken) (members raw) (p .read) in
       record {
         made =
             record {
@@ -93,6 +114,8 @@ module _ (before : List Command) (s : State) (reached : fold step at·start befo
               shaped = p .by;
               rows = p .taken;
               read = p .read;
+              long = rw (← p .shaped .sized) (whole-long (p .shape .format) (p .shape .characters) (p .taken) (m .rowed .whole));
+              named = all-named raw (p .taken) (m .rowed .named .each);
               declared = declared b d at;
             };
         follows = subst (λ (ts : List Taxon). Follows (d .taxa) (p .taken) ts) (ap (λ x. x .taxa) (p .is)) (p .follows);
@@ -102,11 +125,11 @@ module _ (before : List Command) (s : State) (reached : fold step at·start befo
   unfolding with·types
   brings =
       record {
-        named = λ t ns e. record { head = h; raw = raw; among = last; word = t; named = e };
+        named = λ t p ns e. record { before = before; head = h; raw = raw; after = []; here = refl; word = t; state = s; reached = reached; inside = p; named = e };
         sized = λ d e. tt;
-        formatted = λ f e. tt;
+        formatted = format-good (h .index) (words raw);
         labelled = λ l. tt;
-        read = λ t b d at p r e. following t b d at r e;
+        read = λ t b d at p r e. following t b d at (p .format) r e;
         typed = λ r default set f. record { made = f .made; follows = f .follows };
       }
 

@@ -105,16 +105,18 @@ unfoldable pub agrees : Option (List (List ℕ)) → ℕ → Bool
 agrees none n = true
 agrees (some names) n = eqb (length names) n && leb n largest
 
--- The rows in declared order with the declared names, or as they came.
+-- The first row whose name is this one, ASCII case ignored, under the name as it is given.
 unfoldable pub row·of : List ℕ → List Taxon → Option Taxon
 row·of n [] = none
 row·of n (t ∷ r) = let more = row·of n r in pick (alike n (t .name)) (some (record { name = n; cells = t .cells })) more
 
+-- The rows of these names, in their order; 25 if there is none of a name.
 unfoldable pub arranged : ℕ → List Taxon → List (List ℕ) → Outcome (List Taxon)
 arranged head rows [] = done []
 arranged head rows (n ∷ ns) =
     then (need (row·of n rows) Refusal.TaxonAbsent head) (λ t. then (arranged head rows ns) (λ ts. done (t ∷ ts)))
 
+-- The rows in declared order with the declared names, or as they came.
 unfoldable pub in·order : ℕ → Option (List (List ℕ)) → List Taxon → Outcome (List Taxon)
 in·order head none rows = done rows
 in·order head (some names) rows = arranged head rows names

@@ -3,9 +3,9 @@ use Prim.Native.Nat.{ℕ}
 use lib.Dec.{leb, ltb}
 use lib.ListN.{length}
 use mathlib.Core.Bool.{Bool, true, false, _&&_, _||_, not}
-use mathlib.Core.List.{List, [], _∷_}
+use mathlib.Core.List.{List, [], _∷_, _++_}
 use mathlib.Core.Path.{_≡_}
-use Rattle.lexer.specs.Base.{among, same, empty?, byte}
+use Rattle.lexer.specs.Base.{pick, among, same, empty?, byte}
 use Rattle.lexer.specs.Classes.{blank}
 use Rattle.lexer.specs.Utf8.{utf8}
 use Rattle.lexer.specs.Words.{largest}
@@ -19,9 +19,23 @@ use Rattle.block.specs.Reading.{Taxon, Character, Reading}
 use Rattle.block.specs.Sequential.{names}
 use Rattle.block.specs.declared.data.DataType.{DataType}
 
--- A name: UTF-8 without `_` and CR; not all White_Space, unless a U+0020 is in it.
+-- A name holds no `_` and no CR, and is not all White_Space (nor empty), unless a U+0020 is in it.
+unfoldable pub no·underscore : List ℕ → Bool
+no·underscore n = not (among (byte "_") n)
+
+unfoldable pub no·return : List ℕ → Bool
+no·return n = not (among (byte "\r") n)
+
+unfoldable pub not·blank : List ℕ → Bool
+not·blank n = not (blank n) || among (byte " ") n
+
 unfoldable pub sound·name : List ℕ → Bool
-sound·name n = utf8 n && not (among (byte "_") n) && not (among (byte "\r") n) && (not (blank n) || among (byte " ") n)
+sound·name n = utf8 n && no·underscore n && no·return n && not·blank n
+
+-- A test holds of each of these texts.
+unfoldable pub each : (List ℕ → Bool) → List (List ℕ) → Bool
+each test [] = true
+each test (n ∷ r) = let more = each test r in test n && more
 
 unfoldable pub sound·names : List (List ℕ) → Bool
 sound·names [] = true
@@ -92,6 +106,16 @@ sound·symbols DataType.Standard symbols gaps =
     leb 2 (length symbols) && leb (length symbols) (most·symbols gaps) && all·valid symbols && distinct symbols
 sound·symbols DataType.Dna symbols gaps = same symbols acgt
 
+-- The symbols of DNA are ACGT.
+unfoldable pub dna·symbols : DataType → List ℕ → Bool
+dna·symbols DataType.Standard symbols = true
+dna·symbols DataType.Dna symbols = same symbols acgt
+
+-- The labels and state labels that there are.
+unfoldable pub label·texts : List Character → List (List ℕ)
+label·texts [] = []
+label·texts (c ∷ r) = let more = c .states ++ label·texts r in pick (empty? (c .label)) more (c .label ∷ more)
+
 -- Labels and state labels are names; a label may be absent.
 unfoldable pub sound·labels : List Character → Bool
 sound·labels [] = true
@@ -114,12 +138,23 @@ pub record Sound (r : Reading) : Type 0 where
   -- indices rise strictly in a set, and are below the symbol count
   pub cells·sound : sound·rows (length (r .symbols)) (r .taxa) ≡ true
   -- symbols are valid and different, 2 to 73, or 72 beside a gap cell; those of DNA are ACGT
-  pub symbols·sound : sound·symbols (r .data·type) (r .symbols) (gap·in (r .taxa)) ≡ true
-  -- names hold no `_` and no CR, and are blank-only only with a U+0020
-  pub names·sound : sound·names (names (r .taxa)) ≡ true
+  pub symbols·valid : all·valid (r .symbols) ≡ true
+  pub symbols·different : distinct (r .symbols) ≡ true
+  pub symbols·two : leb 2 (length (r .symbols)) ≡ true
+  pub symbols·most : leb (length (r .symbols)) (most·symbols (gap·in (r .taxa))) ≡ true
+  pub symbols·dna : dna·symbols (r .data·type) (r .symbols) ≡ true
+  -- names are UTF-8, hold no `_` and no CR, and are blank-only only with a U+0020
+  pub names·utf8 : each utf8 (names (r .taxa)) ≡ true
+  pub names·underscore : each no·underscore (names (r .taxa)) ≡ true
+  pub names·return : each no·return (names (r .taxa)) ≡ true
+  pub names·blank : each not·blank (names (r .taxa)) ≡ true
   -- names differ, ASCII case ignored
   pub names·unlike : names·differ (names (r .taxa)) ≡ true
-  pub labels·sound : sound·labels (r .characters) ≡ true
+  -- labels and state labels likewise; they may be alike
+  pub labels·utf8 : each utf8 (label·texts (r .characters)) ≡ true
+  pub labels·underscore : each no·underscore (label·texts (r .characters)) ≡ true
+  pub labels·return : each no·return (label·texts (r .characters)) ≡ true
+  pub labels·blank : each not·blank (label·texts (r .characters)) ≡ true
   -- at most as many state labels as symbols
   pub states·few : few·states (length (r .symbols)) (r .characters) ≡ true
   -- DNA has no ordered character

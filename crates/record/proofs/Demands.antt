@@ -1,29 +1,31 @@
 -- The promises of specs/Demands.antt, each with its proof. Assumes nothing.
 use Prim.Native.Nat.{ℕ, _≤_}
 use Rattle.block.proofs.NamesFromTokens.{names-from-tokens}
-use Rattle.block.proofs.OutcomeLaws.{All}
 use Rattle.block.proofs.ReadingSmall.{reading-small}
 use Rattle.block.proofs.ReadingSound.{reading-sound}
 use Rattle.block.proofs.TaxaFollow.{taxa-follow}
 use Rattle.block.specs.Parse.{reading, read, read·tokens, placed}
 use Rattle.block.specs.Reading.{Taxon, Character, Reading}
 use Rattle.block.specs.Sequential.{names}
-use Rattle.block.specs.Sound.{Sound}
-use Rattle.block.specs.TaxonOrder.{Token·named, all·named}
 use Rattle.lexer.specs.Base.{pick}
 use Rattle.lexer.specs.Lexing.{longest}
+use Rattle.lexer.specs.declared.refusal.Refusal.{Refusal}
 use Rattle.record.proofs.FormClosed.{form-closed}
 use Rattle.record.proofs.FormLexed.{form-lexed, form-utf8}
 use Rattle.record.proofs.FormParsed.{form-parsed}
 use Rattle.record.proofs.SpellLaws.{unspell-spell}
 use Rattle.record.proofs.UnspellLaws.{spell-unspell}
-use Rattle.record.specs.Demands.{Reads, Counted, Agree, Every·reading·is·sound, Taxa·follow·the·declaration, Names·come·from·tokens, Records·are·read·back, Records·are·spelled, Records·of·texts·pass, Not·refused·is·some·reading, Forms·are·read·again, Forms·tell·readings·apart, Forms·tell·texts·apart}
+use Rattle.record.specs.Demands.{Reads, Counted, Agree, Every·reading·is·sound, Taxa·follow·the·declaration, Names·come·from·tokens, Records·are·read·back, Records·are·spelled, Records·of·texts·pass, Some·reading·spells, Not·refused·is·some·reading, Refused·is·no·reading, Forms·are·read·again, Forms·tell·readings·apart, Forms·tell·texts·apart}
+use Rattle.record.specs.Calls.{bytes·of, refuse, written, write·result, not·found, found, looked·up, lookup·answer}
 use Rattle.record.specs.Form.{form}
-use Rattle.record.specs.Spell.{spell}
+use Rattle.record.specs.Lookup.{Stretch, lookup}
 use Rattle.record.specs.Unspell.{unspell, most}
+use lib.Dec.{leb}
 use lib.ListN.{length}
+use mathlib.Core.Bool.{Bool, true, false}
 use mathlib.Core.List.{List, [], _∷_, map, cons≢nil, nil≢cons, head-eq-of-cons-eq, tail-eq-of-cons-eq}
-use mathlib.Core.Option.{some}
+use mathlib.Core.Logic.{_↔_}
+use mathlib.Core.Option.{Option, none, some, Option·none-ne-some}
 use mathlib.Core.Path.{_≡_, refl, sym, ap, _∙_, subst}
 use native.Mathlib.Omega.{arith}
 
@@ -34,12 +36,7 @@ pub taxa-follow-the-declaration : Taxa·follow·the·declaration
 taxa-follow-the-declaration = taxa-follow
 
 pub names-come-from-tokens : Names·come·from·tokens
-unfolding all·named
-names-come-from-tokens text r h = go (r .taxa) (names-from-tokens text r h)
-  where
-    go : (ts : List Taxon) → All (λ t. Token·named text (t .name)) ts → all·named text ts
-    go [] p = tt
-    go (t ∷ ts) p = (p .0, go ts (p .1))
+names-come-from-tokens = names-from-tokens
 
 pub records-are-read-back : Records·are·read·back
 records-are-read-back = unspell-spell
@@ -59,15 +56,48 @@ unfolding read read·tokens placed pick
 forms-are-read-again r s = rw (form-utf8 r s, form-lexed r s, form-closed r, form-parsed r s) refl
 
 pub not-refused-is-some-reading : Not·refused·is·some·reading
-not-refused-is-some-reading b = (spelled, refused)
+not-refused-is-some-reading b = (spelled, taken)
   where
-    spelled : (r : Reading) × (unspell b ≡ some r) → (text : List ℕ) × (r : Reading) × Reads text r × Sound r × Counted r × (spell r ≡ b)
+    spelled : (r : Reading) × (unspell b ≡ some r) → Some·reading·spells b
     spelled h =
         let k = spell-unspell b (h .0) (h .1) in
         (form (h .0), h .0, forms-are-read-again (h .0) (k .1), k .1, k .2, k .0)
 
-    refused : (text : List ℕ) × (r : Reading) × Reads text r × Sound r × Counted r × (spell r ≡ b) → (r : Reading) × (unspell b ≡ some r)
-    refused h = (h .1, ap unspell (sym (h .5)) ∙ unspell-spell (h .1) (h .3) (h .4))
+    taken : Some·reading·spells b → (r : Reading) × (unspell b ≡ some r)
+    taken h = (h .1, ap unspell (sym (h .5)) ∙ unspell-spell (h .1) (h .3) (h .4))
+
+-- A call that answers 31 where bytes are no record, and something else where they are one.
+module _ {A : Type 0} (f : Option Reading → A) (no : A) (refuses : f none ≡ no) (answers : (r : Reading) → ¬ (f (some r) ≡ no)) where
+  refuses-no-reading : (b : List ℕ) → (f (unspell b) ≡ no) ↔ ¬ (Some·reading·spells b)
+  refuses-no-reading b = (unspelled (unspell b) refl, refused (unspell b) refl)
+    where
+      unspelled : (o : Option Reading) → unspell b ≡ o → f o ≡ no → ¬ (Some·reading·spells b)
+      unspelled none e h s = let p = not-refused-is-some-reading b .1 s in Option·none-ne-some (p .0) (sym e ∙ p .1)
+      unspelled (some r) e h s = answers r h
+
+      refused : (o : Option Reading) → unspell b ≡ o → ¬ (Some·reading·spells b) → f o ≡ no
+      refused none e h = refuses
+      refused (some r) e h = absurd (h (not-refused-is-some-reading b .0 (r, e)))
+
+written-answers : (r : Reading) → ¬ (written (some r) ≡ refuse Refusal.NotRecord)
+unfolding written refuse pick
+written-answers r h = go (leb (length (form r)) longest) h
+  where
+    go : (t : Bool) → ¬ (pick t (bytes·of (form r)) (refuse Refusal.FormTooLong) ≡ refuse Refusal.NotRecord)
+    go true e = let z : _≡_ {A = ℕ} 0 1 = cc in omega arith
+    go false e = let z : _≡_ {A = ℕ} 0 1 = cc in omega arith
+
+found-answers : (o : Option Stretch) → ¬ (found o ≡ not·found Refusal.NotRecord)
+unfolding found not·found
+found-answers none h = let z = ap (λ x. x .refused) h in omega arith
+found-answers (some s) h = let z = ap (λ x. x .refused) h in omega arith
+
+pub refused-is-no-reading : Refused·is·no·reading
+unfolding write·result written lookup·answer looked·up
+refused-is-no-reading b name = (
+  refuses-no-reading written (refuse Refusal.NotRecord) refl written-answers b,
+  refuses-no-reading (looked·up name) (not·found Refusal.NotRecord) refl (λ r. found-answers (lookup name r)) b,
+)
 
 -- Taxa with equal names and cells are equal, and so are characters with equal labels, state labels and types.
 taxa-agree : (l r : List Taxon) → names l ≡ names r → map (λ (t : Taxon). t .cells) l ≡ map (λ (t : Taxon). t .cells) r → l ≡ r

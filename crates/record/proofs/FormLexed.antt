@@ -1,5 +1,6 @@
 -- The written form of a sound reading is UTF-8 and is lexed as expected: its commands, and the whole. Assumes nothing.
 use Prim.Native.Nat.{ℕ, suc}
+use Rattle.block.proofs.SoundParts.{symbols-sound, names-sound, labels-sound}
 use Rattle.block.specs.Blocks.{has·ordered}
 use Rattle.block.specs.Format.{valid·symbol, all·valid}
 use Rattle.block.specs.Reading.{Character, Reading}
@@ -175,16 +176,17 @@ labels-lexed cs h e =
     chosen-alike Lexes (labelled cs) (word-lexed (bytes "CHARSTATELABELS") refl refl (entries-parts true 1 cs h (semicolon-parts e))) e
 
 -- ASSUMPTIONS
-order-parts : (o : CharacterOrdering) {r : List ℕ} {ts : List Token}
-    → Parts r ts → Parts (32 ∷ order·word o ++ r) (word (order·word o) ∷ ts)
-unfolding order·word all·plain plain? plain·class run·tokens
-order-parts CharacterOrdering.Ordered e = blank-parts (word-lexed (bytes "ORD") refl refl e)
-order-parts CharacterOrdering.Unordered e = blank-parts (word-lexed (bytes "UNORD") refl refl e)
-
 types-parts : (cs : List Character) {r : List ℕ} {ts : List Token} → Parts r ts → Parts (form·types cs r) (types·tokens cs ts)
-unfolding form·types types·tokens
+unfolding form·types types·tokens order·word all·plain plain? plain·class run·tokens
 types-parts [] e = e
-types-parts (c ∷ cs) e = order-parts (c .ordering) (types-parts cs e)
+types-parts (c ∷ cs) {r} {ts} e = go (c .ordering) (types-parts cs e)
+  where
+    go : (o : CharacterOrdering)
+        → Parts (form·types cs r) (types·tokens cs ts)
+        → Parts (form·types (record { label = c .label; states = c .states; ordering = o } ∷ cs) r)
+        (types·tokens (record { label = c .label; states = c .states; ordering = o } ∷ cs) ts)
+    go CharacterOrdering.Ordered more = blank-parts (word-lexed (bytes "ORD") refl refl more)
+    go CharacterOrdering.Unordered more = blank-parts (word-lexed (bytes "UNORD") refl refl more)
 
 assumptions-lexed : (cs : List Character) → Lexes (form·assumptions cs) (assumptions·tokens cs)
 unfolding form·assumptions assumptions·tokens run·tokens
@@ -202,11 +204,11 @@ assumptions-lexed cs =
 form-lexes : (r : Reading) → Sound r → Lexes (form r) (form·tokens r)
 unfolding form form·tokens run·tokens
 form-lexes r s =
-    let signs = signs-valid (r .data·type) (r .symbols) (gap·in (r .taxa)) (s .symbols·sound) in
+    let signs = signs-valid (r .data·type) (r .symbols) (gap·in (r .taxa)) (symbols-sound r s) in
     let end = end-parts (assumptions-lexed (r .characters)) .between in
-    let rows = rows-lexed signs (r .taxa) (s .cells·sound) (s .names·sound) (λ y. y) end in
+    let rows = rows-lexed signs (r .taxa) (s .cells·sound) (names-sound r s) (λ y. y) end in
     let matrix = text-lexed (bytes "MATRIX\n") (key "MATRIX" ∷ newline ∷ []) (λ x. refl) (λ x. refl) rows in
-    let format = format-lexed (r .data·type) signs (labels-lexed (r .characters) (s .labels·sound) matrix) in
+    let format = format-lexed (r .data·type) signs (labels-lexed (r .characters) (labels-sound r s) matrix) in
     text-lexed (bytes "#NEXUS\nBEGIN DATA;\n")
     (key "#NEXUS" ∷ newline ∷ key "BEGIN" ∷ key "DATA" ∷ mark 59 ∷ newline ∷ [])
     (λ x. refl) (λ x. refl) (dimensions-lexed r format)

@@ -1,5 +1,6 @@
 -- The tokens of a written form are read as its reading. Assumes nothing.
 use Prim.Native.Nat.{ℕ, suc, _≤_}
+use Rattle.block.proofs.SoundParts.{symbols-sound, labels-sound}
 use Rattle.block.specs.Blocks.{State, at·start, step, outside?, block·step, ends, inner·step, data·step, data·command, labelling, labelled·by, label·step, in·phase, end·block, data·end, has·ordered, final, matrix·read, finish·in, finish}
 use Rattle.block.specs.Commands.{commands}
 use Rattle.block.specs.Dimensions.{Dimensions}
@@ -78,8 +79,8 @@ module _ (r : Reading) (s : Sound r) where
   format-to-end : (b : ℕ) → Reads (in·form b (declared (some (counts r)) none [] none)) (from·format r) (last r)
   format-to-end b =
       rw (format-words (r .data·type) (r .symbols) (gap·in (r .taxa)) (labels·tokens (r .characters) (from·matrix r)))
-      (format-read b (counts r) (r .data·type) (r .symbols) (gap·in (r .taxa)) (s .symbols·sound)
-      (newline-read (labels-read b (length (r .symbols)) (counts r) (written·format r) (r .characters) (leb-true (length (r .characters)) largest (s .characters·few)) (s .labels·sound) (s .states·few) (matrix-to-end b))))
+      (format-read b (counts r) (r .data·type) (r .symbols) (gap·in (r .taxa)) (symbols-sound r s)
+      (newline-read (labels-read b (length (r .symbols)) (counts r) (written·format r) (r .characters) (leb-true (length (r .characters)) largest (s .characters·few)) (labels-sound r s) (s .states·few) (matrix-to-end b))))
 
   dimensions-to-end : (b : ℕ) → Reads (in·form b (declared none none [] none)) (dimensions·tokens r (from·format r)) (last r)
   unfolding dimensions·tokens

@@ -1,5 +1,6 @@
 -- MATRIX of a written form is read as its taxa, with the labels given before. Assumes nothing.
 use Prim.Native.Nat.{ℕ, suc, _<_}
+use Rattle.block.proofs.SoundParts.{symbols-sound, names-sound}
 use Rattle.block.specs.Blocks.{Data, State, step, outside?, block·step, ends, inner·step, data·step, data·command, with·matrix, in·phase, declared·count, agrees, in·order, rows, matrix·reading, matrix·shape, matrix}
 use Rattle.block.specs.Commands.{up·to·end, words}
 use Rattle.block.specs.Dimensions.{Dimensions}
@@ -82,7 +83,7 @@ module _ (r : Reading) (s : Sound r) where
   rows-read i j rest =
       let all : Turns (sequential·turn (shape r i)) (between []) (matrix·words r rest) (between (r .taxa)) =
       newline-turned
-      (rows-turned (shape r i) (r .data·type) (r .symbols) (gap·in (r .taxa)) (form-signs (r .data·type) (r .symbols) (gap·in (r .taxa)) (s .symbols·sound)) some-cell (r .taxa) [] rest (s .cells·sound) (λ g. g) (s .rows·long) (s .names·sound) (s .names·unlike) refl)
+      (rows-turned (shape r i) (r .data·type) (r .symbols) (gap·in (r .taxa)) (form-signs (r .data·type) (r .symbols) (gap·in (r .taxa)) (symbols-sound r s)) some-cell (r .taxa) [] rest (s .cells·sound) (λ g. g) (s .rows·long) (names-sound r s) (s .names·unlike) refl)
       in
       let raw : List Numbered = up·to·end (numbered j (matrix·words r rest)) in
       pick-second (written·format r .interleave) (interleaved (shape r i) raw) (sequential (shape r i) (words raw)) (form-sequential (r .symbols) (gap·in (r .taxa)) (r .data·type))

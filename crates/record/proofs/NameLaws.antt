@@ -9,7 +9,7 @@ use Rattle.lexer.specs.Words.{spaced, label, word?, quoted?}
 use Rattle.lexer.specs.declared.Class.{Class}
 use Rattle.record.proofs.CommandLaws.{at}
 use Rattle.record.proofs.FormTokens.{name, underscored}
-use Rattle.block.specs.Sound.{sound·name}
+use Rattle.block.specs.Sound.{no·underscore, no·return, not·blank, sound·name}
 use borrow.Author.Tests.{eqb-true, not-true}
 use lib.Dec.{eqb}
 use mathlib.Core.Bool.{Bool, true, false, _&&_, _||_, not, and-assoc}
@@ -93,7 +93,7 @@ neither false b h = refl
 
 -- The label of a name's token is the name.
 pub name-label : (i : ℕ) (n : List ℕ) → sound·name n ≡ true → label (at i (name n)) ≡ some n
-unfolding sound·name label word? quoted? pick
+unfolding sound·name no·underscore no·return not·blank label word? quoted? pick
 name-label i n h =
     let (u, no95, no13, some-sign) = all-four (utf8 n) (not (among 95 n)) (not (among 13 n)) (not (blank n) || among 32 n) h in
     rw (blank-underscored n, neither (blank n) (among 32 n) some-sign, spaced-underscored n (not-true (among 95 n) no95)) refl

@@ -1,5 +1,6 @@
 -- The rows of a written form are read. Assumes nothing.
 use Prim.Native.Nat.{ℕ, suc, _<_}
+use Rattle.block.proofs.RowsSound.{names-append}
 use Rattle.block.specs.Cell.{Cell, state, uncertain, polymorphic, missing, gap}
 use Rattle.block.specs.Interleaved.{all·long}
 use Rattle.block.specs.Names.{known}
@@ -21,7 +22,7 @@ use lib.Dec.{eqb}
 use lib.ListN.{length, length-append}
 use mathlib.Core.Bool.{Bool, true, false, not}
 use mathlib.Core.List.{List, [], _∷_, _++_, append-nil, append-assoc}
-use mathlib.Core.Path.{_≡_, refl, ap, _∙_}
+use mathlib.Core.Path.{_≡_, refl, _∙_}
 use native.Mathlib.Omega.{arith}
 
 -- Rows part no command.
@@ -61,11 +62,6 @@ new-name n [] r h = refl
 new-name n (m ∷ l) r h =
     let later : known m (l ++ (n ∷ r)) ≡ false = not-true (known m (l ++ (n ∷ r))) (and-left (not (known m (l ++ (n ∷ r)))) (names·differ (l ++ (n ∷ r))) h) in
     or-both (alike-sym n m ∙ known-later m n l r later) (new-name n l r (and-right (not (known m (l ++ (n ∷ r)))) (names·differ (l ++ (n ∷ r))) h))
-
-names-append : (l r : List Taxon) → names (l ++ r) ≡ names l ++ names r
-unfolding names
-names-append [] r = refl
-names-append (x ∷ l) r = ap (λ ns. x .name ∷ ns) (names-append l r)
 
 module _ (sh : Shape) (type : DataType) (symbols : List ℕ) (gaps : Bool) (signs : Signs (sh .format) type symbols gaps) (some-cell : 0 < sh .characters) where
   pub rows-turned : (xs rows : List Taxon) (rest : List Token) → sound·rows (length symbols) xs ≡ true → (gap·in xs ≡ true → gaps ≡ true) → all·long (sh .characters) xs ≡ true → sound·names (names xs) ≡ true → names·differ (names (rows ++ xs)) ≡ true → length (rows ++ xs) ≡ sh .taxa → Turns (sequential·turn sh) (between rows) (rows·tokens type symbols xs (mark 59 ∷ rest)) (between (rows ++ xs))

@@ -1,4 +1,5 @@
 -- The conditions of a reading one by one, and the test of them all, say the same. Assumes nothing.
+use Rattle.block.proofs.SoundParts.{symbols-sound, names-sound, labels-sound, sound-parts}
 use Rattle.block.specs.Blocks.{orderable}
 use Rattle.block.specs.Interleaved.{all·long}
 use Rattle.block.specs.Reading.{Reading}
@@ -17,7 +18,7 @@ use mathlib.Core.Path.{_≡_}
 pub sound-test : (r : Reading) → Sound r → sound r ≡ true
 unfolding sound
 sound-test r s =
-    rw (s .some·taxon, s .some·character, s .taxa·few, s .characters·few, s .rows·long, s .cells·sound, s .symbols·sound, s .names·sound, s .names·unlike, s .labels·sound, s .states·few, s .dna·unordered)
+    rw (s .some·taxon, s .some·character, s .taxa·few, s .characters·few, s .rows·long, s .cells·sound, symbols-sound r s, names-sound r s, s .names·unlike, labels-sound r s, s .states·few, s .dna·unordered)
 
 -- A test and more of them, all of which hold.
 abbrev chain : Bool → List Bool → Bool
@@ -52,17 +53,4 @@ test-sound r t =
     ∷ orderable (r .data·type) (r .characters)
     ∷ []) t
     in
-    record {
-      some·taxon = not-true _ (e .0);
-      some·character = not-true _ (e .1 .0);
-      taxa·few = e .1 .1 .0;
-      characters·few = e .1 .1 .1 .0;
-      rows·long = e .1 .1 .1 .1 .0;
-      cells·sound = e .1 .1 .1 .1 .1 .0;
-      symbols·sound = e .1 .1 .1 .1 .1 .1 .0;
-      names·sound = e .1 .1 .1 .1 .1 .1 .1 .0;
-      names·unlike = e .1 .1 .1 .1 .1 .1 .1 .1 .0;
-      labels·sound = e .1 .1 .1 .1 .1 .1 .1 .1 .1 .0;
-      states·few = e .1 .1 .1 .1 .1 .1 .1 .1 .1 .1 .0;
-      dna·unordered = e .1 .1 .1 .1 .1 .1 .1 .1 .1 .1 .1 .0;
-    }
+    sound-parts r (not-true _ (e .0)) (not-true _ (e .1 .0)) (e .1 .1 .0) (e .1 .1 .1 .0) (e .1 .1 .1 .1 .0) (e .1 .1 .1 .1 .1 .0) (e .1 .1 .1 .1 .1 .1 .0) (e .1 .1 .1 .1 .1 .1 .1 .0) (e .1 .1 .1 .1 .1 .1 .1 .1 .0) (e .1 .1 .1 .1 .1 .1 .1 .1 .1 .0) (e .1 .1 .1 .1 .1 .1 .1 .1 .1 .1 .0) (e .1 .1 .1 .1 .1 .1 .1 .1 .1 .1 .1 .0)

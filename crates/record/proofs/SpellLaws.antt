@@ -1,5 +1,6 @@
 -- A record is read back as the reading that it was spelled from. Assumes nothing.
 use Prim.Native.Nat.{ℕ, suc, _+_, _≤_}
+use Rattle.block.proofs.SoundParts.{symbols-sound}
 use Rattle.block.specs.Interleaved.{all·long}
 use Rattle.block.specs.Reading.{Taxon, Character, Reading}
 use Rattle.block.specs.declared.model.CharacterOrdering.{CharacterOrdering}
@@ -137,7 +138,7 @@ head-leads r rest s c h =
     leads-line "datatype=" (type·word t) _ {m = taxa·line t} refl (type-clean t) (rw (value-key "datatype=" (type·word t), type-read))
     (leads-line "taxa=" (decimal n) _ {m = characters·line t n} refl (decimal-clean n) (rw (value-key "taxa=" (decimal n), count-read n (some-length (r .taxa) (s .some·taxon)) (c .taxa)))
     (leads-line "characters=" (decimal k) _ {m = symbols·line t n k} refl (decimal-clean k) (rw (value-key "characters=" (decimal k), count-read k (some-length (r .characters) (s .some·character)) (c .characters)))
-    (leads-line "symbols=" (r .symbols) rest {m = name·line (draft (head·of r) [] [])} refl (symbols-clean t (r .symbols) (gap·in (r .taxa)) (s .symbols·sound)) (rw (value-key "symbols=" (r .symbols))) h)))
+    (leads-line "symbols=" (r .symbols) rest {m = name·line (draft (head·of r) [] [])} refl (symbols-clean t (r .symbols) (gap·in (r .taxa)) (symbols-sound r s)) (rw (value-key "symbols=" (r .symbols))) h)))
 
 -- The whole record
 rows-read : (count k : ℕ) → 1 ≤ k → (ts : List Taxon) → all·long k ts ≡ true → sound·rows count ts ≡ true → Every Cells·read ts

@@ -6,11 +6,15 @@ use mathlib.Core.Logic.{_↔_}
 use mathlib.Core.Option.{some}
 use mathlib.Core.Path.{_≡_}
 use Rattle.lexer.specs.Lexing.{longest}
+use Rattle.lexer.specs.Tokens.{tokens}
+use Rattle.lexer.specs.Words.{numbered}
 use Rattle.block.specs.Parse.{reading, read}
 use Rattle.block.specs.Reading.{Taxon, Character, Reading}
 use Rattle.block.specs.Sequential.{names}
 use Rattle.block.specs.Sound.{Sound}
 use Rattle.block.specs.TaxonOrder.{commands·of, Matrix·of, Follows, all·named}
+use Rattle.lexer.specs.declared.refusal.Refusal.{Refusal}
+use Rattle.record.specs.Calls.{refuse, write·result, not·found, lookup·answer}
 use Rattle.record.specs.Form.{form}
 use Rattle.record.specs.Spell.{spell}
 use Rattle.record.specs.Unspell.{unspell, most}
@@ -23,14 +27,16 @@ Reads text r = read text ≡ reading r
 abbrev pub Every·reading·is·sound : Type 0
 Every·reading·is·sound = (text : List ℕ) (r : Reading) → Reads text r → Sound r
 
--- Demand 2. Rows follow any declared order: the k-th taxon has the k-th declared name, with the cells of the row of that name.
+-- Demand 2. Rows follow any declared order: the k-th taxon has the k-th declared name, with the cells of the row of that name. Names are
+-- declared exactly where a TAXLABELS command before MATRIX declares them (`Matrix·of`); where none does, taxa are the rows as they come.
+-- Every row has NCHAR cells and the name of a token of MATRIX.
 abbrev pub Taxa·follow·the·declaration : Type 0
 Taxa·follow·the·declaration =
     (text : List ℕ) (r : Reading) → Reads text r → (m : Matrix·of (commands·of text)) × Follows (m .block·data .taxa) (m .rows) (r .taxa)
 
 -- Demand 2. Names are those of the text's tokens.
 abbrev pub Names·come·from·tokens : Type 0
-Names·come·from·tokens = (text : List ℕ) (r : Reading) → Reads text r → all·named text (r .taxa)
+Names·come·from·tokens = (text : List ℕ) (r : Reading) → Reads text r → all·named (numbered 0 (tokens text)) (r .taxa)
 
 -- The counts of a record are at most 1,048,576.
 pub record Counted (r : Reading) : Type 0 where
@@ -49,12 +55,22 @@ Records·are·spelled = (b : List ℕ) (r : Reading) → unspell b ≡ some r �
 abbrev pub Records·of·texts·pass : Type 0
 Records·of·texts·pass = (text : List ℕ) (r : Reading) → length text ≤ longest → Reads text r → unspell (spell r) ≡ some r
 
--- 31 stands exactly where no text of any length has these bytes as its record, or a count is above 1,048,576: bytes are not refused if and only
--- if some text's reading, sound and within the counts, spells them.
+-- Some text's reading, sound and within the counts, spells these bytes.
+abbrev pub Some·reading·spells : List ℕ → Type 0
+Some·reading·spells b = (text : List ℕ) × (r : Reading) × Reads text r × Sound r × Counted r × (spell r ≡ b)
+
+-- Demands 2 and 3. 31 stands exactly where no text of any length has these bytes as its record, or a count is above 1,048,576: bytes are not
+-- refused if and only if some text's reading, sound and within the counts, spells them.
 abbrev pub Not·refused·is·some·reading : Type 0
-Not·refused·is·some·reading =
-    (b : List ℕ) →
-    ((r : Reading) × (unspell b ≡ some r)) ↔ ((text : List ℕ) × (r : Reading) × Reads text r × Sound r × Counted r × (spell r ≡ b))
+Not·refused·is·some·reading = (b : List ℕ) → ((r : Reading) × (unspell b ≡ some r)) ↔ Some·reading·spells b
+
+-- Demands 2 and 3. The same of the calls: what write comes to, and what a lookup of any name answers, is refusal 31 if and only if no such
+-- reading spells the bytes.
+abbrev pub Refused·is·no·reading : Type 0
+Refused·is·no·reading =
+    (b name : List ℕ) →
+    ((write·result b ≡ refuse Refusal.NotRecord) ↔ ¬ (Some·reading·spells b))
+    × ((lookup·answer name b ≡ not·found Refusal.NotRecord) ↔ ¬ (Some·reading·spells b))
 
 -- Demand 3. The written form is read again, whatever its length.
 abbrev pub Forms·are·read·again : Type 0

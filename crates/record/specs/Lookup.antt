@@ -12,7 +12,7 @@ pub record Stretch : Type 0 where
   pub start : ℕ
   pub size : ℕ
 
--- How long a taxon's line `name=` with the key `cells=` behind it is, and its cells.
+-- How many bytes of a taxon stand before its cells: its line `name=`, and the key `cells=`.
 unfoldable pub before·cells : Taxon → ℕ
 before·cells t = length (line "name=" (escaped (t .name)) []) + 6
 

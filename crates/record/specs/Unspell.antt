@@ -56,7 +56,7 @@ unescaped (b ∷ c ∷ r) =
     let other = with·byte b (unescaped (c ∷ r)) in
     pick (eqb b (byte "\\")) (pick (eqb c (byte "0")) lf (pick (eqb c (byte "1")) backslash none)) other
 
--- A text cut at each byte of a value; there is at least one part.
+-- A text cut at each byte that is a given one, which is left out; there is at least one part.
 unfoldable pub longer : ℕ → List (List ℕ) → List (List ℕ)
 longer b [] = (b ∷ []) ∷ []
 longer b (p ∷ r) = (b ∷ p) ∷ r
