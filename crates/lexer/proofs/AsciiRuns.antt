@@ -2,6 +2,7 @@
 -- before it. Assumes nothing.
 use Prim.Native.Nat.{ℕ, suc, _+_, _≤_, _<_}
 use Rattle.lexer.proofs.Basics.{chosen}
+use Rattle.lexer.proofs.ListLaws.{past-eight}
 use Rattle.lexer.proofs.Utf8Checking.{Checking, checking-turn, from-ascii}
 use Rattle.lexer.specs.Base.{pick}
 use Rattle.lexer.specs.Utf8.{ascii·end}
@@ -49,14 +50,7 @@ module _ (text : List ℕ) where
       let both = or-both-below _ _ 128 (ltb-true _ 128 h) in
       let a = four-below _ _ _ _ 128 (both .0) in
       let b = four-below _ _ _ _ 128 (both .1) in
-      run-next i (i + 1) (omega arith) (omega arith) (a .0)
-      ∙ run-next (i + 1) (i + 2) (omega arith) (omega arith) (a .1)
-      ∙ run-next (i + 2) (i + 3) (omega arith) (omega arith) (a .2)
-      ∙ run-next (i + 3) (i + 4) (omega arith) (omega arith) (a .3)
-      ∙ run-next (i + 4) (i + 5) (omega arith) (omega arith) (b .0)
-      ∙ run-next (i + 5) (i + 6) (omega arith) (omega arith) (b .1)
-      ∙ run-next (i + 6) (i + 7) (omega arith) (omega arith) (b .2)
-      ∙ run-next (i + 7) (i + 8) (omega arith) (omega arith) (b .3)
+      past-eight (λ b. b < 128) text run·end run-next i room (a .0) (a .1) (a .2) (a .3) (b .0) (b .1) (b .2) (b .3)
 
 -- What the turns keep: from here the run ends where it ends from the first byte on.
 pub record Running (text : List ℕ) (from i : ℕ) : Type 0 where

@@ -28,6 +28,7 @@ pub mod TokenParts
 pub mod TokenSizes
 pub mod TokensClean
 pub mod Utf8Checking
+pub mod WordBlocks
 pub mod WordBytes
 pub mod WordEnds
 pub mod Yielded

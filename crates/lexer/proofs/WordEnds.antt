@@ -53,6 +53,7 @@ word-comment text mark (suc d) i (b ∷ r) e =
 
 -- What the turns of the loop keep: from here the word ends where it does from its start.
 pub record Wording (text : List ℕ) (from i : ℕ) : Type 0 where
+  pub ahead : from ≤ i
   pub within : i ≤ length text
   pub rest : word·end 0 0 i (drop i text) ≡ word·end 0 0 from (drop from text)
 

@@ -5,6 +5,7 @@ ghost use Rattle.lexer.specs.Classes.{class, symbol·of, next1, next2, g
 ghost use Rattle.lexer.specs.Scanning.{class·number, symbol·at};
 ghost use Rattle.lexer.specs.declared.Class.{Class};
 ghost use lib.ListN.{length, getD, drop};
+ghost use mathlib.Core.Bool.{true};
 ghost use mathlib.Core.Path.{_≡_};
 use super::Symbol;
 
@@ -268,14 +269,21 @@ const CLASSES: [u8; 256] = [
     6,
 ];
 
-// The class of a letter or a digit is other, and needs no look in the table, which is built anew at each look.
-pub fn class_number(b: u8) -> u8
-    ensures { λ r. ⌜ r ≡ class·number (class b) ⌝ }
+// Is the byte a letter, a digit, or one of `-`, `.`, `?` and `_`? Then its class is other.
+pub fn plain(b: u8) -> bool
+    ensures { λ r. ⌜ (r ≡ true → class·number (class b) ≡ 5) ⌝ }
 {
     let small = (97 <= b) & (b <= 122);
     let capital = (65 <= b) & (b <= 90);
-    let digit = (48 <= b) & (b <= 57);
-    if small | capital | digit {
+    let numeric = (45 <= b) & (b <= 57) & (b != 47);
+    numeric | small | capital | (b == 63) | (b == 95)
+}
+
+// The class of a plain byte is other, and needs no look in the table, which is built anew at each look.
+pub fn class_number(b: u8) -> u8
+    ensures { λ r. ⌜ r ≡ class·number (class b) ⌝ }
+{
+    if plain(b) {
         return 5;
     }
     let i = b as usize;

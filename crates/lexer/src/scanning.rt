@@ -5,10 +5,11 @@ ghost use Rattle.lexer.specs.Base.{pick};
 ghost use Rattle.lexer.specs.Scanning.{comment·end, count·in, Nested, quote·end, string·end, word·end};
 ghost use lib.Dec.{eqb};
 ghost use lib.ListN.{length, drop};
-ghost use mathlib.Core.Bool.{false};
+ghost use mathlib.Core.Bool.{true, false};
 ghost use mathlib.Core.Path.{_≡_};
 use super::Scan;
 use super::Symbol;
+use super::classes::plain;
 use super::classes::symbol_at;
 
 // A place in a comment, and how many more comments are open there.
@@ -124,27 +125,56 @@ pub fn string_end(text: &[u8], mark: usize) -> Scan
     Scan::Open(mark)
 }
 
-// Where the word ends that goes on at `from`. Comments in it are passed over.
+// Are the eight bytes from `i` on all plain? If so, the word goes on behind them.
+fn word_eight(text: &[u8], i: usize) -> bool
+    requires { ⌜ i + 8 ≤ length (now text) ⌝ }
+    ensures { λ r. ⌜ (r ≡ true → word·end 0 0 i (drop i (now (text .entry))) ≡ word·end 0 0 (i + 8) (drop (i + 8) (now (text .entry)))) ⌝ }
+{
+    let a = plain(text[i]) & plain(text[i + 1]) & plain(text[i + 2]) & plain(text[i + 3]);
+    let b = plain(text[i + 4]) & plain(text[i + 5]) & plain(text[i + 6]) & plain(text[i + 7]);
+    a & b
+}
+
+// From `from` on, in a word, over blocks of eight plain bytes.
+fn word_blocks(text: &[u8], from: usize) -> usize
+    requires { ⌜ from ≤ length (now text) ⌝ }
+    ensures { λ r. ⌜ (from ≤ r) × (r ≤ length (now (text .entry))) × (word·end 0 0 r (drop r (now (text .entry))) ≡ word·end 0 0 from (drop from (now (text .entry)))) ⌝ }
+{
+    let mut i = from;
+    while 8 <= text.len() - i {
+        if !word_eight(text, i) {
+            return i;
+        }
+        i += 8;
+    }
+    i
+}
+
+// Where the word ends that goes on at `from`. Comments in it are passed over. The symbol of a byte is asked for only where it is not plain.
 pub fn word_end(text: &[u8], from: usize) -> Scan
     requires { ⌜ from ≤ length (now text) ⌝ }
     ensures { λ r. ⌜ r ≡ word·end 0 0 from (drop from (now (text .entry))) ⌝ }
 {
-    let mut i = from;
+    let mut i = word_blocks(text, from);
     while i < text.len() {
-        match symbol_at(text, i) {
-            Symbol::Other | Symbol::Part => {
-                i += 1;
-            }
-            Symbol::Open => match comment_end(text, i) {
-                Scan::At(j) => {
-                    i = j;
+        if plain(text[i]) {
+            i += 1;
+        } else {
+            match symbol_at(text, i) {
+                Symbol::Other | Symbol::Part => {
+                    i += 1;
                 }
-                Scan::Open(mark) => {
-                    return Scan::Open(mark);
+                Symbol::Open => match comment_end(text, i) {
+                    Scan::At(j) => {
+                        i = word_blocks(text, j);
+                    }
+                    Scan::Open(mark) => {
+                        return Scan::Open(mark);
+                    }
+                },
+                _ => {
+                    return Scan::At(i);
                 }
-            },
-            _ => {
-                return Scan::At(i);
             }
         }
     }
