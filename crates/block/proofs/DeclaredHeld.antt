@@ -13,11 +13,10 @@ use Rattle.block.specs.Reading.{Reading}
 use Rattle.block.specs.TaxonOrder.{declaring?, Declares}
 use Rattle.block.specs.Typeset.{Types, typeset}
 use Rattle.block.specs.declared.model.CharacterOrdering.{CharacterOrdering}
-use Rattle.lexer.proofs.Basics.{and-left, and-right, and-both, or-both, or-left, or-right, by-test}
+use Rattle.lexer.proofs.Basics.{and-right, or-both, or-left, or-right, by-test, alike-both}
 use Rattle.lexer.specs.Base.{pick, empty?, given, bytes, alike, lower}
 use Rattle.lexer.specs.Words.{Numbered, is, word?}
 use Rattle.lexer.specs.declared.refusal.Refusal.{Refusal}
-use borrow.Author.Tests.{eqb-true, eq-eqb}
 use lib.Dec.{eqb}
 use lib.ListN.{length}
 use mathlib.Core.Bool.{Bool, true, false, _&&_, _||_, not, true≢false}
@@ -27,19 +26,6 @@ use mathlib.Core.Option.{Option, none, some}
 use mathlib.Core.Path.{_≡_, refl, sym, ap, _∙_}
 
 -- A word is at most one keyword.
-alike-both : (k l t : List ℕ) → alike k t ≡ true → alike l t ≡ true → alike k l ≡ true
-unfolding alike
-alike-both [] [] t p q = refl
-alike-both [] (b ∷ l) [] p q = absurd (true≢false (sym q))
-alike-both [] (b ∷ l) (c ∷ t) p q = absurd (true≢false (sym p))
-alike-both (a ∷ k) [] [] p q = absurd (true≢false (sym p))
-alike-both (a ∷ k) [] (c ∷ t) p q = absurd (true≢false (sym q))
-alike-both (a ∷ k) (b ∷ l) [] p q = absurd (true≢false (sym p))
-alike-both (a ∷ k) (b ∷ l) (c ∷ t) p q =
-    let x = eqb-true (lower a) (lower c) (and-left (eqb (lower a) (lower c)) (alike k t) p) in
-    let y = eqb-true (lower b) (lower c) (and-left (eqb (lower b) (lower c)) (alike l t) q) in
-    and-both (eq-eqb (lower a) (lower b) (x ∙ sym y)) (alike-both k l t (and-right (eqb (lower a) (lower c)) (alike k t) p) (and-right (eqb (lower b) (lower c)) (alike l t) q))
-
 other-word : {X : Type 0} (k l : List ℕ) (h : Numbered) → alike k l ≡ false → is k h ≡ true → is l h ≡ true → X
 unfolding is
 other-word k l h e p q =

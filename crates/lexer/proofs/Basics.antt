@@ -139,6 +139,20 @@ alike-sym [] (b ∷ r) = refl
 alike-sym (a ∷ l) [] = refl
 alike-sym (a ∷ l) (b ∷ r) = rw (eqb-sym (lower a) (lower b), alike-sym l r)
 
+-- texts that are alike to a third are alike
+pub alike-both : (k l r : List ℕ) → alike k r ≡ true → alike l r ≡ true → alike k l ≡ true
+unfolding alike
+alike-both [] [] r p q = refl
+alike-both [] (b ∷ l) [] p q = absurd (false≢true q)
+alike-both [] (b ∷ l) (c ∷ r) p q = absurd (false≢true p)
+alike-both (a ∷ k) l [] p q = absurd (false≢true p)
+alike-both (a ∷ k) [] (c ∷ r) p q = absurd (false≢true q)
+alike-both (a ∷ k) (b ∷ l) (c ∷ r) p q =
+    let first = eqb-true (lower a) (lower c) (and-left (eqb (lower a) (lower c)) (alike k r) p) in
+    let second = eqb-true (lower b) (lower c) (and-left (eqb (lower b) (lower c)) (alike l r) q) in
+    and-both (eq-eqb (lower a) (lower b) (first ∙ sym second))
+    (alike-both k l r (and-right (eqb (lower a) (lower c)) (alike k r) p) (and-right (eqb (lower b) (lower c)) (alike l r) q))
+
 pub alike-refl : (l : List ℕ) → alike l l ≡ true
 unfolding alike
 alike-refl [] = refl
