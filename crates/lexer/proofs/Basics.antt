@@ -76,11 +76,6 @@ module _ {X : Type 0} where
   by-test true t f = t refl
   by-test false t f = f refl
 
-  pub pick-same : (b : Bool) (x : X) → pick b x x ≡ x
-  unfolding pick
-  pick-same true x = refl
-  pick-same false x = refl
-
   pub pick-second : (b : Bool) (x y : X) → b ≡ false → pick b x y ≡ y
   unfolding pick
   pick-second b x y h = rw h

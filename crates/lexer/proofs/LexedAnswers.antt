@@ -1,6 +1,7 @@
 -- What lexing answers, in each of its cases. Assumes nothing.
 use Prim.Native.Nat.{ℕ, suc, _+_, _*_, _≤_, _<_}
-use Rattle.lexer.proofs.MarkLaws.{first-within, drop-first}
+use Rattle.lexer.proofs.Basics.{chosen}
+use Rattle.lexer.proofs.MarkLaws.{unmarked-length}
 use Rattle.lexer.specs.Base.{pick}
 use Rattle.lexer.specs.Classes.{symbol}
 use Rattle.lexer.specs.Lexing.{longest, work·needed, counted, lexed}
@@ -14,33 +15,26 @@ use Rattle.lexer.specs.declared.Place.{Place}
 use Rattle.lexer.specs.declared.Walk.{Walk}
 use Rattle.lexer.specs.declared.refusal.Refusal.{Refusal}
 use borrow.Author.Tests.{le-leb, lt-leb}
-use lib.ListN.{length, drop, length-drop}
-use mathlib.Core.Bool.{Bool, true, false}
+use lib.ListN.{length}
+use mathlib.Core.Bool.{true, false}
 use mathlib.Core.List.{List, [], _∷_}
 use mathlib.Core.Path.{_≡_, sym, ap, subst, _∙_}
 use native.Mathlib.Omega.{arith}
 
 -- The mark of what stays open stands in the text.
-pick-at-most : (t : Bool) (a b n : ℕ) → a ≤ n → b ≤ n → pick t a b ≤ n
-unfolding pick
-pick-at-most true a b n p q = p
-pick-at-most false a b n p q = q
-
 opened-from-within : (r : List ℕ) (m : Mode) (since i : ℕ) → since ≤ i → opened·from m since i r ≤ i + length r
 unfolding opened·from
 opened-from-within [] m since i h = omega arith
 opened-from-within (b ∷ r) m since i h =
     let s = symbol b r in
-    let p = opened-from-within r (next m s) (pick (opens m s) i since) (suc i) (pick-at-most (opens m s) i since (suc i) (omega arith) (omega arith)) in
+    let p = opened-from-within r (next m s) (pick (opens m s) i since) (suc i) (chosen (λ o. o ≤ suc i) (opens m s) (λ _. omega arith) (λ _. omega arith)) in
     omega (arith, p)
 
-pub opened-within : (text : List ℕ) → opened text ≤ length text
+opened-within : (text : List ℕ) → opened text ≤ length text
 unfolding opened
 opened-within text =
-    let first = first·byte text in
-    let p = opened-from-within (unmarked text) Mode.Between 0 first (omega arith) in
-    let e : length (unmarked text) ≡ length (drop first text) = ap length (sym (drop-first text)) in
-    omega (arith, p, e, length-drop first text, first-within text)
+    let p = opened-from-within (unmarked text) Mode.Between 0 (first·byte text) (omega arith) in
+    omega (arith, p, unmarked-length text)
 
 pub open-within : (text : List ℕ) (r : Refusal) (mark : ℕ) → Open text r mark → mark ≤ length text
 open-within text r mark o = rw (o .at) at (opened-within text)

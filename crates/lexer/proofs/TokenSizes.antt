@@ -1,9 +1,10 @@
 -- The texts of a text's tokens are together no longer than the text. Assumes nothing.
 use Prim.Native.Nat.{ℕ, suc, _+_, _≤_}
 use Rattle.lexer.proofs.Basics.{by-test}
+use Rattle.lexer.proofs.MarkLaws.{unmarked-length}
 use Rattle.lexer.specs.Base.{pick}
 use Rattle.lexer.specs.Classes.{symbol, rank, newline?, return?, blank?, single?, double?, open?, close?, other?, part?}
-use Rattle.lexer.specs.Tokens.{Token, tail, text·step, next, after·between, after·word, token, text·of, tokens·from, begins, begins·between, unclosed, tokens, marked, unmarked}
+use Rattle.lexer.specs.Tokens.{Token, tail, text·step, next, after·between, after·word, token, text·of, tokens·from, begins, begins·between, unclosed, tokens, unmarked}
 use Rattle.lexer.specs.declared.Mode.{Mode}
 use Rattle.lexer.specs.declared.Symbol.{Symbol}
 use lib.ListN.{length}
@@ -96,13 +97,6 @@ from-small (b ∷ r) m =
     let a = adds b r m s in
     by-test (begins m s) (λ e. rw e (let h = rw e at a in omega arith)) (λ e. rw e (let h = rw e at a in omega arith))
 
-unmarked-small : (text : List ℕ) → length (unmarked text) ≤ length text
-unfolding unmarked pick
-unmarked-small [] = omega arith
-unmarked-small (a ∷ []) = omega arith
-unmarked-small (a ∷ b ∷ []) = omega arith
-unmarked-small (a ∷ b ∷ c ∷ r) = by-test (marked (a ∷ b ∷ c ∷ r)) (λ e. rw e (omega arith)) (λ e. rw e (omega arith))
-
 pub tokens-small : (text : List ℕ) → size (tokens text) ≤ length text
 unfolding tokens
-tokens-small text = let u = unmarked-small text in let k = from-small (unmarked text) Mode.Between in omega arith
+tokens-small text = let k = from-small (unmarked text) Mode.Between in omega (arith, unmarked-length text)
