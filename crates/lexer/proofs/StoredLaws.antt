@@ -45,7 +45,8 @@ module _ (text : List ℕ) where
   tokens-stored h = tokens-at-starts (unmarked text) Mode.Between (first·byte text) (drop-first text) h
 
 -- A start is below where the text ends.
-picked-within : (t : Bool) (p : ℕ) (l : List ℕ) (bound : ℕ) → p < bound → ((k : ℕ) → k < length l → getD l k 0 < bound) → (k : ℕ) → k < length (pick t (p ∷ l) l) → getD (pick t (p ∷ l) l) k 0 < bound
+picked-within : (t : Bool) (p : ℕ) (l : List ℕ) (bound : ℕ) → p < bound → ((k : ℕ) → k < length l → getD l k 0 < bound) → (k : ℕ)
+    → k < length (pick t (p ∷ l) l) → getD (pick t (p ∷ l) l) k 0 < bound
 unfolding pick
 picked-within true p l bound this more zero lt = this
 picked-within true p l bound this more (suc k) lt = more k (omega arith)

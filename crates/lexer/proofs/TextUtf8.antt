@@ -118,7 +118,8 @@ module _ (b : ℕ) (r : List ℕ) (k : Kept r) where
   added m s = text·step m s b (tail (next m s) r)
 
   -- At the front of a character: what holds of an ASCII byte with each symbol, and of the three symbols that another byte can have, holds of the byte's symbol.
-  ascii-or-longer : (P : Symbol → Type 0) (low high : ℕ) → utf8·from zero low high (b ∷ r) ≡ true → (utf8·from zero 128 191 r ≡ true → (s : Symbol) → P s) → P Symbol.Part → P Symbol.Blank → P Symbol.Other → P (symbol b r)
+  ascii-or-longer : (P : Symbol → Type 0) (low high : ℕ) → utf8·from zero low high (b ∷ r) ≡ true
+      → (utf8·from zero 128 191 r ≡ true → (s : Symbol) → P s) → P Symbol.Part → P Symbol.Blank → P Symbol.Other → P (symbol b r)
   ascii-or-longer P low high h ascii part blank other =
       by-test (ltb b 128) (λ e. ascii (after-ascii low high b r e h) (symbol b r)) (λ e. symbol-high-cases P b r (ltb-false b 128 e) part blank other)
 

@@ -22,7 +22,13 @@ bytes-are-requires-2 c κs = search needs
 returns : tie.Need-returns
 unfolding wide·blank
 returns c =
-    rw (c .before .before .before .before .byte-is .ensures, c .before .before .before .byte-is2 .ensures, c .before .before .bytes-are .ensures, c .before .general-blank .ensures, c .bytes-are2 .ensures)
+    rw (
+      c .before .before .before .before .byte-is .ensures,
+      c .before .before .before .byte-is2 .ensures,
+      c .before .before .bytes-are .ensures,
+      c .before .general-blank .ensures,
+      c .bytes-are2 .ensures,
+    )
 
 pub wide-blank-spec : {M : Type 1} → statement M
 wide-blank-spec =
