@@ -33,6 +33,7 @@ Readable Mode.String = Unit {0}
 Readable (Mode.Comment d) = Unit {0}
 Readable (Mode.WordComment d) = ⊥
 
+-- What is left of a token's text behind a cursor.
 unfoldable pub left : List ℕ → Cursor → List ℕ
 left text c = rest·of (c .mode) (drop (c .at) text)
 
