@@ -21,7 +21,10 @@ use native.Mathlib.Omega.{arith}
 or-both-below : (a b n : ℕ) → bitOr a b < n → (a < n) × (b < n)
 or-both-below a b n h = (omega (arith, or-add-and a b, and-le-r a b), omega (arith, or-add-and a b, and-le-l a b))
 
-four-below : (a b c d n : ℕ) → bitOr (bitOr (bitOr a b) c) d < n → (a < n) × (b < n) × (c < n) × (d < n)
+abbrev four : ℕ → ℕ → ℕ → ℕ → ℕ
+four a b c d = bitOr (bitOr (bitOr a b) c) d
+
+four-below : (a b c d n : ℕ) → four a b c d < n → (a < n) × (b < n) × (c < n) × (d < n)
 four-below a b c d n h =
     let abc = or-both-below (bitOr (bitOr a b) c) d n h in
     let ab = or-both-below (bitOr a b) c n (abc .0) in
@@ -45,7 +48,12 @@ module _ (text : List ℕ) where
   unfolding ascii·end
   run-over i h = rw (drop-of-length-le text h)
 
-  pub run-eight : (i : ℕ) → i + 8 ≤ length text → ltb (bitOr (bitOr (bitOr (bitOr (getD text i 0) (getD text (i + 1) 0)) (getD text (i + 2) 0)) (getD text (i + 3) 0)) (bitOr (bitOr (bitOr (getD text (i + 4) 0) (getD text (i + 5) 0)) (getD text (i + 6) 0)) (getD text (i + 7) 0))) 128 ≡ true → run·end i ≡ run·end (i + 8)
+  abbrev byte : ℕ → ℕ
+  byte j = getD text j 0
+
+  pub run-eight : (i : ℕ) → i + 8 ≤ length text
+      → ltb (bitOr (four (byte i) (byte (i + 1)) (byte (i + 2)) (byte (i + 3))) (four (byte (i + 4)) (byte (i + 5)) (byte (i + 6)) (byte (i + 7)))) 128 ≡ true
+      → run·end i ≡ run·end (i + 8)
   run-eight i room h =
       let both = or-both-below _ _ 128 (ltb-true _ 128 h) in
       let a = four-below _ _ _ _ 128 (both .0) in
@@ -70,7 +78,8 @@ module _ (text : List ℕ) (from i : ℕ) (k : Running text from i) where
   pub running-end : length text ≤ i → i ≡ ascii·end from (drop from text)
   running-end h = sym (run-over text i h) ∙ k .rest
 
-  pub running-sixteen : i + 16 ≤ length text → (a b : Bool) → not (a && b) ≡ false → (a ≡ true → run·end text i ≡ run·end text (i + 8)) → (b ≡ true → run·end text (i + 8) ≡ run·end text (i + 8 + 8)) → Running text from (i + 16)
+  pub running-sixteen : i + 16 ≤ length text → (a b : Bool) → not (a && b) ≡ false → (a ≡ true → run·end text i ≡ run·end text (i + 8))
+      → (b ≡ true → run·end text (i + 8) ≡ run·end text (i + 8 + 8)) → Running text from (i + 16)
   running-sixteen room true true h p q = let e : i + 8 + 8 ≡ i + 16 = omega arith in record { within = room; rest = sym (p refl ∙ (rw e at (q refl))) ∙ k .rest }
   running-sixteen room true false h p q = absurd (true≢false h)
   running-sixteen room false b h p q = absurd (true≢false h)
@@ -99,7 +108,8 @@ checking-run text low high i k = go (drop i text) i refl k
         passed small = record { below = omega (arith, lt); rest = rw behind (sym (from-ascii low high b r small) ∙ (rw e at (k .rest))) }
 
 -- An ASCII byte, and the ASCII bytes behind it, where no character is open.
-pub checking-ascii : (text : List ℕ) (more low high i j : ℕ) → Checking text more low high i → i < length text → more ≡ 0 → getD text i 0 < 128 → j ≡ ascii·end (i + 1) (drop (i + 1) text) → Checking text more low high j
+pub checking-ascii : (text : List ℕ) (more low high i j : ℕ) → Checking text more low high i → i < length text → more ≡ 0 → getD text i 0 < 128
+    → j ≡ ascii·end (i + 1) (drop (i + 1) text) → Checking text more low high j
 checking-ascii text more low high i j k h none small e =
     let here : Checking text 0 low high i = rw none at k in
     rw (none, e) (checking-run text low high (i + 1) (checking-turn text 0 low high i here h 0 low high (from-ascii low high (getD text i 0) (drop (i + 1) text) small)))

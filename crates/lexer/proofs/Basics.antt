@@ -70,16 +70,14 @@ pub and-true : (a : Bool) → a && true ≡ a
 and-true true = refl
 and-true false = refl
 
--- A test is true or false: the two cases, each with its equation.
+-- A test is true or false: the two cases, each with its equation, and never both.
 module _ {X : Type 0} where
+  pub not-both : {b : Bool} → b ≡ false → b ≡ true → X
+  not-both f t = absurd (true≢false (sym t ∙ f))
+
   pub by-test : (b : Bool) → (b ≡ true → X) → (b ≡ false → X) → X
   by-test true t f = t refl
   by-test false t f = f refl
-
-  pub pick-same : (b : Bool) (x : X) → pick b x x ≡ x
-  unfolding pick
-  pick-same true x = refl
-  pick-same false x = refl
 
   pub pick-second : (b : Bool) (x y : X) → b ≡ false → pick b x y ≡ y
   unfolding pick

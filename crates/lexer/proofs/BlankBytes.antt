@@ -1,6 +1,6 @@
 -- Which bytes are those of a blank: a byte below 192 by its class, a later one by the two bytes behind it. Assumes nothing.
 use Rattle.lexer.proofs.Basics.{chosen, and-false}
-use Prim.Native.Nat.{ℕ, _≤_, _<_}
+use Prim.Native.Nat.{ℕ, _+_, _≤_, _<_}
 use Rattle.lexer.proofs.SymbolLaws.{symbol-high}
 use Rattle.lexer.specs.Base.{pick}
 use Rattle.lexer.specs.Classes.{class, symbol, symbol·of, wide·blank, next1, next2, general·blank, general, rank, newline?, return?, blank?, part?, space?}
@@ -9,10 +9,12 @@ use Rattle.lexer.specs.declared.Class.{Class}
 use Rattle.lexer.specs.declared.Symbol.{Symbol}
 use borrow.Author.Tests.{lt-ltb, le-ltb}
 use lib.Dec.{eqb, ltb}
-use lib.ListN.{getD}
+use lib.ListN.{getD, drop}
+use lib.Seq.{getD-drop}
 use mathlib.Core.Bool.{Bool, true, false, _&&_, _||_}
 use mathlib.Core.List.{List, [], _∷_}
 use mathlib.Core.Path.{_≡_, refl, _∙_}
+use native.Mathlib.Nat.{add-zero}
 use native.Mathlib.Omega.{arith}
 
 -- Is a byte before these bytes one of a blank?
@@ -44,6 +46,11 @@ unfolding wide·blank next1 next2 general·blank general
 wide-two b [] = refl
 wide-two b (x ∷ []) = rw (and-false (eqb x 154), and-false (eqb x 128), and-false (eqb x 129))
 wide-two b (x ∷ y ∷ r) = refl
+
+pub wide-from : (b i : ℕ) (text : List ℕ) → wide·blank b (getD text i 0 ∷ getD text (i + 1) 0 ∷ []) ≡ wide·blank b (drop i text)
+wide-from b i text =
+    let first : getD (drop i text) 0 0 ≡ getD text i 0 = getD-drop i text 0 0 ∙ rw (add-zero i) in
+    rw (← first, ← getD-drop i text 1 0) (wide-two b (drop i text))
 
 pub blank-high : (b : ℕ) (r : List ℕ) → 192 ≤ b → wide·blank b (getD r 0 0 ∷ getD r 1 0 ∷ []) ≡ blank-part b r
 unfolding pick space? newline? return? blank? part? rank

@@ -1,15 +1,13 @@
 -- Laws of the bytes that come next in a text, and of a byte's class and symbol by its class's number. Assumes nothing.
-use Rattle.lexer.proofs.Basics.{and-false}
 use Prim.Native.Nat.{ℕ, zero, suc, _+_, _≤_, _<_}
 use Rattle.lexer.proofs.ListLaws.{drop-next}
-use Rattle.lexer.specs.Classes.{class, symbol, symbol·of, next1, next2, general·blank}
+use Rattle.lexer.specs.Classes.{class, symbol, symbol·of, next1}
 use Rattle.lexer.specs.Scanning.{class·number, first·symbol, symbol·at}
 use Rattle.lexer.specs.declared.Class.{Class}
 use lib.Dec.{eqb}
-use lib.ListN.{length, getD, drop, length-drop, drop-of-length-le}
-use lib.Seq.{drop-drop}
-use mathlib.Core.Bool.{false, _&&_}
-use mathlib.Core.List.{List, [], _∷_}
+use lib.ListN.{length, getD, drop, drop-of-length-le}
+use mathlib.Core.Bool.{false}
+use mathlib.Core.List.{List}
 use mathlib.Core.Path.{_≡_, refl, sym, ap, _∙_}
 use native.Mathlib.Omega.{arith}
 
@@ -21,27 +19,6 @@ next1-here text i b h = rw (drop-next text i)
 pub next1-past : (text : List ℕ) (i b : ℕ) → length text ≤ i → next1 b (drop i text) ≡ false
 unfolding next1
 next1-past text i b h = rw (drop-of-length-le text h)
-
--- Two bytes come next where the one does, and the other behind it.
-
-two : (a b : ℕ) (l : List ℕ) → next1 a l && next1 b (drop 1 l) ≡ next2 a b l
-unfolding next1 next2
-two a b [] = refl
-two a b (x ∷ []) = and-false (eqb x a)
-two a b (x ∷ y ∷ r) = refl
-
-pub next2-split : (text : List ℕ) (i a b : ℕ) → next1 a (drop i text) && next1 b (drop (i + 1) text) ≡ next2 a b (drop i text)
-next2-split text i a b = rw (← drop-drop 1 i text) (two a b (drop i text))
-
--- A blank that begins with the byte 226 has two more.
-short : (l : List ℕ) → length l ≤ 1 → general·blank l ≡ false
-unfolding general·blank
-short [] h = refl
-short (x ∷ []) h = refl
-short (x ∷ y ∷ r) h = absurd (omega arith)
-
-pub general-blank-past : (text : List ℕ) (i : ℕ) → length text ≤ i + 1 → general·blank (drop i text) ≡ false
-general-blank-past text i h = short (drop i text) (rw length-drop (omega arith))
 
 -- A class is known by its number.
 numbered : ℕ → Class

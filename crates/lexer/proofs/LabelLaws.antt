@@ -23,7 +23,8 @@ pub record NameParts (n : List ℕ) : Type 0 where
   pub marked : not (blank n) || among 32 n ≡ true
 
 -- An underscore is a character of its own, and so is the blank that takes its place.
-lined-utf8 : (n low high : ℕ) (r t : List ℕ) → 128 ≤ low → utf8·from n low high (95 ∷ r) ≡ true → (utf8·from 0 128 191 r ≡ true → utf8·from 0 128 191 t ≡ true) → utf8·from n low high (32 ∷ t) ≡ true
+lined-utf8 : (n low high : ℕ) (r t : List ℕ) → 128 ≤ low → utf8·from n low high (95 ∷ r) ≡ true
+    → (utf8·from 0 128 191 r ≡ true → utf8·from 0 128 191 t ≡ true) → utf8·from n low high (32 ∷ t) ≡ true
 unfolding utf8·from pick
 lined-utf8 zero low high r t le h k = k h
 lined-utf8 (suc n) low high r t le h k =
@@ -67,4 +68,11 @@ label-parts w n h c =
     let full = and-right named (not (blank text)) test in
     let u = and-left (utf8 text) (not (among 13 text)) c in
     let r = not-true (among 13 text) (and-right (utf8 text) (not (among 13 text)) c) in
-    rw (← e) (record { utf = spaced-utf8 text 0 128 191 (lit≤ tt) (lit≤ tt) u; unlined = spaced-unlined text; returnless = spaced-returnless text r; marked = by-test (among 32 (spaced text)) (λ p. rw p (or-true (not (blank (spaced text))))) (λ p. rw (spaced-same text p) (or-first (not (blank text)) (among 32 text) full)) })
+    let marked : not (blank (spaced text)) || among 32 (spaced text) ≡ true =
+    by-test (among 32 (spaced text)) (λ p. rw p (or-true (not (blank (spaced text))))) (λ p. rw (spaced-same text p) (or-first (not (blank text)) (among 32 text) full)) in
+    rw (← e) (record {
+      utf = spaced-utf8 text 0 128 191 (lit≤ tt) (lit≤ tt) u;
+      unlined = spaced-unlined text;
+      returnless = spaced-returnless text r;
+      marked = marked;
+    })

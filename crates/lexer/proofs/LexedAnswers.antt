@@ -1,6 +1,7 @@
 -- What lexing answers, in each of its cases. Assumes nothing.
 use Prim.Native.Nat.{ℕ, suc, _+_, _*_, _≤_, _<_}
-use Rattle.lexer.proofs.MarkLaws.{first-within, drop-first}
+use Rattle.lexer.proofs.Basics.{by-test, chosen}
+use Rattle.lexer.proofs.MarkLaws.{unmarked-length}
 use Rattle.lexer.specs.Base.{pick}
 use Rattle.lexer.specs.Classes.{symbol}
 use Rattle.lexer.specs.Lexing.{longest, work·needed, counted, lexed}
@@ -13,34 +14,29 @@ use Rattle.lexer.specs.declared.Mode.{Mode}
 use Rattle.lexer.specs.declared.Place.{Place}
 use Rattle.lexer.specs.declared.Walk.{Walk}
 use Rattle.lexer.specs.declared.refusal.Refusal.{Refusal}
-use borrow.Author.Tests.{le-leb, lt-leb}
-use lib.ListN.{length, drop, length-drop}
-use mathlib.Core.Bool.{Bool, true, false}
+use borrow.Author.Tests.{le-leb, lt-leb, leb-true}
+use lib.Dec.{leb}
+use lib.ListN.{length}
+use mathlib.Core.Bool.{true, false}
 use mathlib.Core.List.{List, [], _∷_}
-use mathlib.Core.Path.{_≡_, sym, ap, subst, _∙_}
+use mathlib.Core.Option.{Option, none, some}
+use mathlib.Core.Path.{_≡_, refl, sym, ap, subst, _∙_}
 use native.Mathlib.Omega.{arith}
 
 -- The mark of what stays open stands in the text.
-pick-at-most : (t : Bool) (a b n : ℕ) → a ≤ n → b ≤ n → pick t a b ≤ n
-unfolding pick
-pick-at-most true a b n p q = p
-pick-at-most false a b n p q = q
-
 opened-from-within : (r : List ℕ) (m : Mode) (since i : ℕ) → since ≤ i → opened·from m since i r ≤ i + length r
 unfolding opened·from
 opened-from-within [] m since i h = omega arith
 opened-from-within (b ∷ r) m since i h =
     let s = symbol b r in
-    let p = opened-from-within r (next m s) (pick (opens m s) i since) (suc i) (pick-at-most (opens m s) i since (suc i) (omega arith) (omega arith)) in
+    let p = opened-from-within r (next m s) (pick (opens m s) i since) (suc i) (chosen (λ o. o ≤ suc i) (opens m s) (λ _. omega arith) (λ _. omega arith)) in
     omega (arith, p)
 
-pub opened-within : (text : List ℕ) → opened text ≤ length text
+opened-within : (text : List ℕ) → opened text ≤ length text
 unfolding opened
 opened-within text =
-    let first = first·byte text in
-    let p = opened-from-within (unmarked text) Mode.Between 0 first (omega arith) in
-    let e : length (unmarked text) ≡ length (drop first text) = ap length (sym (drop-first text)) in
-    omega (arith, p, e, length-drop first text, first-within text)
+    let p = opened-from-within (unmarked text) Mode.Between 0 (first·byte text) (omega arith) in
+    omega (arith, p, unmarked-length text)
 
 pub open-within : (text : List ℕ) (r : Refusal) (mark : ℕ) → Open text r mark → mark ≤ length text
 open-within text r mark o = rw (o .at) at (opened-within text)
@@ -49,12 +45,16 @@ open-within text r mark o = rw (o .at) at (opened-within text)
 pub walked-as : (text work : List ℕ) (w v : Walk) → Walked text work w → w ≡ v → Walked text work v
 walked-as text work w v h e = subst (λ v. Walked text work v) e h
 
+-- A count of tokens is no refusal.
+never : {X : Type 0} (n : ℕ) (r : Refusal) (p : Place) → Lexed.Tokens n ≡ Lexed.Refused r p → X
+never n r p e = let z : _≡_ {A = ℕ} 0 1 = cc in absurd (omega arith)
+
 -- The answer and what it says of work memory.
 abbrev pub Answered : List ℕ → List ℕ → ℕ → Lexed → Type 0
 Answered text work k r = (r ≡ lexed text k) × ((n : ℕ) → r ≡ Lexed.Tokens n → Stored text work n)
 
 refused : (text work : List ℕ) (k : ℕ) (r : Refusal) (p q : Place) → p ≡ q → Lexed.Refused r q ≡ lexed text k → Answered text work k (Lexed.Refused r p)
-refused text work k r p q e a = (rw e a, λ n h. let z : _≡_ {A = ℕ} 0 1 = cc in absurd (omega arith))
+refused text work k r p q e a = (rw e a, λ n h. never n r p (sym h))
 
 module _ (text work : List ℕ) (k : ℕ) where
   pub answer-long : (p : Place) → p ≡ nowhere → 1048576 < length text → Answered text work k (Lexed.Refused Refusal.TextTooLong p)
@@ -84,3 +84,26 @@ module _ (text work : List ℕ) (k : ℕ) where
         pub answer-open : (r : Refusal) (mark : ℕ) (p : Place) → Open text r mark → p ≡ place text mark → Answered text work k (Lexed.Refused r p)
         unfolding counted
         answer-open r mark p o e = refused text work k r p (place text mark) e (ap (λ m. Lexed.Refused r (place text m)) (sym (o .at)) ∙ ap (counted text) (sym (o .what)) ∙ answer-valid)
+
+-- A text that is answered with a count is short and UTF-8, has work memory enough, and leaves nothing open.
+pub record Lexes (text : List ℕ) (k : ℕ) : Type 0 where
+  pub short : length text ≤ 1048576
+  pub room : 4 * length text + 64 ≤ k
+  pub valid : utf8 text ≡ true
+  pub closed : left·open (tokens text) ≡ none
+
+counted-closed : (text : List ℕ) (n : ℕ) (o : Option Refusal) → Lexed.Tokens n ≡ counted text o → o ≡ none
+unfolding counted
+counted-closed text n none e = refl
+counted-closed text n (some r) e = never n r (place text (opened text)) e
+
+pub tokens-lexed : (text : List ℕ) (k n : ℕ) → Lexed.Tokens n ≡ lexed text k → Lexes text k
+unfolding lexed longest work·needed pick
+tokens-lexed text k n e =
+    by-test (leb (length text) 1048576)
+    (λ fits. by-test (leb (4 * length text + 64) k)
+    (λ room. by-test (utf8 text)
+    (λ valid. record { short = leb-true _ _ fits; room = leb-true _ _ room; valid = valid; closed = counted-closed text n _ (rw (fits, room, valid) at e) })
+    (λ invalid. never n Refusal.NotUtf8 nowhere (rw (fits, room, invalid) at e)))
+    (λ little. never n Refusal.WorkMemoryShort nowhere (rw (fits, little) at e)))
+    (λ long. never n Refusal.TextTooLong nowhere (rw long at e))

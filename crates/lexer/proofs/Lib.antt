@@ -1,34 +1,36 @@
-pub mod AsciiRuns
+-- What other crates may cite: laws of tests, lists and tables, and of what a text's tokens are.
 pub mod Basics
-pub mod BlankBytes
-pub mod Cases
-pub mod ClassLaws
-pub mod CommentBlocks
-pub mod EndTurns
-pub mod HeldText
-pub mod KindTags
 pub mod LabelLaws
 pub mod LexedAnswers
 pub mod ListLaws
-pub mod MarkLaws
-pub mod PlaceLaws
-pub mod QuotedBytes
-pub mod ScanLaws
-pub mod StepLaws
-pub mod StepSymbols
 pub mod StoredLaws
-pub mod Storing
-pub mod SymbolLaws
-pub mod SymbolTags
 pub mod TableLaws
-pub mod TextReturns
 pub mod TextUtf8
-pub mod TextWalks
-pub mod TokenParts
 pub mod TokenSizes
 pub mod TokensClean
-pub mod Utf8Checking
-pub mod WordBlocks
-pub mod WordBytes
-pub mod WordEnds
-pub mod Yielded
+-- What the proofs of this crate alone rest on.
+mod AsciiRuns
+mod BlankBytes
+mod Cases
+mod ClassLaws
+mod CommentBlocks
+mod EndTurns
+mod HeldText
+mod KindTags
+mod MarkLaws
+mod PlaceLaws
+mod QuotedBytes
+mod ScanLaws
+mod StepLaws
+mod StepSymbols
+mod Storing
+mod SymbolLaws
+mod SymbolTags
+mod TextReturns
+mod TextWalks
+mod TokenParts
+mod Utf8Checking
+mod WordBlocks
+mod WordBytes
+mod WordEnds
+mod Yielded

@@ -25,17 +25,6 @@ first-long (a ∷ []) h = absurd (omega arith)
 first-long (a ∷ b ∷ []) h = absurd (omega arith)
 first-long (a ∷ b ∷ c ∷ r) h = refl
 
-pub first-within : (text : List ℕ) → first·byte text ≤ length text
-unfolding first·byte marked pick
-first-within [] = omega arith
-first-within (a ∷ []) = omega arith
-first-within (a ∷ b ∷ []) = omega arith
-first-within (a ∷ b ∷ c ∷ r) = go (eqb a 239 && eqb b 187 && eqb c 191)
-  where
-    go : (t : Bool) → pick t 3 0 ≤ length (a ∷ b ∷ c ∷ r)
-    go true = omega arith
-    go false = omega arith
-
 -- What stands from the first byte on is the text without its mark.
 pub drop-first : (text : List ℕ) → drop (first·byte text) text ≡ unmarked text
 unfolding first·byte marked unmarked pick
@@ -54,3 +43,6 @@ unmarked-length [] = refl
 unmarked-length (a ∷ []) = omega arith
 unmarked-length (a ∷ b ∷ []) = omega arith
 unmarked-length (a ∷ b ∷ c ∷ r) = by-test (eqb a 239 && eqb b 187 && eqb c 191) (λ t. rw t (omega arith)) (λ f. rw f (omega arith))
+
+pub first-within : (text : List ℕ) → first·byte text ≤ length text
+first-within text = omega (arith, unmarked-length text)

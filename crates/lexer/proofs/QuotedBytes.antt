@@ -1,44 +1,30 @@
 -- Quoted text byte by byte, as it stands in a text: every newline is LF, two single quotes are one. Assumes nothing.
 use Prim.Native.Nat.{ℕ, _+_, _≤_, _<_}
-use Rattle.lexer.proofs.Basics.{by-test, or-left, or-right, or-both, chosen}
+use Rattle.lexer.proofs.Basics.{by-test, not-both, or-left, or-right, or-both}
 use Rattle.lexer.proofs.ListLaws.{drop-next}
-use Rattle.lexer.proofs.ScanLaws.{single-byte, double-byte}
+use Rattle.lexer.proofs.ScanLaws.{symbol-cases, single-byte, double-byte}
 use Rattle.lexer.proofs.SymbolLaws.{symbol-return}
+use Rattle.lexer.proofs.Yielded.{yields-byte, yields-end}
 use Rattle.lexer.specs.Base.{pick}
-use Rattle.lexer.specs.Bytes.{left, rest·of, first, Plain, Readable, Yields·byte}
+use Rattle.lexer.specs.Bytes.{left, rest·of, first, Plain, Readable, Yields}
 use Rattle.lexer.specs.Classes.{class, symbol, symbol·of, next1, rank, newline?, return?, single?, double?}
 use Rattle.lexer.specs.Tokens.{tail, next, text·step, quoted·byte}
-use Rattle.lexer.specs.declared.Class.{Class}
+use Rattle.lexer.specs.declared.Item.{Item}
 use Rattle.lexer.specs.declared.Mode.{Mode}
-use Rattle.lexer.specs.declared.Symbol.{Symbol}
 use borrow.Author.Tests.{ne-eqb, eqb-true}
 use lib.Dec.{eqb}
 use lib.ListN.{length, getD, drop, drop-of-length-le}
-use mathlib.Core.Bool.{false, _||_, true≢false}
-use mathlib.Core.List.{List, [], _∷_}
-use mathlib.Core.Path.{_≡_, refl, sym, _∙_}
+use mathlib.Core.Bool.{false, _||_}
+use mathlib.Core.List.{List, _∷_}
+use mathlib.Core.Path.{_≡_, refl}
 use native.Mathlib.Omega.{arith}
 
--- What holds of the symbol of a byte other than LF and CR if it holds of each that it can have.
-unlined-cases : (P : Symbol → Type 0) (b : ℕ) (r : List ℕ) → eqb b 10 ≡ false → eqb b 13 ≡ false → P Symbol.Blank → P Symbol.Single → P Symbol.Double → P Symbol.Open → P Symbol.Close → P Symbol.Punctuation → P Symbol.Other → P Symbol.Part → P (symbol b r)
-unfolding symbol symbol·of class
-unlined-cases P b r e f blank single double opening closing mark other part =
-    chosen Q _ (λ t. absurd (true≢false (sym t ∙ or-both e f))) λ _.
-    chosen Q _ (λ _. blank) λ _.
-    chosen Q _ (λ _. chosen P _ (λ _. single) (λ _. double)) λ _.
-    chosen Q _ (λ _. opening) λ _.
-    chosen Q _ (λ _. chosen P _ (λ _. closing) (λ _. mark)) λ _.
-    chosen Q _ (λ _. other) λ _.
-    chosen P _ (λ _. part) λ _.
-    chosen P _ (λ _. blank) (λ _. other)
-  where
-    Q : Class → Type 0
-    Q c = P (symbol·of c b r)
-
--- Such a byte is no newline, nor half of one.
+-- A byte other than LF and CR is no newline, nor half of one.
 unlined : (b : ℕ) (r : List ℕ) → eqb b 10 ≡ false → eqb b 13 ≡ false → newline? (symbol b r) || return? (symbol b r) ≡ false
 unfolding newline? return? rank
-unlined b r e f = unlined-cases (λ s. newline? s || return? s ≡ false) b r e f refl refl refl refl refl refl refl refl
+unlined b r e f =
+    let line = not-both (or-both e f) in
+    symbol-cases (λ s. newline? s || return? s ≡ false) b r (λ _. refl) (λ _. refl) (λ _. refl) (λ _. refl) line line refl refl refl refl
 
 -- A byte other than CR stands in quoted text as it is.
 module _ (b : ℕ) (r : List ℕ) (h : b ≡ 13 → ⊥) where
@@ -92,68 +78,71 @@ plain-readable (Mode.WordComment d) b p = p
 
 -- The next byte of quoted text that is not its quote.
 module _ (text : List ℕ) (i : ℕ) (m : Mode) (h : i < length text) (p : Plain m (getD text i 0)) where
-  pub yields-plain : (getD text i 0 ≡ 13 → ⊥) → Yields·byte text (record { at = i; mode = m }) (getD text i 0) (record { at = i + 1; mode = m })
+  pub yields-plain : (getD text i 0 ≡ 13 → ⊥) → Yields text (record { at = i; mode = m }) (Item.Byte (getD text i 0) (record { at = i + 1; mode = m }))
   unfolding left
   yields-plain n =
-      record {
+      yields-byte (record {
         here = rw (drop-next text i h) (plain-byte (getD text i 0) (drop (i + 1) text) n m p);
         ahead = omega arith;
         within = omega arith;
         readable = plain-readable m (getD text i 0) p;
-      }
+      })
 
-  pub yields-return : getD text i 0 ≡ 13 → next1 10 (drop (i + 1) text) ≡ false → Yields·byte text (record { at = i; mode = m }) 10 (record { at = i + 1; mode = m })
+  pub yields-return : getD text i 0 ≡ 13 → next1 10 (drop (i + 1) text) ≡ false → Yields text (record { at = i; mode = m }) (Item.Byte 10 (record { at = i + 1; mode = m }))
   unfolding left
   yields-return e n =
-      record {
+      yields-byte (record {
         here = rw (drop-next text i h, e) (return-alone m (drop (i + 1) text) (rw e at p) n);
         ahead = omega arith;
         within = omega arith;
         readable = plain-readable m (getD text i 0) p;
-      }
+      })
 
-  pub yields-line : getD text i 0 ≡ 13 → i + 1 < length text → getD text (i + 1) 0 ≡ 10 → Yields·byte text (record { at = i; mode = m }) 10 (record { at = i + 1 + 1; mode = m })
+  pub yields-line : getD text i 0 ≡ 13 → i + 1 < length text → getD text (i + 1) 0 ≡ 10 → Yields text (record { at = i; mode = m }) (Item.Byte 10 (record { at = i + 1 + 1; mode = m }))
   unfolding left
   yields-line e l n =
-      record {
+      yields-byte (record {
         here = rw (drop-next text i h, e, drop-next text (i + 1) l, n) (return-line m (drop (i + 1 + 1) text) (rw e at p));
         ahead = omega arith;
         within = omega arith;
         readable = plain-readable m (getD text i 0) p;
-      }
+      })
 
 -- The end of quoted text: at its quote, or at the end of the text.
-pub string-quote : (text : List ℕ) (i : ℕ) → i < length text → getD text i 0 ≡ 34 → left text (record { at = i; mode = Mode.String }) ≡ []
+pub string-quote : (text : List ℕ) (i : ℕ) → i < length text → getD text i 0 ≡ 34 → Yields text (record { at = i; mode = Mode.String }) Item.End
 unfolding left rest·of tail next text·step symbol symbol·of class rank double? pick
-string-quote text i h e = rw (drop-next text i h, e)
+string-quote text i h e = yields-end (rw (drop-next text i h, e))
 
 module _ (text : List ℕ) (i : ℕ) (h : i < length text) (e : getD text i 0 ≡ 39) where
   -- two single quotes are one
-  pub quote-twice : i + 1 < length text → getD text (i + 1) 0 ≡ 39 → Yields·byte text (record { at = i; mode = Mode.Quoted }) 39 (record { at = i + 1 + 1; mode = Mode.Quoted })
+  pub quote-twice : i + 1 < length text → getD text (i + 1) 0 ≡ 39 → Yields text (record { at = i; mode = Mode.Quoted }) (Item.Byte 39 (record { at = i + 1 + 1; mode = Mode.Quoted }))
   unfolding left rest·of tail next text·step symbol symbol·of class rank single? pick
-  quote-twice l f = record { here = rw (drop-next text i h, e, drop-next text (i + 1) l, f); ahead = omega arith; within = omega arith; readable = tt }
+  quote-twice l f = yields-byte (record { here = rw (drop-next text i h, e, drop-next text (i + 1) l, f); ahead = omega arith; within = omega arith; readable = tt })
 
-  pub quote-once : i + 1 < length text → (getD text (i + 1) 0 ≡ 39 → ⊥) → left text (record { at = i; mode = Mode.Quoted }) ≡ []
+  pub quote-once : i + 1 < length text → (getD text (i + 1) 0 ≡ 39 → ⊥) → Yields text (record { at = i; mode = Mode.Quoted }) Item.End
   unfolding left rest·of tail next text·step pick
-  quote-once l f = rw (drop-next text i h, e, single-byte 39 (drop (i + 1) text), drop-next text (i + 1) l, single-byte (getD text (i + 1) 0) (drop (i + 1 + 1) text), ne-eqb (getD text (i + 1) 0) 39 f)
+  quote-once l f =
+      let closing = single-byte 39 (drop (i + 1) text) in
+      let other = single-byte (getD text (i + 1) 0) (drop (i + 1 + 1) text) in
+      yields-end (rw (drop-next text i h, e, closing, drop-next text (i + 1) l, other, ne-eqb (getD text (i + 1) 0) 39 f))
 
-  pub quote-last : length text ≤ i + 1 → left text (record { at = i; mode = Mode.Quoted }) ≡ []
+  pub quote-last : length text ≤ i + 1 → Yields text (record { at = i; mode = Mode.Quoted }) Item.End
   unfolding left rest·of tail next text·step symbol symbol·of class rank single? pick
-  quote-last l = rw (drop-next text i h, e, drop-of-length-le text l)
+  quote-last l = yields-end (rw (drop-next text i h, e, drop-of-length-le text l))
 
-pub quoted-past : (text : List ℕ) (i : ℕ) → length text ≤ i → left text (record { at = i; mode = Mode.Quoted }) ≡ []
+pub quoted-past : (text : List ℕ) (i : ℕ) → length text ≤ i → Yields text (record { at = i; mode = Mode.Quoted }) Item.End
 unfolding left rest·of tail
-quoted-past text i h = rw (drop-of-length-le text h)
+quoted-past text i h = yields-end (rw (drop-of-length-le text h))
 
-pub string-past : (text : List ℕ) (i : ℕ) → length text ≤ i → left text (record { at = i; mode = Mode.String }) ≡ []
+pub string-past : (text : List ℕ) (i : ℕ) → length text ≤ i → Yields text (record { at = i; mode = Mode.String }) Item.End
 unfolding left rest·of tail
-string-past text i h = rw (drop-of-length-le text h)
+string-past text i h = yields-end (rw (drop-of-length-le text h))
 
 -- A mark
-pub mark-here : (text : List ℕ) (i : ℕ) → i < length text → Yields·byte text (record { at = i; mode = Mode.Between }) (getD text i 0) (record { at = i + 1; mode = Mode.Comment 0 })
+pub mark-here : (text : List ℕ) (i : ℕ) → i < length text → Yields text (record { at = i; mode = Mode.Between }) (Item.Byte (getD text i 0) (record { at = i + 1; mode = Mode.Comment 0 }))
 unfolding left rest·of first
-mark-here text i h = record { here = rw (drop-next text i h); ahead = omega arith; within = omega arith; readable = tt }
+mark-here text i h = yields-byte (record { here = rw (drop-next text i h); ahead = omega arith; within = omega arith; readable = tt })
 
-pub mark-past : (text : List ℕ) (i : ℕ) → length text ≤ i → left text (record { at = i; mode = Mode.Between }) ≡ []
+pub mark-past : (text : List ℕ) (i : ℕ) → length text ≤ i → Yields text (record { at = i; mode = Mode.Between }) Item.End
 unfolding left rest·of first
-mark-past text i h = rw (drop-of-length-le text h)
+mark-past text i h = yields-end (rw (drop-of-length-le text h))

@@ -1,7 +1,7 @@
 -- What the scanning definitions pass over is what the modes pass over: comments, quoted texts and words, each from behind its first byte to its
 -- end. Assumes nothing.
 use Prim.Native.Nat.{ℕ, zero, suc, _+_, _≤_, _<_}
-use Rattle.lexer.proofs.Basics.{by-test, and-true, chosen, and-false}
+use Rattle.lexer.proofs.Basics.{by-test, not-both, and-true, chosen, and-false}
 use Rattle.lexer.specs.Base.{pick, among, bytes}
 use Rattle.lexer.specs.Classes.{class, marks, symbol, symbol·of, rank, return?, blank?, single?, double?, open?, close?, other?, part?}
 use Rattle.lexer.specs.Places.{starts·from, opened·from, opens, opens·between}
@@ -15,17 +15,20 @@ use Rattle.lexer.specs.declared.refusal.Refusal.{Refusal}
 use borrow.Author.Tests.{eqb-true}
 use lib.Dec.{eqb}
 use lib.ListN.{length, drop}
-use mathlib.Core.Bool.{Bool, true, false, true≢false}
+use mathlib.Core.Bool.{Bool, true, false, _||_}
 use mathlib.Core.List.{List, [], _∷_}
 use mathlib.Core.Option.{some}
 use mathlib.Core.Path.{_≡_, refl, sym, _∙_}
 use native.Mathlib.Omega.{arith}
 
--- What holds of a byte's symbol if it holds of each symbol that the byte can have: four symbols are those of one byte each.
-pub symbol-cases : (P : Symbol → Type 0) (b : ℕ) (r : List ℕ) → (eqb b 39 ≡ true → P Symbol.Single) → (eqb b 34 ≡ true → P Symbol.Double) → (eqb b 91 ≡ true → P Symbol.Open) → (eqb b 93 ≡ true → P Symbol.Close) → P Symbol.Newline → P Symbol.Return → P Symbol.Blank → P Symbol.Punctuation → P Symbol.Other → P Symbol.Part → P (symbol b r)
+-- What holds of a byte's symbol if it holds of each symbol that the byte can have: four symbols are those of one byte each, two those of LF and CR.
+pub symbol-cases : (P : Symbol → Type 0) (b : ℕ) (r : List ℕ)
+    → (eqb b 39 ≡ true → P Symbol.Single) → (eqb b 34 ≡ true → P Symbol.Double) → (eqb b 91 ≡ true → P Symbol.Open) → (eqb b 93 ≡ true → P Symbol.Close)
+    → (eqb b 10 || eqb b 13 ≡ true → P Symbol.Newline) → (eqb b 10 || eqb b 13 ≡ true → P Symbol.Return)
+    → P Symbol.Blank → P Symbol.Punctuation → P Symbol.Other → P Symbol.Part → P (symbol b r)
 unfolding symbol symbol·of class
 symbol-cases P b r single double opening closing newline return blank mark other part =
-    chosen Q _ (λ _. chosen P _ (λ _. return) (λ _. newline)) λ _.
+    chosen Q _ (λ t. chosen P _ (λ _. return t) (λ _. newline t)) λ _.
     chosen Q _ (λ _. blank) λ _.
     chosen Q _ (λ e. chosen P _ single λ f. double (rw f at e)) λ _.
     chosen Q _ opening λ _.
@@ -37,26 +40,31 @@ symbol-cases P b r single double opening closing newline return blank mark other
     Q : Class → Type 0
     Q c = P (symbol·of c b r)
 
-never : {X : Type 0} {t : Bool} → t ≡ false → t ≡ true → X
-never f t = absurd (true≢false (sym t ∙ f))
-
 -- Each of the four symbols is told by its byte.
 module _ (b : ℕ) (r : List ℕ) where
   pub open-byte : open? (symbol b r) ≡ eqb b 91
   unfolding symbol symbol·of class pick rank open?
-  open-byte = by-test (eqb b 91) (λ t. rw (eqb-true b 91 t)) (λ f. symbol-cases (λ s. open? s ≡ eqb b 91) b r (λ _. sym f) (λ _. sym f) (λ t. never f t) (λ _. sym f) (sym f) (sym f) (sym f) (sym f) (sym f) (sym f))
+  open-byte =
+      by-test (eqb b 91) (λ t. rw (eqb-true b 91 t))
+      (λ f. symbol-cases (λ s. open? s ≡ eqb b 91) b r (λ _. sym f) (λ _. sym f) (not-both f) (λ _. sym f) (λ _. sym f) (λ _. sym f) (sym f) (sym f) (sym f) (sym f))
 
   pub close-byte : close? (symbol b r) ≡ eqb b 93
   unfolding symbol symbol·of class pick rank close? among marks bytes
-  close-byte = by-test (eqb b 93) (λ t. rw (eqb-true b 93 t)) (λ f. symbol-cases (λ s. close? s ≡ eqb b 93) b r (λ _. sym f) (λ _. sym f) (λ _. sym f) (λ t. never f t) (sym f) (sym f) (sym f) (sym f) (sym f) (sym f))
+  close-byte =
+      by-test (eqb b 93) (λ t. rw (eqb-true b 93 t))
+      (λ f. symbol-cases (λ s. close? s ≡ eqb b 93) b r (λ _. sym f) (λ _. sym f) (λ _. sym f) (not-both f) (λ _. sym f) (λ _. sym f) (sym f) (sym f) (sym f) (sym f))
 
   pub single-byte : single? (symbol b r) ≡ eqb b 39
   unfolding symbol symbol·of class pick rank single?
-  single-byte = by-test (eqb b 39) (λ t. rw (eqb-true b 39 t)) (λ f. symbol-cases (λ s. single? s ≡ eqb b 39) b r (λ t. never f t) (λ _. sym f) (λ _. sym f) (λ _. sym f) (sym f) (sym f) (sym f) (sym f) (sym f) (sym f))
+  single-byte =
+      by-test (eqb b 39) (λ t. rw (eqb-true b 39 t))
+      (λ f. symbol-cases (λ s. single? s ≡ eqb b 39) b r (not-both f) (λ _. sym f) (λ _. sym f) (λ _. sym f) (λ _. sym f) (λ _. sym f) (sym f) (sym f) (sym f) (sym f))
 
   pub double-byte : double? (symbol b r) ≡ eqb b 34
   unfolding symbol symbol·of class pick rank double?
-  double-byte = by-test (eqb b 34) (λ t. rw (eqb-true b 34 t)) (λ f. symbol-cases (λ s. double? s ≡ eqb b 34) b r (λ _. sym f) (λ t. never f t) (λ _. sym f) (λ _. sym f) (sym f) (sym f) (sym f) (sym f) (sym f) (sym f))
+  double-byte =
+      by-test (eqb b 34) (λ t. rw (eqb-true b 34 t))
+      (λ f. symbol-cases (λ s. double? s ≡ eqb b 34) b r (λ _. sym f) (not-both f) (λ _. sym f) (λ _. sym f) (λ _. sym f) (λ _. sym f) (sym f) (sym f) (sym f) (sym f))
 
 -- From a mode at `i` to between two tokens at `j`, where no token begins.
 pub record Passed (m : Mode) (i j : ℕ) (r : List ℕ) : Type 0 where
@@ -81,7 +89,8 @@ pub here : (i : ℕ) (r : List ℕ) → Passed Mode.Between i i r
 here i r = record { count = 0; place = omega arith; room = omega arith; tokens = refl; starts = refl; opened = λ since. (since, refl) }
 
 -- One byte more in front, at which no token begins.
-one-more : (n : Refusal) (m : Mode) (since i b : ℕ) (r : List ℕ) → begins m (symbol b r) ≡ false → (e : Scan) → Ends n (next m (symbol b r)) (pick (opens m (symbol b r)) i since) (suc i) r e → Ends n m since i (b ∷ r) e
+one-more : (n : Refusal) (m : Mode) (since i b : ℕ) (r : List ℕ) → begins m (symbol b r) ≡ false → (e : Scan)
+    → Ends n (next m (symbol b r)) (pick (opens m (symbol b r)) i since) (suc i) r e → Ends n m since i (b ∷ r) e
 unfolding tokens·from starts·from opened·from pick
 one-more n m since i b r quiet (Scan.At j) p =
     record {
@@ -95,7 +104,8 @@ one-more n m since i b r quiet (Scan.At j) p =
 one-more n m since i b r quiet (Scan.Open mark) u = record { what = rw quiet (u .what); opened = u .opened; within = omega arith }
 
 -- At a byte that means in this mode what it means between two tokens, nothing is passed.
-as-between : (m : Mode) (i b : ℕ) (r : List ℕ) → next m (symbol b r) ≡ next Mode.Between (symbol b r) → begins m (symbol b r) ≡ begins Mode.Between (symbol b r) → opens m (symbol b r) ≡ opens Mode.Between (symbol b r) → Passed m i i (b ∷ r)
+as-between : (m : Mode) (i b : ℕ) (r : List ℕ) → next m (symbol b r) ≡ next Mode.Between (symbol b r)
+    → begins m (symbol b r) ≡ begins Mode.Between (symbol b r) → opens m (symbol b r) ≡ opens Mode.Between (symbol b r) → Passed m i i (b ∷ r)
 unfolding tokens·from starts·from opened·from
 as-between m i b r after begun opening =
     record {
@@ -115,7 +125,10 @@ module _ (n : Refusal) (since i : ℕ) (r : List ℕ) where
   ends-one false m m' e e' p q = q
 
 -- A byte in a comment: one comment more around what follows, one less, or as many.
-in-comment : (m deeper outer same : Mode) (since i b : ℕ) (r : List ℕ) (e e' e'' : Scan) → next m (symbol b r) ≡ pick (open? (symbol b r)) deeper (pick (close? (symbol b r)) outer same) → begins m (symbol b r) ≡ false → opens m (symbol b r) ≡ false → Ends Refusal.OpenComment deeper since (suc i) r e → Ends Refusal.OpenComment outer since (suc i) r e' → Ends Refusal.OpenComment same since (suc i) r e'' → Ends Refusal.OpenComment m since i (b ∷ r) (pick (eqb b 91) e (pick (eqb b 93) e' e''))
+in-comment : (m deeper outer same : Mode) (since i b : ℕ) (r : List ℕ) (e e' e'' : Scan)
+    → next m (symbol b r) ≡ pick (open? (symbol b r)) deeper (pick (close? (symbol b r)) outer same) → begins m (symbol b r) ≡ false
+    → opens m (symbol b r) ≡ false → Ends Refusal.OpenComment deeper since (suc i) r e → Ends Refusal.OpenComment outer since (suc i) r e'
+    → Ends Refusal.OpenComment same since (suc i) r e'' → Ends Refusal.OpenComment m since i (b ∷ r) (pick (eqb b 91) e (pick (eqb b 93) e' e''))
 unfolding pick
 in-comment m deeper outer same since i b r e e' e'' after quiet shut p q s =
     let tests = ends-one Refusal.OpenComment since (suc i) r in
@@ -150,12 +163,19 @@ abbrev in-quote : Bool → Mode
 in-quote false = Mode.Quoted
 in-quote true = Mode.Closing
 
-closing-byte : (mark i b : ℕ) (r : List ℕ) (e : Scan) → Ends Refusal.OpenQuote Mode.Quoted mark (suc i) r e → Ends Refusal.OpenQuote Mode.Closing mark i (b ∷ r) (pick (eqb b 39) e (Scan.At i))
+closing-byte : (mark i b : ℕ) (r : List ℕ) (e : Scan) → Ends Refusal.OpenQuote Mode.Quoted mark (suc i) r e
+    → Ends Refusal.OpenQuote Mode.Closing mark i (b ∷ r) (pick (eqb b 39) e (Scan.At i))
 unfolding next begins opens pick
 closing-byte mark i b r e p =
     chosen (λ e. Ends Refusal.OpenQuote Mode.Closing mark i (b ∷ r) e) (eqb b 39) {x = e} {y = Scan.At i}
-    (λ t. let s : single? (symbol b r) ≡ true = single-byte b r ∙ t in one-more Refusal.OpenQuote Mode.Closing mark i b r (rw s (and-false (begins·between (symbol b r)))) e (rw (s, and-false (opens·between (symbol b r))) p))
-    (λ f. let s : single? (symbol b r) ≡ false = single-byte b r ∙ f in as-between Mode.Closing i b r (rw s) (rw s (and-true (begins·between (symbol b r)))) (rw s (and-true (opens·between (symbol b r)))))
+    (λ t. let s : single? (symbol b r) ≡ true = single-byte b r ∙ t in doubled s)
+    (λ f. let s : single? (symbol b r) ≡ false = single-byte b r ∙ f in closed s)
+  where
+    doubled : single? (symbol b r) ≡ true → Ends Refusal.OpenQuote Mode.Closing mark i (b ∷ r) e
+    doubled s = one-more Refusal.OpenQuote Mode.Closing mark i b r (rw s (and-false (begins·between (symbol b r)))) e (rw (s, and-false (opens·between (symbol b r))) p)
+
+    closed : single? (symbol b r) ≡ false → Passed Mode.Closing i i (b ∷ r)
+    closed s = as-between Mode.Closing i b r (rw s) (rw s (and-true (begins·between (symbol b r)))) (rw s (and-true (opens·between (symbol b r))))
 
 pub quote-ends : (r : List ℕ) (mark : ℕ) (closing : Bool) (i : ℕ) → mark < i → Ends Refusal.OpenQuote (in-quote closing) mark i r (quote·end mark closing i r)
 unfolding quote·end tokens·from starts·from opened·from unclosed left·open open·kind next begins opens pick

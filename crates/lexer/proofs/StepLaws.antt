@@ -1,6 +1,7 @@
 -- One step between two tokens: what `token·step` says of the rest of a text is what the modes make of it. Assumes nothing.
 use Prim.Native.Nat.{ℕ, suc, _≤_, _<_}
 use Rattle.lexer.proofs.ScanLaws.{Passed, Unclosed, Ends, here, comment-ends, string-ends, quote-ends, word-ends}
+use Rattle.lexer.proofs.SymbolLaws.{each-symbol}
 use Rattle.lexer.specs.Base.{pick}
 use Rattle.lexer.specs.Classes.{symbol, rank, newline?, return?, blank?, single?, double?, open?, other?, part?}
 use Rattle.lexer.specs.Lexing.{token·at, first·token}
@@ -50,17 +51,20 @@ Behind s i r (Step.Quote mark) = (since : ℕ) → Unclosed Refusal.OpenQuote (a
 Behind s i r (Step.Comment mark) = (since : ℕ) → Unclosed Refusal.OpenComment (after·between s) (pick (opens·between s) i since) (suc i) r mark
 
 module _ (s : Symbol) (i : ℕ) (r : List ℕ) where
-  skipped-behind : (e : Scan) → begins·between s ≡ false → ((since : ℕ) → Ends Refusal.OpenComment (after·between s) (pick (opens·between s) i since) (suc i) r e) → Behind s i r (skipped e)
+  skipped-behind : (e : Scan) → begins·between s ≡ false
+      → ((since : ℕ) → Ends Refusal.OpenComment (after·between s) (pick (opens·between s) i since) (suc i) r e) → Behind s i r (skipped e)
   unfolding skipped
   skipped-behind (Scan.At j) h p = (h, p 0)
   skipped-behind (Scan.Open mark) h p = p
 
-  worded-behind : (e : Scan) → begins·between s ≡ true → ((since : ℕ) → Ends Refusal.OpenComment (after·between s) (pick (opens·between s) i since) (suc i) r e) → Behind s i r (worded e)
+  worded-behind : (e : Scan) → begins·between s ≡ true
+      → ((since : ℕ) → Ends Refusal.OpenComment (after·between s) (pick (opens·between s) i since) (suc i) r e) → Behind s i r (worded e)
   unfolding worded
   worded-behind (Scan.At j) h p = (h, p 0)
   worded-behind (Scan.Open mark) h p = p
 
-  quoted-behind : (e : Scan) → begins·between s ≡ true → ((since : ℕ) → Ends Refusal.OpenQuote (after·between s) (pick (opens·between s) i since) (suc i) r e) → Behind s i r (quoted e)
+  quoted-behind : (e : Scan) → begins·between s ≡ true
+      → ((since : ℕ) → Ends Refusal.OpenQuote (after·between s) (pick (opens·between s) i since) (suc i) r e) → Behind s i r (quoted e)
   unfolding quoted
   quoted-behind (Scan.At j) h p = (h, p 0)
   quoted-behind (Scan.Open mark) h p = p
@@ -81,16 +85,7 @@ step-behind Symbol.Part i r = (refl, here (suc i) r)
 -- A token that begins is none that is left open.
 never-open : (s : Symbol) (b : ℕ) (more : Option Refusal) → open·kind (kind·of s b) more ≡ more
 unfolding open·kind kind·of rank newline? single? double? other? pick
-never-open Symbol.Newline b more = refl
-never-open Symbol.Return b more = refl
-never-open Symbol.Blank b more = refl
-never-open Symbol.Single b more = refl
-never-open Symbol.Double b more = refl
-never-open Symbol.Open b more = refl
-never-open Symbol.Close b more = refl
-never-open Symbol.Punctuation b more = refl
-never-open Symbol.Other b more = refl
-never-open Symbol.Part b more = refl
+never-open s b more = each-symbol (λ s. open·kind (kind·of s b) more ≡ more) refl refl refl refl refl refl refl refl refl refl s
 
 pub open-past : (t : Bool) (b : ℕ) (r : List ℕ) (more : List Token) → left·open (pick t (token b r ∷ more) more) ≡ left·open more
 unfolding pick left·open token
@@ -111,7 +106,8 @@ module _ (text : List ℕ) (i : ℕ) (lt : i < length text) where
   lands : {m : Mode} {j : ℕ} (p : Passed m (suc i) j (drop (suc i) text)) → drop (p .count) (drop (suc i) text) ≡ drop j text
   lands p = drop-drop (p .count) (suc i) text ∙ ap (λ n. drop n text) (p .place)
 
-  opened-behind : (j : ℕ) → Passed (after·between at) (suc i) j (drop (suc i) text) → (since : ℕ) → (later : ℕ) × (opened·from Mode.Between since i (drop i text) ≡ opened·from Mode.Between later j (drop j text))
+  opened-behind : (j : ℕ) → Passed (after·between at) (suc i) j (drop (suc i) text) → (since : ℕ)
+      → (later : ℕ) × (opened·from Mode.Between since i (drop i text) ≡ opened·from Mode.Between later j (drop j text))
   unfolding opened·from next opens at
   opened-behind j p since =
       let o = p .opened (pick (opens·between at) i since) in

@@ -32,7 +32,19 @@ module _ (b : ℕ) (high : 128 ≤ b) where
   pub class-high : class b ≡ Class.Part
   unfolding class pick marks bytes all-below
   class-high =
-      rw (far 10 (lit< tt), far 13 (lit< tt), far 9 (lit< tt), far 11 (lit< tt), far 12 (lit< tt), far 32 (lit< tt), far 39 (lit< tt), far 34 (lit< tt), far 91 (lit< tt), among-above 128 b marks refl high, le-ltb b 128 high)
+      rw (
+        far 10 (lit< tt),
+        far 13 (lit< tt),
+        far 9 (lit< tt),
+        far 11 (lit< tt),
+        far 12 (lit< tt),
+        far 32 (lit< tt),
+        far 39 (lit< tt),
+        far 34 (lit< tt),
+        far 91 (lit< tt),
+        among-above 128 b marks refl high,
+        le-ltb b 128 high,
+      )
 
   pub symbol-high : (r : List ℕ) → symbol b r ≡ pick (ltb b 192) Symbol.Part (pick (wide·blank b r) Symbol.Blank Symbol.Other)
   unfolding symbol symbol·of
@@ -52,6 +64,20 @@ symbol-high-cases P b r high part blank other = rw (symbol-high b high r) (go (l
     go true w = part
     go false true = blank
     go false false = other
+
+-- What holds of each symbol, in the order of the list of all, holds of every one.
+pub each-symbol : (P : Symbol → Type 0) → P Symbol.Newline → P Symbol.Return → P Symbol.Blank → P Symbol.Single → P Symbol.Double → P Symbol.Open
+    → P Symbol.Close → P Symbol.Punctuation → P Symbol.Other → P Symbol.Part → (s : Symbol) → P s
+each-symbol P newline return blank single double opening closing mark other part Symbol.Newline = newline
+each-symbol P newline return blank single double opening closing mark other part Symbol.Return = return
+each-symbol P newline return blank single double opening closing mark other part Symbol.Blank = blank
+each-symbol P newline return blank single double opening closing mark other part Symbol.Single = single
+each-symbol P newline return blank single double opening closing mark other part Symbol.Double = double
+each-symbol P newline return blank single double opening closing mark other part Symbol.Open = opening
+each-symbol P newline return blank single double opening closing mark other part Symbol.Close = closing
+each-symbol P newline return blank single double opening closing mark other part Symbol.Punctuation = mark
+each-symbol P newline return blank single double opening closing mark other part Symbol.Other = other
+each-symbol P newline return blank single double opening closing mark other part Symbol.Part = part
 
 -- CR is a newline, or the first half of one.
 pub symbol-return : (r : List ℕ) → symbol 13 r ≡ pick (next1 10 r) Symbol.Return Symbol.Newline

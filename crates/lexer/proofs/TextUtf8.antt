@@ -1,7 +1,7 @@
 -- The text of a token is UTF-8 where the whole text is. Assumes nothing.
 use Prim.Native.Nat.{ℕ, zero, suc, _≤_}
 use Rattle.lexer.proofs.Basics.{by-test, and-left, and-right, and-both, chosen}
-use Rattle.lexer.proofs.SymbolLaws.{symbol-part, symbol-high-cases}
+use Rattle.lexer.proofs.SymbolLaws.{symbol-part, symbol-high-cases, each-symbol}
 use Rattle.lexer.specs.Base.{pick}
 use Rattle.lexer.specs.Classes.{symbol, rank, newline?, return?, single?, double?, open?, close?, other?, part?}
 use Rattle.lexer.specs.Tokens.{tail, text·step, quoted·byte, next, after·between, after·word, after·comment, up}
@@ -82,163 +82,112 @@ pub after-ascii : (low high b : ℕ) (r : List ℕ) → ltb b 128 ≡ true → u
 unfolding utf8·from pick
 after-ascii low high b r e h = rw e at h
 
--- What each mode makes of a well-formed rest: the text of the token that is open there is well-formed in the same place of a character. A
--- comment inside a word, and what stands behind a closing quote, begin a character.
-pub record Kept (r : List ℕ) : Type 0 where
-  pub word : (n low high : ℕ) → 128 ≤ low → high ≤ 191 → utf8·from n low high r ≡ true → utf8·from n low high (tail Mode.Word r) ≡ true
-  pub quoted : (n low high : ℕ) → 128 ≤ low → high ≤ 191 → utf8·from n low high r ≡ true → utf8·from n low high (tail Mode.Quoted r) ≡ true
-  pub string : (n low high : ℕ) → 128 ≤ low → high ≤ 191 → utf8·from n low high r ≡ true → utf8·from n low high (tail Mode.String r) ≡ true
-  pub closing : (n low high : ℕ) → 128 ≤ low → high ≤ 191 → utf8·from n low high r ≡ true → utf8·from 0 128 191 (tail Mode.Closing r) ≡ true
-  pub comment : (d n low high : ℕ) → 128 ≤ low → high ≤ 191 → utf8·from n low high r ≡ true → utf8·from 0 128 191 (tail (Mode.WordComment d) r) ≡ true
-
 -- Where a character begins, the range of later bytes means nothing.
 pub range-free : (low high : ℕ) (t : List ℕ) → utf8·from zero low high t ≡ utf8·from zero 128 191 t
 unfolding utf8·from
 range-free low high [] = refl
 range-free low high (b ∷ t) = refl
 
+-- In this mode the text of the token that is open is well-formed where the rest is: in the same place of a character, or as one that begins.
+abbrev pub Keeps : Mode → List ℕ → Type 0
+Keeps m r = (n low high : ℕ) → 128 ≤ low → high ≤ 191 → utf8·from n low high r ≡ true → utf8·from n low high (tail m r) ≡ true
+
+abbrev pub Begins : Mode → List ℕ → Type 0
+Begins m r = (n low high : ℕ) → 128 ≤ low → high ≤ 191 → utf8·from n low high r ≡ true → utf8·from 0 128 191 (tail m r) ≡ true
+
+-- What each mode makes of a well-formed rest. A comment inside a word, and what stands behind a closing quote, begin a character.
+pub record Kept (r : List ℕ) : Type 0 where
+  pub word : Keeps Mode.Word r
+  pub quoted : Keeps Mode.Quoted r
+  pub string : Keeps Mode.String r
+  pub closing : Begins Mode.Closing r
+  pub comment : (d : ℕ) → Begins (Mode.WordComment d) r
+
+-- One byte more in front of a rest.
 module _ (b : ℕ) (r : List ℕ) (k : Kept r) where
-  -- the byte goes before the text that the rest leaves in a mode
-  module _ (n low high : ℕ) (le : 128 ≤ low) (he : high ≤ 191) (h : utf8·from n low high (b ∷ r) ≡ true) where
-    f : Behind n low high b r
-    f = behind n low high b r h
-
-    with-word : utf8·from n low high (b ∷ tail Mode.Word r) ≡ true
-    with-word = f .before (tail Mode.Word r) (k .word (f .more) (f .from) (f .to) (f .later) (f .last) (f .rest))
-
-    with-quoted : utf8·from n low high (b ∷ tail Mode.Quoted r) ≡ true
-    with-quoted = f .before (tail Mode.Quoted r) (k .quoted (f .more) (f .from) (f .to) (f .later) (f .last) (f .rest))
-
-    with-string : utf8·from n low high (b ∷ tail Mode.String r) ≡ true
-    with-string = f .before (tail Mode.String r) (k .string (f .more) (f .from) (f .to) (f .later) (f .last) (f .rest))
+  -- it goes before the text that the rest leaves in a mode
+  module _ (n low high : ℕ) (h : utf8·from n low high (b ∷ r) ≡ true) where
+    with-text : (m : Mode) → Keeps m r → utf8·from n low high (b ∷ tail m r) ≡ true
+    with-text m keeps = let f = behind n low high b r h in f .before (tail m r) (keeps (f .more) (f .from) (f .to) (f .later) (f .last) (f .rest))
 
     in-comment : (d : ℕ) → utf8·from 0 128 191 (tail (Mode.WordComment d) r) ≡ true
-    in-comment d = k .comment d (f .more) (f .from) (f .to) (f .later) (f .last) (f .rest)
+    in-comment d = let f = behind n low high b r h in k .comment d (f .more) (f .from) (f .to) (f .later) (f .last) (f .rest)
 
-  word-kept : (n low high : ℕ) → 128 ≤ low → high ≤ 191 → utf8·from n low high (b ∷ r) ≡ true → utf8·from n low high (tail Mode.Word (b ∷ r)) ≡ true
-  unfolding tail next after·word after·between after·comment up text·step quoted·byte pick rank newline? return? single? double? open? close? other? part? utf8·from
-  word-kept (suc n) low high le he h = rw (later-byte n low high b r le he h) (with-word (suc n) low high le he h)
-  word-kept zero low high le he h = go (symbol b r)
+  -- what the byte adds to the text of the token that is open, if its symbol is this, before the text that the rest adds
+  abbrev added : Mode → Symbol → List ℕ
+  added m s = text·step m s b (tail (next m s) r)
+
+  -- At the front of a character: what holds of an ASCII byte with each symbol, and of the three symbols that another byte can have, holds of the byte's symbol.
+  ascii-or-longer : (P : Symbol → Type 0) (low high : ℕ) → utf8·from zero low high (b ∷ r) ≡ true
+      → (utf8·from zero 128 191 r ≡ true → (s : Symbol) → P s) → P Symbol.Part → P Symbol.Blank → P Symbol.Other → P (symbol b r)
+  ascii-or-longer P low high h ascii part blank other =
+      by-test (ltb b 128) (λ e. ascii (after-ascii low high b r e h) (symbol b r)) (λ e. symbol-high-cases P b r (ltb-false b 128 e) part blank other)
+
+  word-kept : Keeps Mode.Word (b ∷ r)
+  unfolding tail next after·word after·between text·step pick rank single? double? open? other? part? utf8·from
+  word-kept (suc n) low high le he h = rw (later-byte n low high b r le he h) (with-text (suc n) low high h Mode.Word (k .word))
+  word-kept zero low high le he h = each-symbol (λ s. utf8·from zero low high (added Mode.Word s) ≡ true) refl refl refl refl refl opens refl refl kept kept (symbol b r)
     where
-      go : (s : Symbol) → utf8·from zero low high (text·step Mode.Word s b (tail (next Mode.Word s) r)) ≡ true
-      go Symbol.Newline = refl
-      go Symbol.Return = refl
-      go Symbol.Blank = refl
-      go Symbol.Single = refl
-      go Symbol.Double = refl
-      go Symbol.Open = range-free low high (tail (Mode.WordComment 0) r) ∙ in-comment zero low high le he h 0
-      go Symbol.Close = refl
-      go Symbol.Punctuation = refl
-      go Symbol.Other = with-word zero low high le he h
-      go Symbol.Part = with-word zero low high le he h
+      kept : utf8·from zero low high (b ∷ tail Mode.Word r) ≡ true
+      kept = with-text zero low high h Mode.Word (k .word)
 
-  quoted-kept : (n low high : ℕ) → 128 ≤ low → high ≤ 191 → utf8·from n low high (b ∷ r) ≡ true → utf8·from n low high (tail Mode.Quoted (b ∷ r)) ≡ true
-  unfolding tail next after·word after·between after·comment up text·step quoted·byte pick rank newline? return? single? double? open? close? other? part? utf8·from
-  quoted-kept (suc n) low high le he h = rw (later-byte n low high b r le he h) (with-quoted (suc n) low high le he h)
-  quoted-kept zero low high le he h = by-test (ltb b 128) ascii longer
+      opens : utf8·from zero low high (tail (Mode.WordComment 0) r) ≡ true
+      opens = range-free low high (tail (Mode.WordComment 0) r) ∙ in-comment zero low high h 0
+
+  quoted-kept : Keeps Mode.Quoted (b ∷ r)
+  unfolding tail next text·step quoted·byte pick rank newline? return? single? utf8·from
+  quoted-kept (suc n) low high le he h = rw (later-byte n low high b r le he h) (with-text (suc n) low high h Mode.Quoted (k .quoted))
+  quoted-kept zero low high le he h =
+      ascii-or-longer P low high h (λ rest. each-symbol P (line rest) (range-free low high (tail Mode.Quoted r) ∙ line rest) kept (closes rest) kept kept kept kept kept kept) kept kept kept
     where
-      Goal : Symbol → Type 0
-      Goal s = utf8·from zero low high (text·step Mode.Quoted s b (tail (next Mode.Quoted s) r)) ≡ true
+      P : Symbol → Type 0
+      P s = utf8·from zero low high (added Mode.Quoted s) ≡ true
 
-      kept : Goal Symbol.Other
-      kept = with-quoted zero low high le he h
+      kept : utf8·from zero low high (b ∷ tail Mode.Quoted r) ≡ true
+      kept = with-text zero low high h Mode.Quoted (k .quoted)
 
-      go : utf8·from zero 128 191 r ≡ true → (s : Symbol) → Goal s
-      go rest Symbol.Newline = k .quoted zero 128 191 (lit≤ tt) (lit≤ tt) rest
-      go rest Symbol.Return = range-free low high (tail Mode.Quoted r) ∙ k .quoted zero 128 191 (lit≤ tt) (lit≤ tt) rest
-      go rest Symbol.Blank = kept
-      go rest Symbol.Single = range-free low high (tail Mode.Closing r) ∙ k .closing zero 128 191 (lit≤ tt) (lit≤ tt) rest
-      go rest Symbol.Double = kept
-      go rest Symbol.Open = kept
-      go rest Symbol.Close = kept
-      go rest Symbol.Punctuation = kept
-      go rest Symbol.Other = kept
-      go rest Symbol.Part = kept
+      line : utf8·from zero 128 191 r ≡ true → utf8·from zero 128 191 (tail Mode.Quoted r) ≡ true
+      line = k .quoted zero 128 191 (lit≤ tt) (lit≤ tt)
 
-      ascii : ltb b 128 ≡ true → Goal (symbol b r)
-      ascii e = go (after-ascii low high b r e h) (symbol b r)
+      closes : utf8·from zero 128 191 r ≡ true → utf8·from zero low high (tail Mode.Closing r) ≡ true
+      closes rest = range-free low high (tail Mode.Closing r) ∙ k .closing zero 128 191 (lit≤ tt) (lit≤ tt) rest
 
-      longer : ltb b 128 ≡ false → Goal (symbol b r)
-      longer e = symbol-high-cases Goal b r (ltb-false b 128 e) kept kept kept
-
-  string-kept : (n low high : ℕ) → 128 ≤ low → high ≤ 191 → utf8·from n low high (b ∷ r) ≡ true → utf8·from n low high (tail Mode.String (b ∷ r)) ≡ true
-  unfolding tail next after·word after·between after·comment up text·step quoted·byte pick rank newline? return? single? double? open? close? other? part? utf8·from
-  string-kept (suc n) low high le he h = rw (later-byte n low high b r le he h) (with-string (suc n) low high le he h)
-  string-kept zero low high le he h = by-test (ltb b 128) ascii longer
+  string-kept : Keeps Mode.String (b ∷ r)
+  unfolding tail next text·step quoted·byte pick rank newline? return? double? utf8·from
+  string-kept (suc n) low high le he h = rw (later-byte n low high b r le he h) (with-text (suc n) low high h Mode.String (k .string))
+  string-kept zero low high le he h =
+      ascii-or-longer P low high h (λ rest. each-symbol P (line rest) (range-free low high (tail Mode.String r) ∙ line rest) kept kept refl kept kept kept kept kept) kept kept kept
     where
-      Goal : Symbol → Type 0
-      Goal s = utf8·from zero low high (text·step Mode.String s b (tail (next Mode.String s) r)) ≡ true
+      P : Symbol → Type 0
+      P s = utf8·from zero low high (added Mode.String s) ≡ true
 
-      kept : Goal Symbol.Other
-      kept = with-string zero low high le he h
+      kept : utf8·from zero low high (b ∷ tail Mode.String r) ≡ true
+      kept = with-text zero low high h Mode.String (k .string)
 
-      go : utf8·from zero 128 191 r ≡ true → (s : Symbol) → Goal s
-      go rest Symbol.Newline = k .string zero 128 191 (lit≤ tt) (lit≤ tt) rest
-      go rest Symbol.Return = range-free low high (tail Mode.String r) ∙ k .string zero 128 191 (lit≤ tt) (lit≤ tt) rest
-      go rest Symbol.Blank = kept
-      go rest Symbol.Single = kept
-      go rest Symbol.Double = refl
-      go rest Symbol.Open = kept
-      go rest Symbol.Close = kept
-      go rest Symbol.Punctuation = kept
-      go rest Symbol.Other = kept
-      go rest Symbol.Part = kept
+      line : utf8·from zero 128 191 r ≡ true → utf8·from zero 128 191 (tail Mode.String r) ≡ true
+      line = k .string zero 128 191 (lit≤ tt) (lit≤ tt)
 
-      ascii : ltb b 128 ≡ true → Goal (symbol b r)
-      ascii e = go (after-ascii low high b r e h) (symbol b r)
-
-      longer : ltb b 128 ≡ false → Goal (symbol b r)
-      longer e = symbol-high-cases Goal b r (ltb-false b 128 e) kept kept kept
-
-  closing-kept : (n low high : ℕ) → 128 ≤ low → high ≤ 191 → utf8·from n low high (b ∷ r) ≡ true → utf8·from 0 128 191 (tail Mode.Closing (b ∷ r)) ≡ true
-  unfolding tail next after·word after·between after·comment up text·step quoted·byte pick rank newline? return? single? double? open? close? other? part? utf8·from
+  closing-kept : Begins Mode.Closing (b ∷ r)
+  unfolding tail next after·between text·step pick rank single? double? open? other? utf8·from
   closing-kept (suc n) low high le he h = rw (later-byte n low high b r le he h)
-  closing-kept zero low high le he h = go (symbol b r)
+  closing-kept zero low high le he h =
+      each-symbol (λ s. utf8·from zero 128 191 (added Mode.Closing s) ≡ true) refl refl refl (with-text zero low high h Mode.Quoted (k .quoted)) refl refl refl refl refl refl (symbol b r)
+
+  comment-kept : (d : ℕ) → Begins (Mode.WordComment d) (b ∷ r)
+  unfolding tail next after·comment up text·step pick rank open? close?
+  comment-kept d (suc n) low high le he h = rw (later-byte n low high b r le he h) (in-comment (suc n) low high h d)
+  comment-kept d zero low high le he h =
+      ascii-or-longer P low high h (λ rest. each-symbol P same same same same same (in-comment zero low high h (suc d)) (closes d rest) same same same) same same same
     where
-      go : (s : Symbol) → utf8·from zero 128 191 (text·step Mode.Closing s b (tail (next Mode.Closing s) r)) ≡ true
-      go Symbol.Newline = refl
-      go Symbol.Return = refl
-      go Symbol.Blank = refl
-      go Symbol.Single = with-quoted zero low high le he h
-      go Symbol.Double = refl
-      go Symbol.Open = refl
-      go Symbol.Close = refl
-      go Symbol.Punctuation = refl
-      go Symbol.Other = refl
-      go Symbol.Part = refl
+      P : Symbol → Type 0
+      P s = utf8·from zero 128 191 (added (Mode.WordComment d) s) ≡ true
 
-  comment-kept : (d n low high : ℕ) → 128 ≤ low → high ≤ 191 → utf8·from n low high (b ∷ r) ≡ true → utf8·from 0 128 191 (tail (Mode.WordComment d) (b ∷ r)) ≡ true
-  unfolding tail next after·word after·between after·comment up text·step quoted·byte pick rank newline? return? single? double? open? close? other? part? utf8·from
-  comment-kept d (suc n) low high le he h = rw (later-byte n low high b r le he h) (in-comment (suc n) low high le he h d)
-  comment-kept d zero low high le he h = by-test (ltb b 128) ascii longer
-    where
-      Goal : Symbol → Type 0
-      Goal s = utf8·from zero 128 191 (text·step (Mode.WordComment d) s b (tail (next (Mode.WordComment d) s) r)) ≡ true
+      same : utf8·from zero 128 191 (tail (Mode.WordComment d) r) ≡ true
+      same = in-comment zero low high h d
 
-      same : Goal Symbol.Other
-      same = in-comment zero low high le he h d
-
-      close : (e : ℕ) → utf8·from zero 128 191 r ≡ true → utf8·from zero 128 191 (tail (up Mode.Word Mode.WordComment e) r) ≡ true
-      close zero rest = k .word zero 128 191 (lit≤ tt) (lit≤ tt) rest
-      close (suc e) rest = k .comment e zero 128 191 (lit≤ tt) (lit≤ tt) rest
-
-      go : utf8·from zero 128 191 r ≡ true → (s : Symbol) → Goal s
-      go rest Symbol.Newline = same
-      go rest Symbol.Return = same
-      go rest Symbol.Blank = same
-      go rest Symbol.Single = same
-      go rest Symbol.Double = same
-      go rest Symbol.Open = in-comment zero low high le he h (suc d)
-      go rest Symbol.Close = close d rest
-      go rest Symbol.Punctuation = same
-      go rest Symbol.Other = same
-      go rest Symbol.Part = same
-
-      ascii : ltb b 128 ≡ true → Goal (symbol b r)
-      ascii e = go (after-ascii low high b r e h) (symbol b r)
-
-      longer : ltb b 128 ≡ false → Goal (symbol b r)
-      longer e = symbol-high-cases Goal b r (ltb-false b 128 e) same same same
+      closes : (e : ℕ) → utf8·from zero 128 191 r ≡ true → utf8·from zero 128 191 (tail (up Mode.Word Mode.WordComment e) r) ≡ true
+      closes zero rest = k .word zero 128 191 (lit≤ tt) (lit≤ tt) rest
+      closes (suc e) rest = k .comment e zero 128 191 (lit≤ tt) (lit≤ tt) rest
 
 pub kept : (r : List ℕ) → Kept r
 unfolding tail utf8·from

@@ -1,9 +1,11 @@
 -- The texts of a text's tokens are together no longer than the text. Assumes nothing.
 use Prim.Native.Nat.{ℕ, suc, _+_, _≤_}
 use Rattle.lexer.proofs.Basics.{by-test}
+use Rattle.lexer.proofs.MarkLaws.{unmarked-length}
+use Rattle.lexer.proofs.SymbolLaws.{each-symbol}
 use Rattle.lexer.specs.Base.{pick}
 use Rattle.lexer.specs.Classes.{symbol, rank, newline?, return?, blank?, single?, double?, open?, close?, other?, part?}
-use Rattle.lexer.specs.Tokens.{Token, tail, text·step, next, after·between, after·word, token, text·of, tokens·from, begins, begins·between, unclosed, tokens, marked, unmarked}
+use Rattle.lexer.specs.Tokens.{Token, tail, text·step, next, after·between, after·word, token, text·of, tokens·from, begins, begins·between, unclosed, tokens, unmarked}
 use Rattle.lexer.specs.declared.Mode.{Mode}
 use Rattle.lexer.specs.declared.Symbol.{Symbol}
 use lib.ListN.{length}
@@ -20,16 +22,9 @@ module _ (b : ℕ) (r : List ℕ) where
   -- a token's text is at most its first byte and what the mode behind it adds
   begun-small : (s : Symbol) → length (text·of s b r) ≤ suc (length (tail (after·between s) r))
   unfolding text·of after·between pick rank newline? return? blank? single? double? open? close? other? part?
-  begun-small Symbol.Newline = omega arith
-  begun-small Symbol.Return = omega arith
-  begun-small Symbol.Blank = omega arith
-  begun-small Symbol.Single = omega arith
-  begun-small Symbol.Double = omega arith
-  begun-small Symbol.Open = omega arith
-  begun-small Symbol.Close = omega arith
-  begun-small Symbol.Punctuation = omega arith
-  begun-small Symbol.Other = omega arith
-  begun-small Symbol.Part = omega arith
+  begun-small =
+      each-symbol (λ s. length (text·of s b r) ≤ suc (length (tail (after·between s) r)))
+      (omega arith) (omega arith) (omega arith) (omega arith) (omega arith) (omega arith) (omega arith) (omega arith) (omega arith) (omega arith)
 
   -- what a byte adds to the texts of tokens: to that of the open token and to that of a token that begins with it
   abbrev Adds : Mode → Symbol → Type 0
@@ -42,29 +37,11 @@ module _ (b : ℕ) (r : List ℕ) where
 
   word-adds : (s : Symbol) → Adds Mode.Word s
   unfolding begins begins·between text·step next after·word after·between text·of pick rank newline? return? blank? single? double? open? close? other? part?
-  word-adds Symbol.Newline = omega arith
-  word-adds Symbol.Return = omega arith
-  word-adds Symbol.Blank = omega arith
-  word-adds Symbol.Single = omega arith
-  word-adds Symbol.Double = omega arith
-  word-adds Symbol.Open = omega arith
-  word-adds Symbol.Close = omega arith
-  word-adds Symbol.Punctuation = omega arith
-  word-adds Symbol.Other = omega arith
-  word-adds Symbol.Part = omega arith
+  word-adds = each-symbol (Adds Mode.Word) (omega arith) (omega arith) (omega arith) (omega arith) (omega arith) (omega arith) (omega arith) (omega arith) (omega arith) (omega arith)
 
   closing-adds : (s : Symbol) → Adds Mode.Closing s
   unfolding begins begins·between text·step next after·between text·of pick rank newline? return? blank? single? double? open? close? other? part?
-  closing-adds Symbol.Newline = omega arith
-  closing-adds Symbol.Return = omega arith
-  closing-adds Symbol.Blank = omega arith
-  closing-adds Symbol.Single = omega arith
-  closing-adds Symbol.Double = omega arith
-  closing-adds Symbol.Open = omega arith
-  closing-adds Symbol.Close = omega arith
-  closing-adds Symbol.Punctuation = omega arith
-  closing-adds Symbol.Other = omega arith
-  closing-adds Symbol.Part = omega arith
+  closing-adds = each-symbol (Adds Mode.Closing) (omega arith) (omega arith) (omega arith) (omega arith) (omega arith) (omega arith) (omega arith) (omega arith) (omega arith) (omega arith)
 
   adds : (m : Mode) (s : Symbol) → Adds m s
   unfolding begins text·step next pick
@@ -96,13 +73,6 @@ from-small (b ∷ r) m =
     let a = adds b r m s in
     by-test (begins m s) (λ e. rw e (let h = rw e at a in omega arith)) (λ e. rw e (let h = rw e at a in omega arith))
 
-unmarked-small : (text : List ℕ) → length (unmarked text) ≤ length text
-unfolding unmarked pick
-unmarked-small [] = omega arith
-unmarked-small (a ∷ []) = omega arith
-unmarked-small (a ∷ b ∷ []) = omega arith
-unmarked-small (a ∷ b ∷ c ∷ r) = by-test (marked (a ∷ b ∷ c ∷ r)) (λ e. rw e (omega arith)) (λ e. rw e (omega arith))
-
 pub tokens-small : (text : List ℕ) → size (tokens text) ≤ length text
 unfolding tokens
-tokens-small text = let u = unmarked-small text in let k = from-small (unmarked text) Mode.Between in omega arith
+tokens-small text = let k = from-small (unmarked text) Mode.Between in omega (arith, unmarked-length text)

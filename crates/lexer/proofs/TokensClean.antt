@@ -91,7 +91,8 @@ unclosed-clean (Mode.Comment d) = refl
 unclosed-clean (Mode.WordComment d) = refl
 
 -- Inside a character no token begins; at its front the token is clean.
-begun-clean : (m : Mode) (n low high b : ℕ) (r : List ℕ) → 128 ≤ low → high ≤ 191 → utf8·from n low high (b ∷ r) ≡ true → begins m (symbol b r) ≡ true → clean-text (token b r .text) ≡ true
+begun-clean : (m : Mode) (n low high b : ℕ) (r : List ℕ) → 128 ≤ low → high ≤ 191 → utf8·from n low high (b ∷ r) ≡ true → begins m (symbol b r) ≡ true
+    → clean-text (token b r .text) ≡ true
 unfolding token Clean
 begun-clean m zero low high b r le he h e =
     token-clean b r (sym (range-free low high (b ∷ r)) ∙ h) (begins-between m (symbol b r) e)

@@ -67,7 +67,9 @@ module _ (text : List ℕ) (more low high i : ℕ) (k : Checking text more low h
     present : utf8·from more low high (getD text i 0 ∷ drop (i + 1) text) ≡ utf8 text
     present = rw add-one (rw (drop-cons text i 0 lt) at (k .rest))
 
-    pub checking-turn : (more' low' high' : ℕ) → utf8·from more low high (getD text i 0 ∷ drop (i + 1) text) ≡ utf8·from more' low' high' (drop (i + 1) text) → Checking text more' low' high' (i + 1)
+    pub checking-turn : (more' low' high' : ℕ)
+        → utf8·from more low high (getD text i 0 ∷ drop (i + 1) text) ≡ utf8·from more' low' high' (drop (i + 1) text)
+        → Checking text more' low' high' (i + 1)
     checking-turn more' low' high' e = record { below = omega arith; rest = sym e ∙ present }
 
     pub checking-refused : utf8·from more low high (getD text i 0 ∷ drop (i + 1) text) ≡ false → false ≡ utf8 text

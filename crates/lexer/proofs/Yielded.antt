@@ -9,9 +9,23 @@ use denote.Enum.Declared.{tagOf}
 use lib.ListN.{drop}
 use mathlib.Core.List.{List, [], _∷_}
 use mathlib.Core.Logic.{inl, inr}
-use mathlib.Core.Path.{_≡_, refl, subst}
+use mathlib.Core.Path.{_≡_, refl, sym}
 use native.Mathlib.Omega.{arith}
 use types.Run.{OneOf}
+
+-- The two cases of an item
+never : {X : Type 0} (b : ℕ) (d : Cursor) → Item.Byte b d ≡ Item.End → X
+never b d e = let z : _≡_ {A = ℕ} 0 1 = cc in absurd (omega arith)
+
+pub yields-byte : {text : List ℕ} {c : Cursor} {b : ℕ} {d : Cursor} → Yields·byte text c b d → Yields text c (Item.Byte b d)
+yields-byte {text} {c} {b} {d} y =
+    record {
+      byte = λ b' d' e. let p : b ≡ b' = cc in let q : d ≡ d' = cc in rw (← p, ← q) y;
+      end = λ e. never b d e;
+    }
+
+pub yields-end : {text : List ℕ} {c : Cursor} → left text c ≡ [] → Yields text c Item.End
+yields-end {text} {c} h = record { byte = λ b d e. never b d (sym e); end = λ _. h }
 
 -- What is said of a cursor with this mode is said of the cursor that has it.
 pub yields-mode : (text : List ℕ) (c : Cursor) (m : Mode) (r : Item) → c .mode ≡ m → Yields text (record { at = c .at; mode = m }) r → Yields text c r
@@ -33,14 +47,6 @@ rest-over Mode.String ok o r = let n = others 4 o in absurd (n .0 refl)
 rest-over (Mode.Comment d) ok o r = refl
 rest-over (Mode.WordComment d) ok o r = absurd ok
 
-pub yields-over : (text : List ℕ) (c : Cursor) → Readable (c .mode) → OneOf (3 ∷ 5 ∷ 6 ∷ []) (tagOf modes.the-type (c .mode)) → left text c ≡ []
+pub yields-over : (text : List ℕ) (c : Cursor) → Readable (c .mode) → OneOf (3 ∷ 5 ∷ 6 ∷ []) (tagOf modes.the-type (c .mode)) → Yields text c Item.End
 unfolding left
-yields-over text c ok o = rest-over (c .mode) ok o (drop (c .at) text)
-
--- The two cases of an item
-module _ (text : List ℕ) (c : Cursor) (r : Item) (y : Yields text c r) where
-  pub yielded-byte : (b : ℕ) (d : Cursor) → r ≡ Item.Byte b d → Yields·byte text c b d
-  yielded-byte b d e = subst (λ r. Yields text c r) e y
-
-  pub yielded-end : r ≡ Item.End → left text c ≡ []
-  yielded-end e = subst (λ r. Yields text c r) e y
+yields-over text c ok o = yields-end (rest-over (c .mode) ok o (drop (c .at) text))

@@ -33,19 +33,21 @@ Readable Mode.String = Unit {0}
 Readable (Mode.Comment d) = Unit {0}
 Readable (Mode.WordComment d) = ⊥
 
+-- What is left of a token's text behind a cursor.
 unfoldable pub left : List ℕ → Cursor → List ℕ
 left text c = rest·of (c .mode) (drop (c .at) text)
 
--- The next byte of a token's text and the cursor behind it, or its end.
+-- The next byte of a token's text and the cursor behind it.
 pub record Yields·byte (text : List ℕ) (c : Cursor) (b : ℕ) (d : Cursor) : Type 0 where
   pub here : left text c ≡ b ∷ left text d
   pub ahead : c .at < d .at
   pub within : d .at ≤ length text
   pub readable : Readable (d .mode)
 
-abbrev pub Yields : List ℕ → Cursor → Item → Type 0
-Yields text c (Item.Byte b d) = Yields·byte text c b d
-Yields text c Item.End = left text c ≡ []
+-- What an item says of what is left: a byte is the next, and at the end nothing is left.
+pub record Yields (text : List ℕ) (c : Cursor) (r : Item) : Type 0 where
+  pub byte : (b : ℕ) (d : Cursor) → r ≡ Item.Byte b d → Yields·byte text c b d
+  pub end : r ≡ Item.End → left text c ≡ []
 
 -- In quoted text a byte other than its quote is one of the text.
 abbrev pub Plain : Mode → ℕ → Type 0

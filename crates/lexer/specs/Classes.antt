@@ -37,6 +37,7 @@ next1 a (x ∷ r) = eqb x a
 unfoldable pub general : ℕ → Bool
 general b = (leb 128 b && leb b 138) || eqb b 168 || eqb b 169 || eqb b 175
 
+-- Do these bytes, behind the byte 226, go on with one of those blanks or with U+205F?
 unfoldable pub general·blank : List ℕ → Bool
 general·blank [] = false
 general·blank (x ∷ []) = false
@@ -62,6 +63,7 @@ symbol·of Class.Punctuation b r = pick (eqb b (byte "]")) Symbol.Close Symbol.P
 symbol·of Class.Other b r = Symbol.Other
 symbol·of Class.Part b r = pick (ltb b 192) Symbol.Part (pick (wide·blank b r) Symbol.Blank Symbol.Other)
 
+-- The symbol of a byte before these bytes.
 unfoldable pub symbol : ℕ → List ℕ → Symbol
 symbol b r = symbol·of (class b) b r
 

@@ -43,5 +43,6 @@ first·token (b ∷ r) = token b r
 unfoldable pub token·at : List ℕ → ℕ → Token
 token·at text start = first·token (drop start text)
 
+-- The same with an index, for the tests of specs/Words.antt, which do not look at it.
 unfoldable pub word·at : List ℕ → ℕ → Numbered
 word·at text start = record { index = 0; token = token·at text start }

@@ -16,6 +16,7 @@ move p s =
     (pick (return? s || part? s) p
     (record { line = p .line; column = suc (p .column) }))
 
+-- The place after so many bytes of a rest that begins at this place.
 unfoldable pub place·from : Place → ℕ → List ℕ → Place
 place·from p zero text = p
 place·from p (suc n) [] = p
@@ -38,6 +39,7 @@ starts·from m i (b ∷ r) =
     let this = i ∷ more in
     pick (begins m s) this more
 
+-- Where a text begins, behind a byte order mark.
 unfoldable pub first·byte : List ℕ → ℕ
 first·byte text = pick (marked text) 3 0
 
@@ -49,6 +51,7 @@ starts text = starts·from Mode.Between (first·byte text) (unmarked text)
 unfoldable pub opens·between : Symbol → Bool
 opens·between s = single? s || double? s || open? s
 
+-- Does one begin there in this mode? None begins in quotes or in a comment, and a doubled quote begins none.
 unfoldable pub opens : Mode → Symbol → Bool
 opens Mode.Between s = opens·between s
 opens Mode.Word s = opens·between s
@@ -65,5 +68,6 @@ opened·from m since i (b ∷ r) =
     let s = symbol b r in
     opened·from (next m s) (pick (opens m s) i since) (suc i) r
 
+-- Where what a text leaves open begins.
 unfoldable pub opened : List ℕ → ℕ
 opened text = opened·from Mode.Between 0 (first·byte text) (unmarked text)

@@ -93,19 +93,22 @@ word·end (suc d) mark i (b ∷ r) =
     let outer = word·end d mark (suc i) r in
     pick (eqb b (byte "[")) deeper (pick (eqb b (byte "]")) outer same)
 
--- What stands at a byte between two tokens, by where the thing that begins there ends.
+-- What stands at a byte between two tokens, by where it ends: a comment is passed over,
 unfoldable pub skipped : Scan → Step
 skipped (Scan.At j) = Step.Skip j
 skipped (Scan.Open mark) = Step.Comment mark
 
+-- a quoted text is a token,
 unfoldable pub quoted : Scan → Step
 quoted (Scan.At j) = Step.Token j
 quoted (Scan.Open mark) = Step.Quote mark
 
+-- and so is a word, in which a comment may stay open.
 unfoldable pub worded : Scan → Step
 worded (Scan.At j) = Step.Token j
 worded (Scan.Open mark) = Step.Comment mark
 
+-- What stands at the byte `i`, which has this symbol, before the rest.
 unfoldable pub step·of : Symbol → ℕ → List ℕ → Step
 step·of Symbol.Newline i r = Step.Token (suc i)
 step·of Symbol.Return i r = Step.Skip (suc i)
@@ -118,7 +121,7 @@ step·of Symbol.Punctuation i r = Step.Token (suc i)
 step·of Symbol.Other i r = worded (word·end 0 0 (suc i) r)
 step·of Symbol.Part i r = Step.Skip (suc i)
 
--- `i` is where the rest stands.
+-- What stands at the front of the rest, between two tokens. `i` is where the rest stands.
 unfoldable pub token·step : ℕ → List ℕ → Step
 token·step i [] = Step.Skip i
 token·step i (b ∷ r) = step·of (symbol b r) i r

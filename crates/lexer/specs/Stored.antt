@@ -19,11 +19,12 @@ pub record Open (text : List ℕ) (n : Refusal) (mark : ℕ) : Type 0 where
   pub what : left·open (tokens text) ≡ some n
   pub at : opened text ≡ mark
 
--- A walk over a text to its end: what is stored, with nothing open; or what stays open.
+-- The text leaves nothing open, and the starts of its tokens are stored.
 pub record Closed (text work : List ℕ) (n : ℕ) : Type 0 where
   pub closed : left·open (tokens text) ≡ none
   pub stored : Stored text work n
 
+-- What a walk over a text to its end comes to.
 abbrev pub Walked : List ℕ → List ℕ → Walk → Type 0
 Walked text work (Walk.Done n) = Closed text work n
 Walked text work (Walk.Quote mark) = Open text Refusal.OpenQuote mark

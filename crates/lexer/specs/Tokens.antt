@@ -12,11 +12,12 @@ use Rattle.lexer.specs.declared.Mode.{Mode}
 use Rattle.lexer.specs.declared.Symbol.{Symbol}
 use Rattle.lexer.specs.declared.refusal.Refusal.{Refusal}
 
+-- A token: its kind, and its text without quotes and comments.
 pub record Token : Type 0 where
   pub kind : Kind
   pub text : List ℕ
 
--- The mode after a byte. A quote ends a word; a quote in single-quoted text closes it unless another follows at once.
+-- The mode after a byte between two tokens.
 unfoldable pub after·between : Symbol → Mode
 after·between s =
     pick (single? s) Mode.Quoted
@@ -25,6 +26,7 @@ after·between s =
     (pick (other? s) Mode.Word
     Mode.Between)))
 
+-- After a byte in a word: a comment and the later bytes of a character go on with the word, and a quote ends it.
 unfoldable pub after·word : Symbol → Mode
 after·word s = pick (open? s) (Mode.WordComment 0) (pick (part? s) Mode.Word (after·between s))
 
@@ -33,9 +35,11 @@ unfoldable pub up : Mode → (ℕ → Mode) → ℕ → Mode
 up before inside zero = before
 up before inside (suc d) = inside d
 
+-- After a byte in a comment.
 unfoldable pub after·comment : Mode → (ℕ → Mode) → ℕ → Symbol → Mode
 after·comment before inside d s = pick (open? s) (inside (suc d)) (pick (close? s) (up before inside d) (inside d))
 
+-- The mode after a byte with this symbol. A quote in single-quoted text closes it unless another follows at once.
 unfoldable pub next : Mode → Symbol → Mode
 next Mode.Between s = after·between s
 next Mode.Word s = after·word s
@@ -79,6 +83,7 @@ tail m (b ∷ r) =
 unfoldable pub begins·between : Symbol → Bool
 begins·between s = not (return? s || blank? s || open? s || part? s)
 
+-- Does one begin there in this mode? None begins in quotes or in a comment, and a byte of a word begins no other.
 unfoldable pub begins : Mode → Symbol → Bool
 begins Mode.Between s = begins·between s
 begins Mode.Word s = begins·between s && not (other? s)
@@ -88,7 +93,7 @@ begins Mode.String s = false
 begins (Mode.Comment d) s = false
 begins (Mode.WordComment d) s = false
 
--- The kind and the text of the token that begins at a byte.
+-- The kind of the token that begins at a byte with this symbol.
 unfoldable pub kind·of : Symbol → ℕ → Kind
 kind·of s b =
     pick (newline? s) Kind.Newline
@@ -97,6 +102,7 @@ kind·of s b =
     (pick (other? s) Kind.Word
     (Kind.Punctuation b))))
 
+-- Its text, where the rest stands behind the byte.
 unfoldable pub text·of : Symbol → ℕ → List ℕ → List ℕ
 text·of s b r =
     let quoted = tail Mode.Quoted r in
@@ -108,6 +114,7 @@ text·of s b r =
     (pick (other? s) word
     (b ∷ []))))
 
+-- The token that begins at a byte, where the rest stands behind it.
 unfoldable pub token : ℕ → List ℕ → Token
 token b r = let s = symbol b r in record { kind = kind·of s b; text = text·of s b r }
 
@@ -137,6 +144,7 @@ marked (a ∷ []) = false
 marked (a ∷ b ∷ []) = false
 marked (a ∷ b ∷ c ∷ r) = eqb a 239 && eqb b 187 && eqb c 191
 
+-- The text without that mark.
 unfoldable pub unmarked : List ℕ → List ℕ
 unmarked [] = []
 unmarked (a ∷ []) = a ∷ []
@@ -147,7 +155,7 @@ unmarked (a ∷ b ∷ c ∷ r) = let all = a ∷ b ∷ c ∷ r in pick (marked a
 unfoldable pub tokens : List ℕ → List Token
 tokens text = tokens·from Mode.Between (unmarked text)
 
--- The refusal of a text that leaves a quote or a comment open: 4 or 5.
+-- 4 or 5 where a token of this kind is what the end of the text leaves open, else what the later tokens say.
 unfoldable pub open·kind : Kind → Option Refusal → Option Refusal
 open·kind Kind.Word more = more
 open·kind Kind.Quoted more = more
@@ -157,6 +165,7 @@ open·kind Kind.Newline more = more
 open·kind Kind.OpenQuote more = some Refusal.OpenQuote
 open·kind Kind.OpenComment more = some Refusal.OpenComment
 
+-- The refusal of a text that leaves a quote or a comment open: 4 or 5.
 unfoldable pub left·open : List Token → Option Refusal
 left·open [] = none
 left·open (t ∷ r) = let more = left·open r in open·kind (t .kind) more

@@ -11,6 +11,7 @@ pub record Follows : Type 0 where
   pub low : ℕ
   pub high : ℕ
 
+-- So many bytes more, the next of them from low to high.
 unfoldable pub follow : ℕ → ℕ → ℕ → Follows
 follow n l h = record { more = n; low = l; high = h }
 

@@ -14,11 +14,12 @@ pub record Numbered : Type 0 where
   pub index : ℕ
   pub token : Token
 
+-- Tokens with their indices, of which the first is this one.
 unfoldable pub numbered : ℕ → List Token → List Numbered
 numbered i [] = []
 numbered i (t ∷ ts) = let more = numbered (suc i) ts in record { index = i; token = t } ∷ more
 
--- Kinds
+-- Which kind is it?
 unfoldable pub word? : Kind → Bool
 word? Kind.Word = true
 word? Kind.Quoted = false
@@ -55,6 +56,7 @@ line·end? Kind.Newline = true
 line·end? Kind.OpenQuote = false
 line·end? Kind.OpenComment = false
 
+-- Is it this punctuation mark?
 unfoldable pub mark? : ℕ → Kind → Bool
 mark? c Kind.Word = false
 mark? c Kind.Quoted = false
@@ -95,7 +97,7 @@ digits n (b ∷ r) =
 unfoldable pub largest : ℕ
 largest = 2 ^ 64 - 1
 
--- The positive number that a text spells, as the Rust's `parse::<usize>` reads it: one `+` or none, then digits, at most 64 bits; else 0.
+-- The number that a text spells, of any size: one `+` or none, then digits; else 0.
 unfoldable pub unsigned : List ℕ → ℕ
 unsigned [] = 0
 unsigned (b ∷ r) =
@@ -103,5 +105,6 @@ unsigned (b ∷ r) =
     let rest = digits 0 r in
     pick (eqb b (byte "+")) rest all
 
+-- The positive number that a text spells, as the Rust's `parse::<usize>` reads it: that, where it has at most 64 bits; else 0.
 unfoldable pub positive : List ℕ → ℕ
 positive text = let n = unsigned text in pick (leb n largest) n 0

@@ -1,11 +1,12 @@
 // The class of each byte, and its symbol.
 
 ghost use Prim.Native.Nat.{_<_, _≤_, _+_};
-ghost use Rattle.lexer.specs.Classes.{class, symbol·of, next1, next2, general·blank, wide·blank};
+ghost use Rattle.lexer.specs.Classes.{class, symbol·of, wide·blank};
 ghost use Rattle.lexer.specs.Scanning.{class·number, symbol·at};
 ghost use Rattle.lexer.specs.declared.Class.{Class};
 ghost use lib.ListN.{length, getD, drop};
 ghost use mathlib.Core.Bool.{true};
+ghost use mathlib.Core.List.{[], _∷_};
 ghost use mathlib.Core.Path.{_≡_};
 use super::Symbol;
 
@@ -306,37 +307,25 @@ fn newline_symbol(text: &[u8], i: usize) -> Symbol
     Symbol::Newline
 }
 
-// Is the byte at i this one? Behind the end there is none.
-fn byte_is(text: &[u8], i: usize, b: u8) -> bool
-    ensures { λ r. ⌜ r ≡ next1 b (drop i (now (text .entry))) ⌝ }
+// The byte at i, or 0 behind the end.
+fn byte_or_zero(text: &[u8], i: usize) -> u8
+    ensures { λ r. ⌜ r ≡ getD (now (text .entry)) i 0 ⌝ }
 {
     if i < text.len() {
-        return text[i] == b;
+        return text[i];
     }
-    false
+    0
 }
 
-// Are the two bytes from i on these?
-fn bytes_are(text: &[u8], i: usize, a: u8, b: u8) -> bool
-    requires { ⌜ i ≤ length (now text) ⌝ }
-    ensures { λ r. ⌜ r ≡ next2 a b (drop i (now (text .entry))) ⌝ }
+// Do these three bytes begin with a character of White_Space beyond ASCII?
+pub fn wide_bytes(b: u8, x: u8, y: u8) -> bool
+    ensures { λ r. ⌜ r ≡ wide·blank b (x ∷ y ∷ []) ⌝ }
 {
-    byte_is(text, i, a) & byte_is(text, i + 1, b)
-}
-
-// Do the two bytes from i on end a blank that begins with the byte 226?
-fn general_blank(text: &[u8], i: usize) -> bool
-    requires { ⌜ i ≤ length (now text) ⌝ }
-    ensures { λ r. ⌜ r ≡ general·blank (drop i (now (text .entry))) ⌝ }
-{
-    let next = i + 1;
-    if next < text.len() {
-        let x = text[i];
-        let y = text[next];
-        let wide = ((128 <= y) & (y <= 138)) | (y == 168) | (y == 169) | (y == 175);
-        return ((x == 128) & wide) | ((x == 129) & (y == 159));
-    }
-    false
+    let latin = (b == 194) & ((x == 133) | (x == 160));
+    let ogham = (b == 225) & ((x == 154) & (y == 128));
+    let wide = ((128 <= y) & (y <= 138)) | (y == 168) | (y == 169) | (y == 175);
+    let general = (b == 226) & (((x == 128) & wide) | ((x == 129) & (y == 159)));
+    latin | ogham | general | ((b == 227) & ((x == 128) & (y == 128)))
 }
 
 // Does a character of White_Space beyond ASCII begin with this byte before those from i on?
@@ -344,10 +333,7 @@ fn wide_blank(text: &[u8], b: u8, i: usize) -> bool
     requires { ⌜ i ≤ length (now text) ⌝ }
     ensures { λ r. ⌜ r ≡ wide·blank b (drop i (now (text .entry))) ⌝ }
 {
-    let latin = (b == 194) & (byte_is(text, i, 133) | byte_is(text, i, 160));
-    let ogham = (b == 225) & bytes_are(text, i, 154, 128);
-    let general = (b == 226) & general_blank(text, i);
-    latin | ogham | general | ((b == 227) & bytes_are(text, i, 128, 128))
+    wide_bytes(b, byte_or_zero(text, i), byte_or_zero(text, i + 1))
 }
 
 // The symbol of a byte that is part of a longer character.

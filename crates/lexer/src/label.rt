@@ -3,19 +3,19 @@
 ghost use Prim.Native.Nat.{_<_, _≤_, _+_};
 ghost use Rattle.lexer.specs.Base.{pick, lower, alike, given, empty?};
 ghost use Rattle.lexer.specs.Bytes.{left, Readable};
-ghost use Rattle.lexer.specs.Classes.{symbol, wide·blank, space?, part?, blank};
+ghost use Rattle.lexer.specs.Classes.{symbol, space?, part?, blank};
 ghost use Rattle.lexer.specs.Lexing.{token·at, word·at};
 ghost use Rattle.lexer.specs.Words.{is, punct, label, spaced, digits, largest, positive};
 ghost use Rattle.lexer.specs.declared.Cursor.{Cursor};
 ghost use lib.Dec.{eqb, leb};
 ghost use lib.ListN.{length, getD};
 ghost use mathlib.Core.Bool.{_||_};
-ghost use mathlib.Core.List.{[], _∷_};
 ghost use mathlib.Core.Path.{_≡_};
 use super::Cursor;
 use super::Item;
 use super::Kind;
 use super::classes::class_number;
+use super::classes::wide_bytes;
 use super::token::kind_at;
 use super::token::next_byte;
 use super::token::text_start;
@@ -108,17 +108,6 @@ fn second_ahead(text: &[u8], c: Cursor) -> u8
         Item::Byte(_, d) => byte_ahead(text, d),
         Item::End => 0,
     }
-}
-
-// Do these three bytes begin with a character of White_Space beyond ASCII?
-fn wide_bytes(b: u8, x: u8, y: u8) -> bool
-    ensures { λ r. ⌜ r ≡ wide·blank b (x ∷ y ∷ []) ⌝ }
-{
-    let latin = (b == 194) & ((x == 133) | (x == 160));
-    let ogham = (b == 225) & ((x == 154) & (y == 128));
-    let wide = ((128 <= y) & (y <= 138)) | (y == 168) | (y == 169) | (y == 175);
-    let general = (b == 226) & (((x == 128) & wide) | ((x == 129) & (y == 159)));
-    latin | ogham | general | ((b == 227) & ((x == 128) & (y == 128)))
 }
 
 // Is a byte before what is left of the text one of a blank?

@@ -1,4 +1,4 @@
-// What the token that begins at a byte can be taken for. A token is known by its start alone.
+// The kind and the text of the token that begins at a byte. A token is known by its start alone.
 
 ghost use Prim.Native.Nat.{_<_, _≤_, _+_};
 ghost use Rattle.lexer.specs.Bytes.{left, Plain, Readable, Yields};

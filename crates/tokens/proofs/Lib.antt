@@ -1,2 +1,1 @@
 pub mod FramedTexts
-pub mod StoredStarts

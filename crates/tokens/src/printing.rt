@@ -95,9 +95,7 @@ fn put_refusal(number: u32, p: Place, out: &mut [u8], n: usize) -> usize {
 }
 
 // The tokens of a text, or its refusal.
-pub fn print_text(text: &[u8], work: &mut [u32], out: &mut [u8], n: usize) -> usize
-    requires { ⌜ length (now text) ≤ 1048576 ⌝ }
-{
+pub fn print_text(text: &[u8], work: &mut [u32], out: &mut [u8], n: usize) -> usize {
     match lex(text, work) {
         Lexed::Tokens(count) => put_tokens(text, work, count, out, n),
         Lexed::Refused(why, at) => put_refusal(refusal_number(why), at, out, n),

@@ -1,7 +1,7 @@
 //! The proved lexer's answers on generated texts are the oracle's, and it writes nowhere but in
 //! its work memory.
 
-use lexing::{LINKED, Lexed, NOT_LINKED, lex, oracle_lex, work_needed};
+use lexing::{Lexed, lex, oracle_lex, work_needed};
 
 const TEXTS: u64 = 100_000;
 const SEED: u64 = 27;
@@ -21,11 +21,8 @@ fn lex_between(text: &[u8], room: usize) -> Lexed {
 }
 
 #[test]
+#[cfg_attr(not(archive), ignore = "no archive; tools/test-lexer makes it")]
 fn generated_texts() {
-    if !LINKED {
-        println!("{NOT_LINKED}");
-        return;
-    }
     let mut refused = 0;
     for number in 0..TEXTS {
         let text = oracle::generate::text(SEED, number);
@@ -38,11 +35,8 @@ fn generated_texts() {
 }
 
 #[test]
+#[cfg_attr(not(archive), ignore = "no archive; tools/test-lexer makes it")]
 fn short_work_memory() {
-    if !LINKED {
-        println!("{NOT_LINKED}");
-        return;
-    }
     for number in 0..1_000 {
         let text = oracle::generate::text(SEED, number);
         let needed = work_needed(&text);
@@ -53,11 +47,8 @@ fn short_work_memory() {
 }
 
 #[test]
+#[cfg_attr(not(archive), ignore = "no archive; tools/test-lexer makes it")]
 fn lengths_and_ends() {
-    if !LINKED {
-        println!("{NOT_LINKED}");
-        return;
-    }
     let limit = oracle::answer::TEXT_LIMIT;
     let long = |length: usize| vec![b'\n'; length];
     for text in [
@@ -79,11 +70,8 @@ fn lengths_and_ends() {
 /// Every text of up to three bytes from a list that has each class, each quote and bracket, the
 /// two newlines, a byte order mark's bytes, and the ends of the ranges of UTF-8.
 #[test]
+#[cfg_attr(not(archive), ignore = "no archive; tools/test-lexer makes it")]
 fn all_short_texts() {
-    if !LINKED {
-        println!("{NOT_LINKED}");
-        return;
-    }
     let bytes = b"a'\"[] \n\r;+\x0b\x0c\x1c\x1f\xc2\x85\xa0\xe1\x9a\x80\xe2\xaf\xe3\xef\xbb\xbf\xed\x9f\xf0\x90\xf4\x8f\xc1\xf5\xff";
     let mut texts: Vec<Vec<u8>> = vec![Vec::new()];
     let mut from = 0;

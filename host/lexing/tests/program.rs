@@ -14,15 +14,8 @@ const SEED: u64 = 28;
 /// The longest text that the program takes.
 const LONGEST: usize = 4_096;
 
-fn program() -> Option<PathBuf> {
-    let program = Path::new(env!("CARGO_MANIFEST_DIR")).join("../../target/bin/tokens");
-    if program.is_file() {
-        return Some(program);
-    }
-    println!(
-        "skipped: target/bin/tokens is not there; `rt check tokens` in the repository writes it"
-    );
-    None
+fn program() -> PathBuf {
+    Path::new(env!("CARGO_MANIFEST_DIR")).join("../../target/bin/tokens")
 }
 
 /// What the program writes to standard output and to standard error on a file.
@@ -60,8 +53,9 @@ fn traps() {
 }
 
 #[test]
+#[cfg_attr(not(program), ignore = "no program; tools/test-lexer makes it")]
 fn generated_texts() {
-    let Some(program) = program() else { return };
+    let program = program();
     for batch in 0..BATCHES {
         let numbers = batch * TEXTS..(batch + 1) * TEXTS;
         let texts: Vec<_> = numbers
@@ -75,8 +69,9 @@ fn generated_texts() {
 }
 
 #[test]
+#[cfg_attr(not(program), ignore = "no program; tools/test-lexer makes it")]
 fn ends_of_the_file() {
-    let Some(program) = program() else { return };
+    let program = program();
     let text = |byte: u8, length: usize| vec![byte; length];
     let fine = [text(b'a', LONGEST), Vec::new(), text(b';', LONGEST)];
     assert_eq!(run(&program, "none", &[]), (Vec::new(), Vec::new()));

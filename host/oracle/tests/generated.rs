@@ -4,7 +4,7 @@ mod common;
 
 use std::collections::HashMap;
 
-use common::refused;
+use common::{fnv, refused};
 use oracle::answer::{Answer, ENOUGH, lookup, read, tokens, write};
 use oracle::generate;
 use oracle::messages::TABLE;
@@ -78,12 +78,7 @@ fn a_question_depends_on_its_seed_and_number_alone() {
         assert_ne!(generate::text(3, number), generate::text(4, number));
     }
     // The generator is the same on every machine.
-    let sum = (0..1_000).fold(0xcbf2_9ce4_8422_2325_u64, |sum, number| {
-        let text = generate::text(1, number);
-        text.iter().fold(sum, |sum, &byte| {
-            (sum ^ u64::from(byte)).wrapping_mul(0x100_0000_01b3)
-        })
-    });
+    let sum = fnv((0..1_000).flat_map(|number| generate::text(1, number)));
     assert_eq!(sum, 4174925511388453257, "the generated texts have changed");
 }
 

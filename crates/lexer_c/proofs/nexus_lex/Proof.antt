@@ -1,4 +1,4 @@
--- The function `nexus_lex` meets its contract: each answer of `lex` as one number. Assumes nothing.
+-- The function `nexus_lex` meets its contract: each answer of `lex` as one number, with what it stores. Assumes nothing.
 use Rattle.lexer_c.proofs.nexus_lex.Statement.{statement}
 use Rattle.lexer_c.proofs.nexus_lex.Tie as tie
 use Rattle.lexer_c.specs.Code.{lex·code}
@@ -31,7 +31,7 @@ returns : tie.Need-returns
 unfolding lex·code
 returns c =
     let w = c .before .before .before .before .before in
-    ap lex·code (sym (c .before .n .given .1) ∙ w .lex .ensures .0)
+    (ap lex·code (sym (c .before .n .given .1) ∙ w .lex .ensures .0), λ n h. w .lex .ensures .1 n (w .lex .ensures .0 ∙ h))
 
 same-length-2 : tie.Need-same-length-2
 same-length-2 c = search needs
@@ -40,7 +40,8 @@ returns-2 : tie.Need-returns-2
 unfolding lex·code
 returns-2 c =
     let w = c .before .before .before .before .before .before in
-    ap (λ (n : ℕ). 4294967296 + n) (c .refusal-number .ensures) ∙ ap lex·code (sym (c .before .before .why .given .1) ∙ w .lex .ensures .0)
+    let code = ap (λ (n : ℕ). 4294967296 + n) (c .refusal-number .ensures) ∙ ap lex·code (sym (c .before .before .why .given .1) ∙ w .lex .ensures .0) in
+    (code, λ n h. w .lex .ensures .1 n (w .lex .ensures .0 ∙ h))
 
 pub nexus-lex-spec : {M : Type 1} → statement M
 nexus-lex-spec =

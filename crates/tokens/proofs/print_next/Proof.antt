@@ -1,5 +1,5 @@
--- The function print_next meets its contract: a text that was read lies within the space, and is short. Assumes nothing.
-use Rattle.tokens.proofs.FramedTexts.{framed-text, taken-short}
+-- The function print_next meets its contract: a text that was read lies within the space. Assumes nothing.
+use Rattle.tokens.proofs.FramedTexts.{framed-text}
 use Rattle.tokens.proofs.print_next.Statement.{statement}
 use Rattle.tokens.proofs.print_next.Tie as tie
 use borrow.Author.Needs.{needs}
@@ -18,17 +18,15 @@ put-all-requires c κs = search needs
 slice-reshare-prefix-print-text : tie.Need-slice-reshare-prefix-print-text
 slice-reshare-prefix-print-text c =
     let k = c .before .before .before .before .before in
-    framed-text _ _ _ (k .before .before .before .before .read-frame .ensures) (k .k .given .1) .within
+    framed-text _ _ _ (k .before .before .before .before .read-frame .ensures) (k .k .given .1)
 
 slice-aggregate-print-text : tie.Need-slice-aggregate-print-text
 slice-aggregate-print-text c =
     let k = c .before .before .before .before .before .before in
-    sym (length-take-le _ _ (framed-text _ _ _ (k .before .before .before .before .read-frame .ensures) (k .k .given .1) .within))
+    sym (length-take-le _ _ (framed-text _ _ _ (k .before .before .before .before .read-frame .ensures) (k .k .given .1)))
 
 print-text-requires : tie.Need-print-text-requires
-print-text-requires c κs =
-    let k = c .before .before .before .before .before .before .before .before in
-    taken-short _ _ (framed-text _ _ _ (k .before .before .before .before .read-frame .ensures) (k .k .given .1) .short)
+print-text-requires c κs = search needs
 
 enum-told : tie.Need-enum-told
 enum-told c = search needs

@@ -53,3 +53,65 @@ pub fn cells(ntax: usize, nchar: usize, format: &str, rows: &str) -> Vec<String>
     ));
     values(&record(&text), "cells")
 }
+
+/// A text of seven lines: `before` is line 4, MATRIX line 5 and the rows begin in line 6.
+pub fn doc(dimensions: &str, before: &str, rows: &str) -> String {
+    format!("#NEXUS\nBEGIN DATA;\nDIMENSIONS {dimensions};\n{before}\nMATRIX\n{rows};\nEND;\n")
+}
+
+/// One taxon of five characters, and an ASSUMPTIONS block whose commands are in line 9.
+pub fn typed(commands: &str) -> String {
+    let matrix = doc("NTAX=1 NCHAR=5", "", "a 01010");
+    format!("{matrix}BEGIN ASSUMPTIONS;\n{commands}\nEND;\n")
+}
+
+#[track_caller]
+pub fn expect(text: &str, refused: (u32, usize, usize)) {
+    assert_eq!(refusal(text), refused, "{text}");
+}
+
+#[track_caller]
+pub fn row(format: &str, nchar: usize, cells: &str) -> String {
+    let text = doc(
+        &format!("NTAX=1 NCHAR={nchar}"),
+        format,
+        &format!("a {cells}"),
+    );
+    values(&record(&text), "cells").concat()
+}
+
+#[track_caller]
+pub fn bad_row(format: &str, nchar: usize, cells: &str, refused: (u32, usize, usize)) {
+    let text = doc(
+        &format!("NTAX=1 NCHAR={nchar}"),
+        format,
+        &format!("a {cells}"),
+    );
+    expect(&text, refused);
+}
+
+#[track_caller]
+pub fn name(spelled: &str) -> String {
+    values(
+        &record(&doc("NTAX=1 NCHAR=1", "", &format!("{spelled} 0"))),
+        "name",
+    )
+    .concat()
+}
+
+/// The types of five characters as O and U.
+#[track_caller]
+pub fn types(commands: &str) -> String {
+    let orders = values(&record(&typed(commands)), "order");
+    orders
+        .iter()
+        .map(|order| if order == "ORD" { 'O' } else { 'U' })
+        .collect()
+}
+
+/// FNV-1a, by which a test knows bytes again.
+pub fn fnv(bytes: impl Iterator<Item = u8>) -> u64 {
+    bytes.fold(0xcbf2_9ce4_8422_2325, |sum, byte| {
+        (sum ^ u64::from(byte)).wrapping_mul(0x100_0000_01b3)
+    })
+}

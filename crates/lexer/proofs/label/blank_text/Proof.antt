@@ -2,15 +2,12 @@
 -- the text. Assumes nothing.
 use Prim.Native.Nat.{_-_}
 use Rattle.lexer.proofs.TextWalks.{Blanking, blanking-turn, blanking-over, blanking-end}
-use Rattle.lexer.proofs.Yielded.{yielded-byte, yielded-end}
 use Rattle.lexer.proofs.label.blank_text.Statement.{statement}
 use Rattle.lexer.proofs.label.blank_text.Tie as tie
-use Rattle.lexer.specs.Bytes.{left, Yields·byte}
 use borrow.Author.Needs.{needs}
 use borrow.Author.Tests.{not-true, not-false}
 use lib.ListN.{length}
-use mathlib.Core.List.{[]}
-use mathlib.Core.Path.{_≡_, refl}
+use mathlib.Core.Path.{refl}
 use native.Mathlib.Omega.{arith}
 
 abbrev Inv-loop : tie.InvT-loop
@@ -18,18 +15,6 @@ Inv-loop text d₀ d = Blanking text d₀ d
 
 abbrev μ-loop : tie.MeasureT-loop
 μ-loop text d₀ d = length text - d .at
-
--- the byte that was read
-read : (c : tie.After-known-told Inv-loop μ-loop) → let n = c .before .before .before in Yields·byte (n .before .before .before .args .text .now) (n .before .loop .d) (c .before .b .given .0 .0) (c .before .b .given .0 .1 .0)
-read c =
-    let n = c .before .before .before in
-    yielded-byte (n .before .before .before .args .text .now) (n .before .loop .d) (n .next-byte .result) (n .next-byte .ensures) _ _ (c .before .b .given .1)
-
--- or that there is none
-none : (c : tie.After-enum-told Inv-loop μ-loop) → let n = c .before .before in left (n .before .before .before .args .text .now) (n .before .loop .d) ≡ []
-none c =
-    let n = c .before .before in
-    yielded-end (n .before .before .before .args .text .now) (n .before .loop .d) (n .next-byte .result) (n .next-byte .ensures) (c .enum-told .given .1)
 
 loop-holds : tie.Need-loop-holds Inv-loop μ-loop
 loop-holds c = record { within = c .before .pre .0; readable = c .before .pre .1; rest = refl }
@@ -41,26 +26,28 @@ enum-known-b : tie.Need-enum-known-b Inv-loop μ-loop
 enum-known-b c = search needs
 
 blank-byte-requires : tie.Need-blank-byte-requires Inv-loop μ-loop
-blank-byte-requires c κs = let y = read c in (y .within, y .readable)
+blank-byte-requires c κs = let y = c .before .before .before .next-byte .ensures .byte _ _ (c .before .b .given .1) in (y .within, y .readable)
 
 returns : tie.Need-returns Inv-loop μ-loop
 returns c =
     let k = c .before .before in
-    blanking-over _ _ _ (k .before .before .before .before .loop .inv) _ _ (read k) _ (c .before .blank-byte .ensures) (not-true _ (c .if1 .taken))
+    let read = k .before .before .before .next-byte .ensures .byte _ _ (k .before .b .given .1) in
+    blanking-over _ _ _ (k .before .before .before .before .loop .inv) _ _ read _ (c .before .blank-byte .ensures) (not-true _ (c .if1 .taken))
 
 loop-less : tie.Need-loop-less Inv-loop μ-loop
-loop-less c = let y = read (c .before .before) in omega arith
+loop-less c = let y = c .before .before .before .before .before .next-byte .ensures .byte _ _ (c .before .before .before .b .given .1) in omega arith
 
 loop-again : tie.Need-loop-again Inv-loop μ-loop
 loop-again c =
     let k = c .before .before in
-    blanking-turn _ _ _ (k .before .before .before .before .loop .inv) _ _ (read k) _ (c .before .blank-byte .ensures) (not-false _ (c .if1 .left))
+    let read = k .before .before .before .next-byte .ensures .byte _ _ (k .before .b .given .1) in
+    blanking-turn _ _ _ (k .before .before .before .before .loop .inv) _ _ read _ (c .before .blank-byte .ensures) (not-false _ (c .if1 .left))
 
 enum-told : tie.Need-enum-told Inv-loop μ-loop
 enum-told c = search needs
 
 returns-2 : tie.Need-returns-2 Inv-loop μ-loop
-returns-2 c = blanking-end _ _ _ (c .before .before .before .loop .inv) (none c)
+returns-2 c = blanking-end _ _ _ (c .before .before .before .loop .inv) (c .before .before .next-byte .ensures .end (c .enum-told .given .1))
 
 pub blank-text-spec : {M : Type 1} → statement M
 blank-text-spec =

@@ -1,5 +1,4 @@
 -- The function `byte_ahead` meets its contract. Assumes nothing.
-use Rattle.lexer.proofs.Yielded.{yielded-byte, yielded-end}
 use Rattle.lexer.proofs.label.byte_ahead.Statement.{statement}
 use Rattle.lexer.proofs.label.byte_ahead.Tie as tie
 use borrow.Author.Needs.{needs}
@@ -15,16 +14,12 @@ enum-told c = search needs
 
 returns : tie.Need-returns
 returns c =
-    let n = c .before .before .before in
-    let a = n .before .before .args in
-    let y = yielded-byte (a .text .now) (a .c) (n .next-byte .result) (n .next-byte .ensures) _ _ (c .before .b .given .1) in
+    let y = c .before .before .before .next-byte .ensures .byte _ _ (c .before .b .given .1) in
     rw (y .here)
 
 returns-2 : tie.Need-returns-2
 returns-2 c =
-    let n = c .before .before in
-    let a = n .before .before .args in
-    let y = yielded-end (a .text .now) (a .c) (n .next-byte .result) (n .next-byte .ensures) (c .enum-told .given .1) in
+    let y = c .before .before .next-byte .ensures .end (c .enum-told .given .1) in
     rw y
 
 pub byte-ahead-spec : {M : Type 1} → statement M

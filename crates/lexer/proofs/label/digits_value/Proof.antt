@@ -3,17 +3,14 @@
 use Prim.Native.Nat.{_-_, _≤_}
 use Rattle.lexer.proofs.Basics.{and-left, and-right}
 use Rattle.lexer.proofs.TextWalks.{Counting, counting-turn, counting-other, counting-large, counting-end}
-use Rattle.lexer.proofs.Yielded.{yielded-byte, yielded-end}
 use Rattle.lexer.proofs.label.digits_value.Statement.{statement}
 use Rattle.lexer.proofs.label.digits_value.Tie as tie
-use Rattle.lexer.specs.Bytes.{left, Yields·byte}
 use borrow.Author.Needs.{needs}
 use borrow.Author.Tests.{leb-true, not-true, not-false}
 use lib.Dec.{leb}
 use lib.ListN.{length}
 use mathlib.Core.Bool.{_&&_}
-use mathlib.Core.List.{[]}
-use mathlib.Core.Path.{_≡_, refl}
+use mathlib.Core.Path.{refl}
 use native.Mathlib.Omega.{arith}
 
 abbrev Inv-loop : tie.InvT-loop
@@ -21,18 +18,6 @@ Inv-loop text n₀ d₀ n d = Counting text d₀ d n
 
 abbrev μ-loop : tie.MeasureT-loop
 μ-loop text n₀ d₀ n d = length text - d .at
-
--- the byte that was read
-read : (c : tie.After-known-told Inv-loop μ-loop) → let n = c .before .before .before in Yields·byte (n .before .before .before .args .text .now) (n .before .loop .d) (c .before .b .given .0 .0) (c .before .b .given .0 .1 .0)
-read c =
-    let n = c .before .before .before in
-    yielded-byte (n .before .before .before .args .text .now) (n .before .loop .d) (n .next-byte .result) (n .next-byte .ensures) _ _ (c .before .b .given .1)
-
--- or that there is none
-none : (c : tie.After-enum-told Inv-loop μ-loop) → let n = c .before .before in left (n .before .before .before .args .text .now) (n .before .loop .d) ≡ []
-none c =
-    let n = c .before .before in
-    yielded-end (n .before .before .before .args .text .now) (n .before .loop .d) (n .next-byte .result) (n .next-byte .ensures) (c .enum-told .given .1)
 
 -- which is a digit where the test says so
 digit : (c : tie.Else1 Inv-loop μ-loop) → let b = c .before .before .b .given .0 .0 in (48 ≤ b) × (b ≤ 57)
@@ -53,7 +38,8 @@ enum-known-b c = search needs
 returns : tie.Need-returns Inv-loop μ-loop
 returns c =
     let k = c .before in
-    counting-other _ _ _ _ (k .before .before .before .before .loop .inv) _ _ (read k) (not-true _ (c .if1 .taken))
+    let read = k .before .before .before .next-byte .ensures .byte _ _ (k .before .b .given .1) in
+    counting-other _ _ _ _ (k .before .before .before .before .loop .inv) _ _ read (not-true _ (c .if1 .taken))
 
 sub-v : tie.Need-sub-v Inv-loop μ-loop
 sub-v c = let h = digit c in omega arith
@@ -68,7 +54,8 @@ returns-2 : tie.Need-returns-2 Inv-loop μ-loop
 returns-2 c =
     let k = c .before .before in
     let h = digit (c .before) in
-    counting-large _ _ _ _ (k .before .before .before .before .loop .inv) _ _ (read k) (not-false _ (c .before .if1 .left)) (omega arith)
+    let read = k .before .before .before .next-byte .ensures .byte _ _ (k .before .b .given .1) in
+    counting-large _ _ _ _ (k .before .before .before .before .loop .inv) _ _ read (not-false _ (c .before .if1 .left)) (omega arith)
 
 mul-n : tie.Need-mul-n Inv-loop μ-loop
 mul-n c = let h = digit (c .before) in omega arith
@@ -77,19 +64,20 @@ add-n : tie.Need-add-n Inv-loop μ-loop
 add-n c = let h = digit (c .before) in omega arith
 
 loop-less : tie.Need-loop-less Inv-loop μ-loop
-loop-less c = let y = read (c .before .before) in omega arith
+loop-less c = let y = c .before .before .before .before .before .next-byte .ensures .byte _ _ (c .before .before .before .b .given .1) in omega arith
 
 loop-again : tie.Need-loop-again Inv-loop μ-loop
 loop-again c =
     let k = c .before .before in
     let h = digit (c .before) in
-    counting-turn _ _ _ _ (k .before .before .before .before .loop .inv) _ _ (read k) (not-false _ (c .before .if1 .left)) (omega arith)
+    let read = k .before .before .before .next-byte .ensures .byte _ _ (k .before .b .given .1) in
+    counting-turn _ _ _ _ (k .before .before .before .before .loop .inv) _ _ read (not-false _ (c .before .if1 .left)) (omega arith)
 
 enum-told : tie.Need-enum-told Inv-loop μ-loop
 enum-told c = search needs
 
 returns-3 : tie.Need-returns-3 Inv-loop μ-loop
-returns-3 c = counting-end _ _ _ _ (c .before .before .before .loop .inv) (none c)
+returns-3 c = counting-end _ _ _ _ (c .before .before .before .loop .inv) (c .before .before .next-byte .ensures .end (c .enum-told .given .1))
 
 pub digits-value-spec : {M : Type 1} → statement M
 digits-value-spec =

@@ -1,5 +1,4 @@
 -- The function `ended` meets its contract. Assumes nothing.
-use Rattle.lexer.proofs.Yielded.{yielded-byte, yielded-end}
 use Rattle.lexer.proofs.label.ended.Statement.{statement}
 use Rattle.lexer.proofs.label.ended.Tie as tie
 use Rattle.lexer.specs.Base.{empty?}
@@ -17,17 +16,13 @@ enum-told-2 c = search needs
 returns : tie.Need-returns
 unfolding empty?
 returns c =
-    let n = c .before .before in
-    let a = n .before .before .args in
-    let y = yielded-byte (a .text .now) (a .c) (n .next-byte .result) (n .next-byte .ensures) _ _ (c .enum-told .given .1) in
+    let y = c .before .before .next-byte .ensures .byte _ _ (c .enum-told .given .1) in
     rw (y .here)
 
 returns-2 : tie.Need-returns-2
 unfolding empty?
 returns-2 c =
-    let n = c .before .before in
-    let a = n .before .before .args in
-    let y = yielded-end (a .text .now) (a .c) (n .next-byte .result) (n .next-byte .ensures) (c .enum-told2 .given .1) in
+    let y = c .before .before .next-byte .ensures .end (c .enum-told2 .given .1) in
     rw y
 
 pub ended-spec : {M : Type 1} → statement M

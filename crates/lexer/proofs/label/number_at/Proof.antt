@@ -1,17 +1,9 @@
 -- The function `number_at` meets its contract: digits, with a `+` in front or without. Assumes nothing.
 use Rattle.lexer.proofs.TextWalks.{positive-plus, positive-plain, positive-none}
-use Rattle.lexer.proofs.Yielded.{yielded-byte, yielded-end}
 use Rattle.lexer.proofs.label.number_at.Statement.{statement}
 use Rattle.lexer.proofs.label.number_at.Tie as tie
-use Rattle.lexer.specs.Bytes.{Yields·byte}
 use borrow.Author.Needs.{needs}
 use mathlib.Core.Path.{_∙_}
-
--- the byte that was read
-read : (c : tie.After-known-told) → let n = c .before .before .before in Yields·byte (n .before .before .before .args .text .now) (n .before .text-start .result) (c .before .b .given .0 .0) (c .before .b .given .0 .1 .0)
-read c =
-    let n = c .before .before .before in
-    yielded-byte (n .before .before .before .args .text .now) (n .before .text-start .result) (n .next-byte .result) (n .next-byte .ensures) _ _ (c .before .b .given .1)
 
 text-start-requires : tie.Need-text-start-requires
 text-start-requires c κs = search needs
@@ -23,12 +15,13 @@ enum-known-b : tie.Need-enum-known-b
 enum-known-b c = search needs
 
 digits-value-requires : tie.Need-digits-value-requires
-digits-value-requires c κs = let y = read (c .before) in (y .within, y .readable)
+digits-value-requires c κs = let y = c .before .before .before .before .next-byte .ensures .byte _ _ (c .before .before .b .given .1) in (y .within, y .readable)
 
 returns : tie.Need-returns
 returns c =
     let k = c .before .before in
-    c .digits-value .ensures ∙ rw (← k .before .before .before .before .text-start .ensures .0) (positive-plus _ _ _ (read k .here) (c .before .if1 .taken))
+    let read = k .before .before .before .next-byte .ensures .byte _ _ (k .before .b .given .1) in
+    c .digits-value .ensures ∙ rw (← k .before .before .before .before .text-start .ensures .0) (positive-plus _ _ _ (read .here) (c .before .if1 .taken))
 
 digits-value-requires-2 : tie.Need-digits-value-requires-2
 digits-value-requires-2 c κs = search needs
@@ -39,12 +32,13 @@ enum-told c = search needs
 returns-2 : tie.Need-returns-2
 returns-2 c =
     let k = c .before .before in
-    c .digits-value2 .ensures ∙ rw (← k .before .before .before .before .text-start .ensures .0) (positive-plain _ _ _ (read k .here) (c .before .if1 .left))
+    let read = k .before .before .before .next-byte .ensures .byte _ _ (k .before .b .given .1) in
+    c .digits-value2 .ensures ∙ rw (← k .before .before .before .before .text-start .ensures .0) (positive-plain _ _ _ (read .here) (c .before .if1 .left))
 
 returns-3 : tie.Need-returns-3
 returns-3 c =
     let n = c .before .before in
-    rw (← n .before .text-start .ensures .0) (positive-none _ (yielded-end (n .before .before .before .args .text .now) (n .before .text-start .result) (n .next-byte .result) (n .next-byte .ensures) (c .enum-told .given .1)))
+    rw (← n .before .text-start .ensures .0) (positive-none _ (n .next-byte .ensures .end (c .enum-told .given .1)))
 
 pub number-at-spec : {M : Type 1} → statement M
 number-at-spec =

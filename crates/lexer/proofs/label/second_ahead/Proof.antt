@@ -1,5 +1,4 @@
 -- The function `second_ahead` meets its contract. Assumes nothing.
-use Rattle.lexer.proofs.Yielded.{yielded-byte, yielded-end}
 use Rattle.lexer.proofs.label.second_ahead.Statement.{statement}
 use Rattle.lexer.proofs.label.second_ahead.Tie as tie
 use borrow.Author.Needs.{needs}
@@ -12,9 +11,7 @@ enum-known-d c = search needs
 
 byte-ahead-requires : tie.Need-byte-ahead-requires
 byte-ahead-requires c κs =
-    let n = c .before .before .before in
-    let a = n .before .before .args in
-    let y = yielded-byte (a .text .now) (a .c) (n .next-byte .result) (n .next-byte .ensures) _ _ (c .before .d .given .1) in
+    let y = c .before .before .before .next-byte .ensures .byte _ _ (c .before .d .given .1) in
     (y .within, y .readable)
 
 enum-told : tie.Need-enum-told
@@ -22,16 +19,12 @@ enum-told c = search needs
 
 returns : tie.Need-returns
 returns c =
-    let n = c .before .before .before .before in
-    let a = n .before .before .args in
-    let y = yielded-byte (a .text .now) (a .c) (n .next-byte .result) (n .next-byte .ensures) _ _ (c .before .before .d .given .1) in
+    let y = c .before .before .before .before .next-byte .ensures .byte _ _ (c .before .before .d .given .1) in
     rw (y .here) (c .byte-ahead .ensures)
 
 returns-2 : tie.Need-returns-2
 returns-2 c =
-    let n = c .before .before in
-    let a = n .before .before .args in
-    let y = yielded-end (a .text .now) (a .c) (n .next-byte .result) (n .next-byte .ensures) (c .enum-told .given .1) in
+    let y = c .before .before .next-byte .ensures .end (c .enum-told .given .1) in
     rw y
 
 pub second-ahead-spec : {M : Type 1} → statement M

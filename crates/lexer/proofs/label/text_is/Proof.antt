@@ -2,14 +2,11 @@
 -- measure is what is left of the key. Assumes nothing.
 use Prim.Native.Nat.{_-_}
 use Rattle.lexer.proofs.TextWalks.{Matching, matching-turn, matching-over, matching-short, matching-end}
-use Rattle.lexer.proofs.Yielded.{yielded-byte, yielded-end}
 use Rattle.lexer.proofs.label.text_is.Statement.{statement}
 use Rattle.lexer.proofs.label.text_is.Tie as tie
-use Rattle.lexer.specs.Bytes.{left, Yields·byte}
 use borrow.Author.Needs.{needs}
 use lib.ListN.{length}
-use mathlib.Core.List.{[]}
-use mathlib.Core.Path.{_≡_, refl, sym, _∙_}
+use mathlib.Core.Path.{refl, sym, _∙_}
 use native.Mathlib.Omega.{arith}
 
 abbrev Inv-loop : tie.InvT-loop
@@ -17,18 +14,6 @@ Inv-loop text key d₀ i₀ d i = Matching text key d₀ d i
 
 abbrev μ-loop : tie.MeasureT-loop
 μ-loop text key d₀ i₀ d i = length key - i
-
--- the byte that was read
-read : (c : tie.After-known-told Inv-loop μ-loop) → let n = c .before .before .before in Yields·byte (n .before .before .before .before .before .args .text .now) (n .before .before .loop .d) (c .before .b .given .0 .0) (c .before .b .given .0 .1 .0)
-read c =
-    let n = c .before .before .before in
-    yielded-byte (n .before .before .before .before .before .args .text .now) (n .before .before .loop .d) (n .next-byte .result) (n .next-byte .ensures) _ _ (c .before .b .given .1)
-
--- or that there is none
-none : (c : tie.After-enum-told Inv-loop μ-loop) → let n = c .before .before in left (n .before .before .before .before .before .args .text .now) (n .before .before .loop .d) ≡ []
-none c =
-    let n = c .before .before in
-    yielded-end (n .before .before .before .before .before .args .text .now) (n .before .before .loop .d) (n .next-byte .result) (n .next-byte .ensures) (c .enum-told .given .1)
 
 loop-holds : tie.Need-loop-holds Inv-loop μ-loop
 loop-holds c = record { short = omega arith; within = c .before .before .pre .0; readable = c .before .before .pre .1; rest = refl }
@@ -52,7 +37,8 @@ returns : tie.Need-returns Inv-loop μ-loop
 returns c =
     let k = c .before .before .before .before in
     let l = k .before .before .before .before in
-    matching-over _ _ _ _ _ (l .before .loop .inv) (l .loop-test .taken) _ _ (read k) (λ e. c .if1 .taken (c .before .before .lower .ensures ∙ e ∙ sym (c .before .lower2 .ensures)))
+    let read = k .before .before .before .next-byte .ensures .byte _ _ (k .before .b .given .1) in
+    matching-over _ _ _ _ _ (l .before .loop .inv) (l .loop-test .taken) _ _ read (λ e. c .if1 .taken (c .before .before .lower .ensures ∙ e ∙ sym (c .before .lower2 .ensures)))
 
 add-i : tie.Need-add-i Inv-loop μ-loop
 add-i c = search needs
@@ -64,13 +50,14 @@ loop-again : tie.Need-loop-again Inv-loop μ-loop
 loop-again c =
     let k = c .before .before .before .before in
     let l = k .before .before .before .before in
-    matching-turn _ _ _ _ _ (l .before .loop .inv) (l .loop-test .taken) _ _ (read k) (sym (c .before .before .lower .ensures) ∙ c .if1 .left ∙ c .before .lower2 .ensures)
+    let read = k .before .before .before .next-byte .ensures .byte _ _ (k .before .b .given .1) in
+    matching-turn _ _ _ _ _ (l .before .loop .inv) (l .loop-test .taken) _ _ read (sym (c .before .before .lower .ensures) ∙ c .if1 .left ∙ c .before .lower2 .ensures)
 
 enum-told : tie.Need-enum-told Inv-loop μ-loop
 enum-told c = search needs
 
 returns-2 : tie.Need-returns-2 Inv-loop μ-loop
-returns-2 c = let l = c .before .before .before in matching-short _ _ _ _ _ (l .before .loop .inv) (l .loop-test .taken) (none c)
+returns-2 c = let l = c .before .before .before in matching-short _ _ _ _ _ (l .before .loop .inv) (l .loop-test .taken) (c .before .before .next-byte .ensures .end (c .enum-told .given .1))
 
 ended-requires : tie.Need-ended-requires Inv-loop μ-loop
 ended-requires c κs = (c .before .loop .inv .within, c .before .loop .inv .readable)

@@ -52,8 +52,9 @@ loop-less c =
 loop-again : tie.Need-loop-again Inv-loop μ-loop
 loop-again c =
     let e = c .before .before .before in
-    let l = e .before .before .before .before in
-    spelling-turn _ _ _ (l .before .loop .inv) (l .loop-test .taken) _ (e .before .before .before .symbol-at .ensures) (e .before .enum-told .given .1) _ (e .comment-end .ensures) _ (c .before .j .given .1)
+    let s = e .before .before .before in
+    let l = s .before in
+    spelling-turn _ _ _ (l .before .loop .inv) (l .loop-test .taken) _ (s .symbol-at .ensures) (e .before .enum-told .given .1) _ (e .comment-end .ensures) _ (c .before .j .given .1)
 
 enum-told-2 : tie.Need-enum-told-2 Inv-loop μ-loop
 enum-told-2 c = search needs
@@ -61,8 +62,9 @@ enum-told-2 c = search needs
 returns-2 : tie.Need-returns-2 Inv-loop μ-loop
 returns-2 c =
     let e = c .before .before in
-    let l = e .before .before .before .before in
-    spelling-open _ _ _ (l .before .loop .inv) (l .loop-test .taken) _ (e .before .before .before .symbol-at .ensures) (e .before .enum-told .given .1) _ (e .comment-end .ensures) _ (c .enum-told2 .given .1)
+    let s = e .before .before .before in
+    let l = s .before in
+    spelling-open _ _ _ (l .before .loop .inv) (l .loop-test .taken) _ (s .symbol-at .ensures) (e .before .enum-told .given .1) _ (e .comment-end .ensures) _ (c .enum-told2 .given .1)
 
 returns-3 : tie.Need-returns-3 Inv-loop μ-loop
 returns-3 c =

@@ -33,28 +33,61 @@ follows-by-requires-4 c κs = search needs
 
 returns-4 : tie.Need-returns-4
 unfolding after·lead follow pick
-returns-4 c = rw (le-ltb _ _ (c .before .before .before .before .if1 .left), ne-eqb _ _ (c .before .before .before .if2 .left), ne-eqb _ _ (c .before .before .if3 .left), lt-ltb _ _ (c .before .if4 .taken)) (c .follows-by4 .ensures)
+returns-4 c =
+    rw (
+      le-ltb _ _ (c .before .before .before .before .if1 .left),
+      ne-eqb _ _ (c .before .before .before .if2 .left),
+      ne-eqb _ _ (c .before .before .if3 .left),
+      lt-ltb _ _ (c .before .if4 .taken),
+    )
+    (c .follows-by4 .ensures)
 
 follows-by-requires-5 : tie.Need-follows-by-requires-5
 follows-by-requires-5 c κs = search needs
 
 returns-5 : tie.Need-returns-5
 unfolding after·lead follow pick
-returns-5 c = rw (le-ltb _ _ (c .before .before .before .before .before .if1 .left), ne-eqb _ _ (c .before .before .before .before .if2 .left), ne-eqb _ _ (c .before .before .before .if3 .left), le-ltb _ _ (c .before .before .if4 .left), eq-eqb _ _ (c .before .if5 .taken)) (c .follows-by5 .ensures)
+returns-5 c =
+    rw (
+      le-ltb _ _ (c .before .before .before .before .before .if1 .left),
+      ne-eqb _ _ (c .before .before .before .before .if2 .left),
+      ne-eqb _ _ (c .before .before .before .if3 .left),
+      le-ltb _ _ (c .before .before .if4 .left),
+      eq-eqb _ _ (c .before .if5 .taken),
+    )
+    (c .follows-by5 .ensures)
 
 follows-by-requires-6 : tie.Need-follows-by-requires-6
 follows-by-requires-6 c κs = search needs
 
 returns-6 : tie.Need-returns-6
 unfolding after·lead follow pick
-returns-6 c = rw (le-ltb _ _ (c .before .before .before .before .before .before .if1 .left), ne-eqb _ _ (c .before .before .before .before .before .if2 .left), ne-eqb _ _ (c .before .before .before .before .if3 .left), le-ltb _ _ (c .before .before .before .if4 .left), ne-eqb _ _ (c .before .before .if5 .left), eq-eqb _ _ (c .before .if6 .taken)) (c .follows-by6 .ensures)
+returns-6 c =
+    rw (
+      le-ltb _ _ (c .before .before .before .before .before .before .if1 .left),
+      ne-eqb _ _ (c .before .before .before .before .before .if2 .left),
+      ne-eqb _ _ (c .before .before .before .before .if3 .left),
+      le-ltb _ _ (c .before .before .before .if4 .left),
+      ne-eqb _ _ (c .before .before .if5 .left),
+      eq-eqb _ _ (c .before .if6 .taken),
+    )
+    (c .follows-by6 .ensures)
 
 follows-by-requires-7 : tie.Need-follows-by-requires-7
 follows-by-requires-7 c κs = search needs
 
 returns-7 : tie.Need-returns-7
 unfolding after·lead follow pick
-returns-7 c = rw (le-ltb _ _ (c .before .before .before .before .before .before .if1 .left), ne-eqb _ _ (c .before .before .before .before .before .if2 .left), ne-eqb _ _ (c .before .before .before .before .if3 .left), le-ltb _ _ (c .before .before .before .if4 .left), ne-eqb _ _ (c .before .before .if5 .left), ne-eqb _ _ (c .before .if6 .left)) (c .follows-by7 .ensures)
+returns-7 c =
+    rw (
+      le-ltb _ _ (c .before .before .before .before .before .before .if1 .left),
+      ne-eqb _ _ (c .before .before .before .before .before .if2 .left),
+      ne-eqb _ _ (c .before .before .before .before .if3 .left),
+      le-ltb _ _ (c .before .before .before .if4 .left),
+      ne-eqb _ _ (c .before .before .if5 .left),
+      ne-eqb _ _ (c .before .if6 .left),
+    )
+    (c .follows-by7 .ensures)
 
 pub after-lead-spec : {M : Type 1} → statement M
 after-lead-spec =

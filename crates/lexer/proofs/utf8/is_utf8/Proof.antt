@@ -28,13 +28,19 @@ ascii-run-requires : tie.Need-ascii-run-requires Inv-loop μ-loop
 ascii-run-requires c κs = search needs
 
 loop-less : tie.Need-loop-less Inv-loop μ-loop
-loop-less c = let l = c .before .before .before .before .before in omega (arith, c .ascii-run .ensures, run-forward (drop (l .loop .i + 1) (l .before .before .args .text .now)) (l .loop .i + 1))
+loop-less c =
+    let l = c .before .before .before .before .before in
+    omega (arith, c .ascii-run .ensures, run-forward (drop (l .loop .i + 1) (l .before .before .args .text .now)) (l .loop .i + 1))
 
 loop-again : tie.Need-loop-again Inv-loop μ-loop
-loop-again c = let l = c .before .before .before .before .before in checking-ascii _ _ _ _ _ _ (l .loop .inv) (c .before .before .before .before .loop-test .taken) (c .before .before .if1 .taken) (c .before .if2 .taken) (c .ascii-run .ensures)
+loop-again c =
+    let l = c .before .before .before .before .before in
+    checking-ascii _ _ _ _ _ _ (l .loop .inv) (c .before .before .before .before .loop-test .taken) (c .before .before .if1 .taken) (c .before .if2 .taken) (c .ascii-run .ensures)
 
 returns : tie.Need-returns Inv-loop μ-loop
-returns c = let l = c .before .before .before .before .before in checking-refused _ _ _ _ _ (l .loop .inv) (c .before .before .before .before .loop-test .taken) (rw (c .before .before .if1 .taken) (from-no-lead _ _ _ _ (c .before .if2 .left) (c .if3 .taken)))
+returns c =
+    let l = c .before .before .before .before .before in
+    checking-refused _ _ _ _ _ (l .loop .inv) (c .before .before .before .before .loop-test .taken) (rw (c .before .before .if1 .taken) (from-no-lead _ _ _ _ (c .before .if2 .left) (c .if3 .taken)))
 
 after-lead-requires : tie.Need-after-lead-requires Inv-loop μ-loop
 after-lead-requires c κs = search needs
@@ -49,7 +55,9 @@ loop-again-2 c =
     (rw (c .before .before .before .if1 .taken, c .after-lead .ensures .0, c .after-lead .ensures .1, c .after-lead .ensures .2) (from-lead _ _ _ _ (c .before .before .if2 .left) (c .before .if3 .left)))
 
 returns-2 : tie.Need-returns-2 Inv-loop μ-loop
-returns-2 c = let l = c .before .before .before .before in checking-refused _ _ _ _ _ (l .loop .inv) (c .before .before .before .loop-test .taken) (from-no-later _ _ _ _ (l .loop .more) (c .before .if1 .left) (c .if4 .taken))
+returns-2 c =
+    let l = c .before .before .before .before in
+    checking-refused _ _ _ _ _ (l .loop .inv) (c .before .before .before .loop-test .taken) (from-no-later _ _ _ _ (l .loop .more) (c .before .if1 .left) (c .if4 .taken))
 
 sub-more : tie.Need-sub-more Inv-loop μ-loop
 sub-more c = omega (arith, c .before .if1 .left)
@@ -58,7 +66,9 @@ loop-less-3 : tie.Need-loop-less-3 Inv-loop μ-loop
 loop-less-3 c = search needs
 
 loop-again-3 : tie.Need-loop-again-3 Inv-loop μ-loop
-loop-again-3 c = let l = c .before .before .before .before in checking-turn _ _ _ _ _ (l .loop .inv) (c .before .before .before .loop-test .taken) _ _ _ (from-later _ _ _ _ (l .loop .more) (c .before .if1 .left) (c .if4 .left))
+loop-again-3 c =
+    let l = c .before .before .before .before in
+    checking-turn _ _ _ _ _ (l .loop .inv) (c .before .before .before .loop-test .taken) _ _ _ (from-later _ _ _ _ (l .loop .more) (c .before .if1 .left) (c .if4 .left))
 
 returns-3 : tie.Need-returns-3 Inv-loop μ-loop
 returns-3 c = checking-end _ _ _ _ _ (c .before .loop .inv) (c .loop-test .left)

@@ -1,7 +1,9 @@
--- The function print_text meets its contract: `lex` stores the starts that it counts. Assumes nothing.
+-- The function print_text meets its contract: `lex` stores the starts that it counts, and counts those of short texts alone. Assumes nothing.
+use Rattle.lexer.proofs.LexedAnswers.{tokens-lexed}
 use Rattle.tokens.proofs.printing.print_text.Statement.{statement}
 use Rattle.tokens.proofs.printing.print_text.Tie as tie
 use borrow.Author.Needs.{needs}
+use mathlib.Core.Path.{sym, _∙_}
 
 lex-requires : tie.Need-lex-requires
 lex-requires c κs = search needs
@@ -13,7 +15,8 @@ put-tokens-requires : tie.Need-put-tokens-requires
 put-tokens-requires c κs =
     let k = c .before .before .before in
     let l = k .before .before .before .before in
-    (l .lex .ensures .1 _ (k .count .given .1), l .before .before .before .before .before .pre)
+    let counted = k .count .given .1 in
+    (l .lex .ensures .1 _ counted, tokens-lexed _ _ _ (sym counted ∙ l .lex .ensures .0) .short)
 
 enum-known-why : tie.Need-enum-known-why
 enum-known-why c = search needs

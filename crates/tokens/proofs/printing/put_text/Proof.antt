@@ -1,8 +1,7 @@
 -- The function put_text meets its contract. The invariant: the cursor is one of the token's text, and the room stays as it is. The measure is what
 -- is left of the text. Assumes nothing.
 use Prim.Native.Nat.{_≤_, _-_}
-use Rattle.lexer.proofs.Yielded.{yielded-byte}
-use Rattle.lexer.specs.Bytes.{Readable, Yields·byte}
+use Rattle.lexer.specs.Bytes.{Readable}
 use Rattle.tokens.proofs.printing.put_text.Statement.{statement}
 use Rattle.tokens.proofs.printing.put_text.Tie as tie
 use borrow.Author.Needs.{needs}
@@ -15,13 +14,6 @@ Inv-loop text start out₀ n filled₀ c₀ out filled c = (c .at ≤ length tex
 
 abbrev μ-loop : tie.MeasureT-loop
 μ-loop text start out₀ n filled₀ c₀ out filled c = length text - c .at
-
--- the byte that was read
-read : (c : tie.After-slice-known2 Inv-loop μ-loop) → let b = c .before .before .before .before .before in let n = b .before .before in Yields·byte (n .before .before .before .before .before .args .text .now) (n .before .loop .c) (b .b .given .0 .0) (b .b .given .0 .1 .0)
-read c =
-    let b = c .before .before .before .before .before in
-    let n = b .before .before in
-    yielded-byte (n .before .before .before .before .before .args .text .now) (n .before .loop .c) (n .next-byte .result) (n .next-byte .ensures) _ _ (b .b .given .1)
 
 text-start-requires : tie.Need-text-start-requires Inv-loop μ-loop
 text-start-requires c κs = search needs
@@ -39,10 +31,16 @@ put-hex-requires : tie.Need-put-hex-requires Inv-loop μ-loop
 put-hex-requires c κs = search needs
 
 loop-less : tie.Need-loop-less Inv-loop μ-loop
-loop-less c = let y = read c in omega arith
+loop-less c =
+    let b = c .before .before .before .before .before in
+    let read = b .before .before .next-byte .ensures .byte _ _ (b .b .given .1) in
+    omega arith
 
 loop-again : tie.Need-loop-again Inv-loop μ-loop
-loop-again c = let y = read c in (y .within, y .readable, search needs)
+loop-again c =
+    let b = c .before .before .before .before .before in
+    let read = b .before .before .next-byte .ensures .byte _ _ (b .b .given .1) in
+    (read .within, read .readable, search needs)
 
 enum-told : tie.Need-enum-told Inv-loop μ-loop
 enum-told c = search needs

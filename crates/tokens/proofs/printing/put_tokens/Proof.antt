@@ -1,7 +1,7 @@
 -- The function put_tokens meets its contract: each stored start is one of the text. The invariant: the room stays as it is. The measure is what is
 -- left of the count. Assumes nothing.
 use Prim.Native.Nat.{_≤_, _-_}
-use Rattle.tokens.proofs.StoredStarts.{stored-room, stored-within}
+use Rattle.lexer.proofs.StoredLaws.{stored-room, stored-below}
 use Rattle.tokens.proofs.printing.put_tokens.Statement.{statement}
 use Rattle.tokens.proofs.printing.put_tokens.Tie as tie
 use borrow.Author.Needs.{needs}
@@ -34,7 +34,7 @@ cast-start c = omega (arith, c .shared-slice-known3 .given (c .before .before .l
 put-token-requires : tie.Need-put-token-requires Inv-loop μ-loop
 put-token-requires c κs =
     let a = c .before .before .before .before .before .before .before in
-    (stored-within _ _ _ (a .pre .0) _ (c .before .before .loop-test .taken), a .pre .1)
+    (stored-below _ _ _ _ (a .pre .0) (c .before .before .loop-test .taken), a .pre .1)
 
 add-i : tie.Need-add-i Inv-loop μ-loop
 add-i c = search needs

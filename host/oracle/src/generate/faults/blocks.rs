@@ -1,36 +1,19 @@
 //! Faults of quotes, comments, commands, blocks, dimensions and formats (lexer.rs, mod.rs).
 
 use super::{DNA, Fault, LAYOUT, NOT_NAMES, any, declared, make, plain, with_dimension};
-use crate::generate::draft::{keyword, piece, pieces};
+use crate::generate::draft::{Draft, Piece, keyword, piece, pieces};
+use crate::generate::rng::Rng;
 use crate::generate::text::Declared;
 
 #[rustfmt::skip]
 pub const FAULTS: &[(&str, Fault)] = &[
     ("lexer.rs:81", |rng| {
-        let mut draft = any(rng);
-        let open = rng.pick(&["'", "\"", "'a''", "\"x", "'x;\nEND;", "'''"]);
-        match rng.below(3) {
-            0 => draft.tail.push(piece(open)),
-            1 => draft.head.push(piece(open)),
-            _ => {
-                let at = rng.below(draft.commands.len());
-                draft.commands[at].push(piece(open));
-            }
-        }
-        draft
+        let quotes = ["'", "\"", "'a''", "\"x", "'x;\nEND;", "'''"];
+        left_open(rng, &quotes, |head, open| head.push(piece(open)))
     }),
     ("lexer.rs:167", |rng| {
-        let mut draft = any(rng);
-        let open = rng.pick(&["[", "[x", "a[b", "[[]", "[[", "0[", "[a[b]c", "['"]);
-        match rng.below(3) {
-            0 => draft.tail.push(piece(open)),
-            1 => draft.head[0].text.push('['),
-            _ => {
-                let at = rng.below(draft.commands.len());
-                draft.commands[at].push(piece(open));
-            }
-        }
-        draft
+        let comments = ["[", "[x", "a[b", "[[]", "[[", "0[", "[a[b]c", "['"];
+        left_open(rng, &comments, |head, _| head[0].text.push('['))
     }),
     ("mod.rs:42", |rng| {
         let mut draft = plain(rng);
@@ -364,3 +347,19 @@ pub const FAULTS: &[(&str, Fault)] = &[
         draft
     }),
 ];
+
+/// A text with one of these left open: at its end, in its head as `in_head` puts it there, or in
+/// a command.
+fn left_open(rng: &mut Rng, opens: &[&str], in_head: fn(&mut Vec<Piece>, &str)) -> Draft {
+    let mut draft = any(rng);
+    let open = rng.pick(opens);
+    match rng.below(3) {
+        0 => draft.tail.push(piece(open)),
+        1 => in_head(&mut draft.head, open),
+        _ => {
+            let at = rng.below(draft.commands.len());
+            draft.commands[at].push(piece(open));
+        }
+    }
+    draft
+}

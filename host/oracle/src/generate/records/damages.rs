@@ -1,21 +1,18 @@
-//! Generated records: sound ones, and ones that break a single condition of refusal 31.
+//! The damages: each breaks a single condition of refusal 31.
 
-use super::reading::{Wish, reading};
-use super::rng::Rng;
-use super::{render, text};
-use crate::data::DataType;
-use crate::record::spell;
-
-/// A record as its lines, each without its LF.
-type Lines = Vec<Vec<u8>>;
+use super::lines::{
+    Lines, add, edit_cell, edit_name, edit_value, insert_in_name, key_of, places, swapped_case,
+};
+use crate::generate::reading::valid_symbols;
+use crate::generate::rng::Rng;
 
 /// What is wrong with a damaged record, and how a sound one comes to it.
 pub struct Damage {
     pub what: &'static str,
-    way: Way,
+    pub(super) way: Way,
 }
 
-enum Way {
+pub(super) enum Way {
     /// The function says whether the record could have this damage.
     Lines(fn(&mut Rng, &mut Lines) -> bool),
     Bytes(fn(&mut Rng, &mut Vec<u8>)),
@@ -144,14 +141,14 @@ pub const DAMAGES: &[Damage] = &[
     }),
     damage("74 symbols", |rng, lines| {
         let standard = lines[0] == b"datatype=STANDARD";
-        let all = super::reading::valid_symbols();
+        let all = valid_symbols();
         edit_value(rng, lines, "symbols=", |_, value| {
             *value = all.iter().map(|&c| c as u8).collect();
         }) && standard
     }),
     damage("73 symbols and a gap", |rng, lines| {
         let standard = lines[0] == b"datatype=STANDARD";
-        let all = super::reading::valid_symbols();
+        let all = valid_symbols();
         edit_value(rng, lines, "symbols=", |_, value| {
             *value = all.iter().skip(1).map(|&c| c as u8).collect();
         });
@@ -239,33 +236,22 @@ pub const DAMAGES: &[Damage] = &[
     damage(
         "two blanks between cells, or one at an end",
         |rng, lines| {
-            let at = places(lines, "cells=");
-            let line = &mut lines[at[rng.below(at.len())]];
-            let blanks: Vec<usize> = (0..line.len()).filter(|&i| line[i] == b' ').collect();
-            let ends = ["cells=".len(), line.len()];
-            let at = if blanks.is_empty() {
-                rng.choose(&ends)
-            } else {
-                rng.choose(&blanks)
-            };
-            line.insert(at, b' ');
-            true
+            edit_value(rng, lines, "cells=", |rng, cells| {
+                let blanks: Vec<usize> = (0..cells.len()).filter(|&i| cells[i] == b' ').collect();
+                let ends = vec![0, cells.len()];
+                let at = rng.choose(if blanks.is_empty() { &ends } else { &blanks });
+                cells.insert(at, b' ');
+            })
         },
     ),
     damage("a row short of a cell", |rng, lines| {
-        let at = places(lines, "cells=");
-        let line = &mut lines[at[rng.below(at.len())]];
-        match line.iter().rposition(|&b| b == b' ') {
-            Some(blank) => line.truncate(blank),
-            None => line.truncate("cells=".len()),
-        }
-        true
+        edit_value(rng, lines, "cells=", |_, cells| {
+            let last = cells.iter().rposition(|&byte| byte == b' ');
+            cells.truncate(last.unwrap_or(0));
+        })
     }),
     damage("a row with a cell too much", |rng, lines| {
-        let at = places(lines, "cells=");
-        let line = &mut lines[at[rng.below(at.len())]];
-        line.extend(b" m");
-        true
+        edit_value(rng, lines, "cells=", |_, cells| cells.extend(b" m"))
     }),
     damage("characters in another order", |rng, lines| {
         edit_value(rng, lines, "character=", |rng, value| {
@@ -318,180 +304,3 @@ pub const DAMAGES: &[Damage] = &[
         record.extend(record.clone());
     }),
 ];
-
-fn key_of(line: &[u8]) -> &[u8] {
-    line.split(|&byte| byte == b'=').next().unwrap_or(line)
-}
-
-fn places(lines: &[Vec<u8>], key: &str) -> Vec<usize> {
-    let with_key = |&at: &usize| lines[at].starts_with(key.as_bytes());
-    (0..lines.len()).filter(with_key).collect()
-}
-
-/// Change the value of one of the lines with this key.
-fn edit_value(
-    rng: &mut Rng,
-    lines: &mut Lines,
-    key: &str,
-    change: impl Fn(&mut Rng, &mut Vec<u8>),
-) -> bool {
-    let at = places(lines, key);
-    if at.is_empty() {
-        return false;
-    }
-    let line = &mut lines[at[rng.below(at.len())]];
-    let mut value = line.split_off(key.len());
-    change(rng, &mut value);
-    line.extend(value);
-    true
-}
-
-/// Change a name, a label that is there, or a state label.
-fn edit_name(rng: &mut Rng, lines: &mut Lines, change: impl Fn(&mut Rng, &mut Vec<u8>)) -> bool {
-    let mut keys = vec!["name="];
-    if lines.iter().any(|line| line.starts_with(b"state=")) {
-        keys.push("state=");
-    }
-    let labelled = |line: &[u8]| line.starts_with(b"label=") && line != b"label=";
-    if lines.iter().any(|line| labelled(line)) && rng.percent(40) {
-        let at: Vec<usize> = (0..lines.len()).filter(|&i| labelled(&lines[i])).collect();
-        let line = &mut lines[at[rng.below(at.len())]];
-        let mut value = line.split_off("label=".len());
-        change(rng, &mut value);
-        line.extend(value);
-        return true;
-    }
-    let key = rng.pick(&keys);
-    edit_value(rng, lines, key, change)
-}
-
-fn insert_in_name(rng: &mut Rng, lines: &mut Lines, what: &'static [u8]) -> bool {
-    edit_name(rng, lines, |rng, name| {
-        let ends = [0, name.len()];
-        let at = rng.choose(&ends);
-        name.splice(at..at, what.iter().copied());
-    })
-}
-
-fn edit_cell(rng: &mut Rng, lines: &mut Lines, change: impl Fn(&mut Rng, &mut Vec<u8>)) -> bool {
-    edit_value(rng, lines, "cells=", |rng, value| {
-        let mut cells: Vec<Vec<u8>> = value.split(|&b| b == b' ').map(<[u8]>::to_vec).collect();
-        let at = rng.below(cells.len());
-        change(rng, &mut cells[at]);
-        *value = cells.join(&b' ');
-    })
-}
-
-fn add(value: &mut Vec<u8>, change: i64) {
-    let text = std::str::from_utf8(value).expect("digits");
-    let number: i64 = text.parse().expect("a count");
-    *value = (number + change).to_string().into_bytes();
-}
-
-fn swapped_case(byte: u8) -> u8 {
-    if byte.is_ascii_alphabetic() {
-        byte ^ 0x20
-    } else {
-        byte
-    }
-}
-
-/// A sound record: of a text that is read, or of any reading.
-pub fn sound(rng: &mut Rng) -> Vec<u8> {
-    match rng.below(10) {
-        0..=3 => {
-            let (_, draft) = text::sound(rng);
-            let text = render::render(rng, &draft);
-            let reading = crate::nexus::parse(&text).expect("a sound text is read");
-            spell(&reading)
-        }
-        4..=8 => spell(&reading(rng, &Wish::default())),
-        _ => spell(&unusual(rng)),
-    }
-}
-
-/// A reading at a limit: 72 or 73 symbols, or labels everywhere.
-fn unusual(rng: &mut Rng) -> crate::data::Matrix {
-    let wish = Wish {
-        data_type: Some(DataType::Standard),
-        labels: Some(rng.percent(50)),
-        plain_cells: rng.percent(50),
-        ..Wish::default()
-    };
-    let mut reading = reading(rng, &wish);
-    let mut symbols = super::reading::valid_symbols();
-    rng.shuffle(&mut symbols);
-    let has_gap = crate::record::has_gap(&reading);
-    let most = if has_gap { 72 } else { rng.choose(&[72, 73]) };
-    symbols.truncate(most.max(reading.symbols.len()));
-    reading.symbols = symbols;
-    reading
-}
-
-fn split(record: &[u8]) -> Lines {
-    let lines = record.strip_suffix(b"\n").expect("a record ends with LF");
-    lines
-        .split(|&byte| byte == b'\n')
-        .map(<[u8]>::to_vec)
-        .collect()
-}
-
-fn join(lines: &Lines) -> Vec<u8> {
-    let mut record = lines.join(&b'\n');
-    record.push(b'\n');
-    record
-}
-
-/// A sound record, and the same with this damage, if it can have it.
-pub fn damaged(rng: &mut Rng, damage: usize) -> (Vec<u8>, Option<Vec<u8>>) {
-    let record = sound(rng);
-    let mut damaged = record.clone();
-    let done = match DAMAGES[damage].way {
-        Way::Bytes(change) => {
-            change(rng, &mut damaged);
-            true
-        }
-        Way::Lines(change) => {
-            let mut lines = split(&record);
-            let done = change(rng, &mut lines);
-            damaged = join(&lines);
-            done
-        }
-    };
-    let done = done && damaged != record;
-    (record, done.then_some(damaged))
-}
-
-/// Damage at the record's bytes, which may or may not leave it sound.
-fn damage_bytes(rng: &mut Rng, mut record: Vec<u8>) -> Vec<u8> {
-    let at = rng.below(record.len());
-    match rng.below(6) {
-        0 => {
-            record.pop();
-        }
-        1 => record.truncate(at),
-        2 => {
-            record.remove(at);
-        }
-        3 => record.insert(at, rng.choose(b"\n =0.um\\_x\xff\x00")),
-        4 => record[at] = rng.choose(b"\n =01.upmg\\_x\xff"),
-        _ => record.clear(),
-    }
-    record
-}
-
-pub fn record(rng: &mut Rng) -> Vec<u8> {
-    match rng.below(100) {
-        0..=49 => sound(rng),
-        50..=61 => {
-            let record = sound(rng);
-            damage_bytes(rng, record)
-        }
-        _ => loop {
-            let damage = rng.below(DAMAGES.len());
-            if let (_, Some(record)) = damaged(rng, damage) {
-                return record;
-            }
-        },
-    }
-}

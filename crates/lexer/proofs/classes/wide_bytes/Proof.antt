@@ -1,6 +1,6 @@
 -- The function `wide_bytes` meets its contract: the definition computes to the same tests. Assumes nothing.
-use Rattle.lexer.proofs.label.wide_bytes.Statement.{statement}
-use Rattle.lexer.proofs.label.wide_bytes.Tie as tie
+use Rattle.lexer.proofs.classes.wide_bytes.Statement.{statement}
+use Rattle.lexer.proofs.classes.wide_bytes.Tie as tie
 use Rattle.lexer.specs.Classes.{wide·blank, next1, next2, general·blank, general}
 use mathlib.Core.Path.{refl}
 
