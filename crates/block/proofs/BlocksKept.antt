@@ -157,7 +157,8 @@ module _ (m : Claims) (s : State) (h : Numbered) (raw : List Numbered) (u : Brin
           rw (← done-inj (x .2)) (unfold with·matrix in record { ready = record { dimensions = b .ready .dimensions; format = b .ready .format; taxa = b .ready .taxa; labels = b .ready .labels }; matrix = u .read t i d at (b .ready) (x .0) (x .1) })
 
   -- ASSUMPTIONS: the matrix stays as it is until the block ends.
-  assumption-kept : (ws : List Numbered) (b : ℕ) (r : Reading) (default : Option CharacterOrdering) (set : Option Types) (q : Phase) → m .reading r → assumption·step h ws b r default set ≡ done q → Inside m q
+  assumption-kept : (ws : List Numbered) (b : ℕ) (r : Reading) (default : Option CharacterOrdering) (set : Option Types) (q : Phase) → m .reading r
+      → assumption·step h ws b r default set ≡ done q → Inside m q
   unfolding assumption·step
   assumption-kept ws b r default set q x e =
       pick-either (is (bytes "OPTIONS") h && not (given default)) _ _ q typed
@@ -224,7 +225,8 @@ module _ (m : Claims) (s : State) (h : Numbered) (raw : List Numbered) (u : Brin
   unfolding step
   command-kept t k e = pick-either (outside? (s .phase)) _ _ t (words-kept (words raw) t k) (block-kept t k) e
 
-pub step-kept : (m : Claims) (s : State) (c : Command) (t : State) → ((h : Numbered) (raw : List Numbered) → c ≡ command h raw → Brings m s h raw) → Kept m s → step s c ≡ done t → Kept m t
+pub step-kept : (m : Claims) (s : State) (c : Command) (t : State) → ((h : Numbered) (raw : List Numbered) → c ≡ command h raw → Brings m s h raw)
+    → Kept m s → step s c ≡ done t → Kept m t
 unfolding step
 step-kept m s (empty i) t b k e = refused-done Refusal.EmptyCommand i t e
 step-kept m s (unended i) t b k e = refused-done Refusal.UnendedCommand i t e

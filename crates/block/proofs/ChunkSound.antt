@@ -106,7 +106,8 @@ module _ (f : Format) (good : Good f) where
       (gap-fine (f .gap) b d refl) h
 
   -- a cell before others, all of them there
-  before-all : (o : Option Cell) (more : Option (List Cell)) (cs : List Cell) → ((c : Cell) → o ≡ some c → Fine f c) → ((r : List Cell) → more ≡ some r → All (Fine f) r) → before o more ≡ some cs → All (Fine f) cs
+  before-all : (o : Option Cell) (more : Option (List Cell)) (cs : List Cell) → ((c : Cell) → o ≡ some c → Fine f c)
+      → ((r : List Cell) → more ≡ some r → All (Fine f) r) → before o more ≡ some cs → All (Fine f) cs
   unfolding before
   before-all none more cs p q h = none-some cs h
   before-all (some c) none cs p q h = none-some cs h
@@ -155,7 +156,8 @@ RowFine f (plain cells) = All (Fine f) cells
 RowFine f (within cells k i set) = All (Fine f) cells × (rising (length (f .symbols)) set ≡ true)
 
 module _ (f : Format) (good : Good f) where
-  with-below : (i : ℕ) (more : Option (List ℕ)) (s : List ℕ) → i < length (f .symbols) → ((r : List ℕ) → more ≡ some r → All (Below (length (f .symbols))) r) → with·state i more ≡ some s → All (Below (length (f .symbols))) s
+  with-below : (i : ℕ) (more : Option (List ℕ)) (s : List ℕ) → i < length (f .symbols)
+      → ((r : List ℕ) → more ≡ some r → All (Below (length (f .symbols))) r) → with·state i more ≡ some s → All (Below (length (f .symbols))) s
   unfolding with·state
   with-below i none s lt p h = none-some s h
   with-below i (some r) s lt p h = rw (← some-inj h) (lt, p r refl)
@@ -180,7 +182,8 @@ module _ (f : Format) (good : Good f) where
   closed-fine cells k i [] row p h = refused-done Refusal.StateSet i row h
   closed-fine cells k i (s ∷ r) row p h = rw (← done-inj h) (all-one (Fine f) cells (set·cell k (s ∷ r)) (p .0) (set-fine k s r (p .1)))
 
-  into-fine : (cells : List Cell) (k : Bracket) (i : ℕ) (set : List ℕ) (w : Numbered) (new : List Cell) (row : Row) → RowFine f (within cells k i set) → All (Fine f) new → into·set cells k i set w new ≡ done row → RowFine f row
+  into-fine : (cells : List Cell) (k : Bracket) (i : ℕ) (set : List ℕ) (w : Numbered) (new : List Cell) (row : Row) → RowFine f (within cells k i set)
+      → All (Fine f) new → into·set cells k i set w new ≡ done row → RowFine f row
   unfolding into·set
   into-fine cells k i set w new row p q h =
       let s = then-done (need (only·states new) Refusal.StateSet (w .index)) (λ s. done (within cells k i (insert·all s set))) row h in

@@ -117,7 +117,8 @@ module _ (s : State) (h : Numbered) (raw : List Numbered) (ns : List (List ℕ))
       labels none p = refused-done Refusal.Command (h .index) x p
       labels (some l) p = rw (← done-inj (pick-else (labelled·by l (d .labels)) Refusal.Command (h .index) _ x p .1)) k
 
-  assumption-holds : (ws : List Numbered) (b : ℕ) (r : Reading) (default : Option CharacterOrdering) (set : Option Types) (q : Phase) → assumption·step h ws b r default set ≡ done q → Holding s ns q
+  assumption-holds : (ws : List Numbered) (b : ℕ) (r : Reading) (default : Option CharacterOrdering) (set : Option Types) (q : Phase)
+      → assumption·step h ws b r default set ≡ done q → Holding s ns q
   unfolding assumption·step
   assumption-holds ws b r default set q e =
       pick-either (is (bytes "OPTIONS") h && not (given default)) _ _ q

@@ -40,7 +40,8 @@ behind-light [] = omega arith
 behind-light (t ∷ r) = omega arith
 
 -- The cells that a line's taxon has from earlier pages are those of the row that stood there.
-taxon-light : (first : Bool) (above below : List Taxon) (i : ℕ) (n : List ℕ) (t : Taxon) → pick first (new·taxon above i n) (old·taxon below i n) ≡ done t → length (t .cells) + bulk (behind below) ≤ bulk below
+taxon-light : (first : Bool) (above below : List Taxon) (i : ℕ) (n : List ℕ) (t : Taxon)
+    → pick first (new·taxon above i n) (old·taxon below i n) ≡ done t → length (t .cells) + bulk (behind below) ≤ bulk below
 unfolding new·taxon old·taxon behind pick
 taxon-light true above below i n t e =
     let k = pick-else (known n (names above)) Refusal.TaxonTwice i (done (record { name = n; cells = [] })) t e in

@@ -53,7 +53,8 @@ module _ (N : List ℕ → Type 0) (Q : Numbered → Type 0) (name : Names Q N) 
           }
 
   -- one row more on the first page
-  first-row : (above : List Taxon) (t : Taxon) → Paged N (sh .format) true above [] → FineRow (sh .format) t → Named N (names above ++ (t .name ∷ [])) → Paged N (sh .format) true (above ++ (t ∷ [])) []
+  first-row : (above : List Taxon) (t : Taxon) → Paged N (sh .format) true above [] → FineRow (sh .format) t → Named N (names above ++ (t .name ∷ []))
+      → Paged N (sh .format) true (above ++ (t ∷ [])) []
   unfolding names
   first-row above t h c n =
       let p = all-left (FineRow (sh .format)) above [] (h .fine) in
@@ -64,7 +65,8 @@ module _ (N : List ℕ → Type 0) (Q : Numbered → Type 0) (name : Names Q N) 
       }
 
   -- one row more on a later page, in the place of the row that stood there
-  later-row : (above below : List Taxon) (old new : Taxon) → Paged N (sh .format) false above (old ∷ below) → old .name ≡ new .name → FineRow (sh .format) new → Paged N (sh .format) false (above ++ (new ∷ [])) below
+  later-row : (above below : List Taxon) (old new : Taxon) → Paged N (sh .format) false above (old ∷ below) → old .name ≡ new .name
+      → FineRow (sh .format) new → Paged N (sh .format) false (above ++ (new ∷ [])) below
   unfolding names
   later-row above below old new h e c =
       let p = all-left (FineRow (sh .format)) above (old ∷ below) (h .fine) in
@@ -83,7 +85,8 @@ module _ (N : List ℕ → Type 0) (Q : Numbered → Type 0) (name : Names Q N) 
       new : Taxon
       new = record { name = t .name; cells = t .cells ++ cells }
 
-      go : (first : Bool) (above below : List Taxon) → Paged N (sh .format) first above below → pick first (new·taxon above i n) (old·taxon below i n) ≡ done t → Paged N (sh .format) first (above ++ (new ∷ [])) (behind below)
+      go : (first : Bool) (above below : List Taxon) → Paged N (sh .format) first above below
+          → pick first (new·taxon above i n) (old·taxon below i n) ≡ done t → Paged N (sh .format) first (above ++ (new ∷ [])) (behind below)
       go true above [] h e =
           let k = pick-else (known n (names above)) Refusal.TaxonTwice i (done (record { name = n; cells = [] })) t e in
           let is : record { name = n; cells = [] } ≡ t = done-inj (k .1) in

@@ -55,10 +55,12 @@ command-light false (w ∷ r) raw h m =
     by-test (newline w) (λ n. let k = command-light false r raw h (rw n at m) in omega arith)
     (λ n. by-test (semicolon w) (λ t. none·first (command-light false r raw h) (rw (n, t) at m)) (λ t. one·first (command-light true r raw h) (rw (n, t) at m)))
   where
-    none·first : (List·Memᴰ (command h raw) (commands·from false r) → weights raw ≤ weights r) → List·Memᴰ (command h raw) (empty (w .index) ∷ commands·from false r) → weights raw ≤ weights (w ∷ r)
+    none·first : (List·Memᴰ (command h raw) (commands·from false r) → weights raw ≤ weights r)
+        → List·Memᴰ (command h raw) (empty (w .index) ∷ commands·from false r) → weights raw ≤ weights (w ∷ r)
     none·first k p = ⊎-elim (λ e. absurd (let z : _≡_ {A = ℕ} 0 1 = cc in omega arith)) (λ q. let l = k q in omega arith) (List·Memᴰ·cases-cons p)
 
-    one·first : (List·Memᴰ (command h raw) (commands·from true r) → weights raw ≤ weights r) → List·Memᴰ (command h raw) (begun w r ∷ commands·from true r) → weights raw ≤ weights (w ∷ r)
+    one·first : (List·Memᴰ (command h raw) (commands·from true r) → weights raw ≤ weights r)
+        → List·Memᴰ (command h raw) (begun w r ∷ commands·from true r) → weights raw ≤ weights (w ∷ r)
     one·first k p = ⊎-elim (λ e. let l = begun-light w h r raw e in omega arith) (λ q. let l = k q in omega arith) (List·Memᴰ·cases-cons p)
 
 header-light : (ws : List Numbered) → weights (behind·header ws) ≤ weights ws
@@ -90,7 +92,8 @@ module _ (n : ℕ) where
   all-short = rows-keep (Short n) (λ x name s. s)
 
 -- Taxa that follow the rows are no more than those, and no longer.
-follows-small : (n : ℕ) (declared : Option (List (List ℕ))) (sh : Shape) (taken taxa : List Taxon) → agrees declared (sh .taxa) ≡ true → Taken sh n taken → Follows declared taken taxa → (length taxa ≤ n) × All (Short n) taxa
+follows-small : (n : ℕ) (declared : Option (List (List ℕ))) (sh : Shape) (taken taxa : List Taxon) → agrees declared (sh .taxa) ≡ true
+    → Taken sh n taken → Follows declared taken taxa → (length taxa ≤ n) × All (Short n) taxa
 unfolding agrees
 follows-small n none sh taken taxa a m f =
     let k = bulk-few taken in

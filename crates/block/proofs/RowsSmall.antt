@@ -25,7 +25,8 @@ use mathlib.Core.Path.{_≡_, refl}
 use native.Mathlib.Omega.{arith}
 
 -- A word gives at most as many cells as its text has bytes.
-before-small : (o : Option Cell) (more : Option (List Cell)) (cs : List Cell) (n : ℕ) → ((r : List Cell) → more ≡ some r → length r ≤ n) → before o more ≡ some cs → length cs ≤ suc n
+before-small : (o : Option Cell) (more : Option (List Cell)) (cs : List Cell) (n : ℕ) → ((r : List Cell) → more ≡ some r → length r ≤ n)
+    → before o more ≡ some cs → length cs ≤ suc n
 unfolding before
 before-small none more cs n p h = none-some cs h
 before-small (some c) none cs n p h = none-some cs h
@@ -84,7 +85,8 @@ module _ (f : Format) where
   closed-small cells k i [] row h = refused-done Refusal.StateSet i row h
   closed-small cells k i (s ∷ r) row h = rw (← done-inj h) (simp length-append (omega arith))
 
-  into-small : (cells : List Cell) (k : Bracket) (i : ℕ) (set : List ℕ) (w : Numbered) (new : List Cell) (row : Row) → into·set cells k i set w new ≡ done row → row-load row ≤ length cells + length set + length new
+  into-small : (cells : List Cell) (k : Bracket) (i : ℕ) (set : List ℕ) (w : Numbered) (new : List Cell) (row : Row)
+      → into·set cells k i set w new ≡ done row → row-load row ≤ length cells + length set + length new
   unfolding into·set
   into-small cells k i set w new row h =
       let s = then-done (need (only·states new) Refusal.StateSet (w .index)) (λ s. done (within cells k i (insert·all s set))) row h in
@@ -149,7 +151,8 @@ module _ (sh : Shape) where
   sequence-load (between rows) = bulk rows
   sequence-load (inside rows i n row) = suc (bulk rows + row-load row)
 
-  begins-grows : (rows : List Taxon) (w : Numbered) (t : Sequence) → then (need (label w) Refusal.NotName (w .index)) (row·begins rows w) ≡ done t → sequence-load t ≤ bulk rows + weight w
+  begins-grows : (rows : List Taxon) (w : Numbered) (t : Sequence) → then (need (label w) Refusal.NotName (w .index)) (row·begins rows w) ≡ done t
+      → sequence-load t ≤ bulk rows + weight w
   unfolding row·begins
   begins-grows rows w t h =
       let n = then-done (need (label w) Refusal.NotName (w .index)) (row·begins rows w) t h in
@@ -157,7 +160,8 @@ module _ (sh : Shape) where
       let one = named-weighs w (w .index) (n .0) (n .1) in
       rw (← done-inj (k .1)) (omega arith)
 
-  grown-small : (rows : List Taxon) (i : ℕ) (n : List ℕ) (w : Numbered) (row : Row) (t : Sequence) → row·grown sh rows i n w row ≡ done t → sequence-load t ≤ suc (bulk rows + row-load row)
+  grown-small : (rows : List Taxon) (i : ℕ) (n : List ℕ) (w : Numbered) (row : Row) (t : Sequence) → row·grown sh rows i n w row ≡ done t
+      → sequence-load t ≤ suc (bulk rows + row-load row)
   unfolding row·grown
   grown-small rows i n w (within cells k j set) t h = rw (← done-inj h) (omega arith)
   grown-small rows i n w (plain cells) t h =

@@ -66,14 +66,16 @@ module _ (N : List ℕ → Type 0) (Q : Numbered → Type 0) (name : Names Q N) 
   sequenced : (s t : Sequence) → Sequenced s → done s ≡ done t → Sequenced t
   sequenced s t p h = rw (← done-inj h) p
 
-  begins-sequenced : (rows : List Taxon) (w : Numbered) (t : Sequence) → Sequenced (between rows) → Q w → then (need (label w) Refusal.NotName (w .index)) (row·begins rows w) ≡ done t → Sequenced t
+  begins-sequenced : (rows : List Taxon) (w : Numbered) (t : Sequence) → Sequenced (between rows) → Q w
+      → then (need (label w) Refusal.NotName (w .index)) (row·begins rows w) ≡ done t → Sequenced t
   unfolding row·begins
   begins-sequenced rows w t p c h =
       let n = then-done (need (label w) Refusal.NotName (w .index)) (row·begins rows w) t h in
       let k = pick-else (known (n .0) (names rows)) Refusal.TaxonTwice (w .index) (done (inside rows (w .index) (n .0) (plain []))) t (n .2) in
       sequenced (inside rows (w .index) (n .0) (plain [])) t (p, named-one N (names rows) (n .0) (p .named) (need-named N Q name w (w .index) (n .0) c (n .1)) (k .0), tt) (k .1)
 
-  grown-sequenced : (rows : List Taxon) (i : ℕ) (n : List ℕ) (w : Numbered) (row : Row) (t : Sequence) → Sequenced (inside rows i n row) → row·grown sh rows i n w row ≡ done t → Sequenced t
+  grown-sequenced : (rows : List Taxon) (i : ℕ) (n : List ℕ) (w : Numbered) (row : Row) (t : Sequence) → Sequenced (inside rows i n row)
+      → row·grown sh rows i n w row ≡ done t → Sequenced t
   unfolding row·grown pick
   grown-sequenced rows i n w (within cells k j set) t p h = sequenced (inside rows i n (within cells k j set)) t p h
   grown-sequenced rows i n w (plain cells) t p h =

@@ -92,7 +92,11 @@ module _ (r : Reading) where
       ∙ texts-names (label·texts (r .characters)) (record { utf = s .labels·utf8; underscore = s .labels·underscore; return = s .labels·return; blank = s .labels·blank })
 
   -- The conditions, from the tests.
-  pub sound-parts : empty? (r .taxa) ≡ false → empty? (r .characters) ≡ false → leb (length (r .taxa)) largest ≡ true → leb (length (r .characters)) largest ≡ true → all·long (length (r .characters)) (r .taxa) ≡ true → sound·rows (length (r .symbols)) (r .taxa) ≡ true → sound·symbols (r .data·type) (r .symbols) (gap·in (r .taxa)) ≡ true → sound·names (names (r .taxa)) ≡ true → names·differ (names (r .taxa)) ≡ true → sound·labels (r .characters) ≡ true → few·states (length (r .symbols)) (r .characters) ≡ true → orderable (r .data·type) (r .characters) ≡ true → Sound r
+  pub sound-parts : empty? (r .taxa) ≡ false → empty? (r .characters) ≡ false → leb (length (r .taxa)) largest ≡ true
+      → leb (length (r .characters)) largest ≡ true → all·long (length (r .characters)) (r .taxa) ≡ true
+      → sound·rows (length (r .symbols)) (r .taxa) ≡ true → sound·symbols (r .data·type) (r .symbols) (gap·in (r .taxa)) ≡ true
+      → sound·names (names (r .taxa)) ≡ true → names·differ (names (r .taxa)) ≡ true → sound·labels (r .characters) ≡ true
+      → few·states (length (r .symbols)) (r .characters) ≡ true → orderable (r .data·type) (r .characters) ≡ true → Sound r
   sound-parts taxon character taxa characters long cells symbols named unlike labelled few ordered =
       let s = symbols-each (r .data·type) (r .symbols) (gap·in (r .taxa)) symbols in
       let n = names-texts (names (r .taxa)) named in

@@ -32,7 +32,10 @@ module _ (text : List ℕ) where
   unfolding pick
   count-miss b n i j h e t = rw t at (count-next b n i j h e)
 
-  pub count-eight : (b i o o' o'' o₃ o₄ o₅ o₆ o₇ : ℕ) → i + 8 ≤ length text → o ≡ pick (eqb (getD text i 0) b) 1 0 → o' ≡ pick (eqb (getD text (i + 1) 0) b) 1 0 → o'' ≡ pick (eqb (getD text (i + 2) 0) b) 1 0 → o₃ ≡ pick (eqb (getD text (i + 3) 0) b) 1 0 → o₄ ≡ pick (eqb (getD text (i + 4) 0) b) 1 0 → o₅ ≡ pick (eqb (getD text (i + 5) 0) b) 1 0 → o₆ ≡ pick (eqb (getD text (i + 6) 0) b) 1 0 → o₇ ≡ pick (eqb (getD text (i + 7) 0) b) 1 0 → o + o' + o'' + o₃ + o₄ + o₅ + o₆ + o₇ ≡ count·at b 8 i
+  pub count-eight : (b i o o' o'' o₃ o₄ o₅ o₆ o₇ : ℕ) → i + 8 ≤ length text → o ≡ pick (eqb (getD text i 0) b) 1 0
+      → o' ≡ pick (eqb (getD text (i + 1) 0) b) 1 0 → o'' ≡ pick (eqb (getD text (i + 2) 0) b) 1 0 → o₃ ≡ pick (eqb (getD text (i + 3) 0) b) 1 0
+      → o₄ ≡ pick (eqb (getD text (i + 4) 0) b) 1 0 → o₅ ≡ pick (eqb (getD text (i + 5) 0) b) 1 0 → o₆ ≡ pick (eqb (getD text (i + 6) 0) b) 1 0
+      → o₇ ≡ pick (eqb (getD text (i + 7) 0) b) 1 0 → o + o' + o'' + o₃ + o₄ + o₅ + o₆ + o₇ ≡ count·at b 8 i
   unfolding count·in
   count-eight b i o o' o'' o₃ o₄ o₅ o₆ o₇ room e e' e'' e₃ e₄ e₅ e₆ e₇ =
       let s = count-next b 7 i (i + 1) (omega arith) (omega arith) in
@@ -50,7 +53,9 @@ module _ (text : List ℕ) where
       none j = refl
 
   -- One byte more in front of n bytes up to j.
-  comment-byte : (mark n d d' i j : ℕ) → i < length text → count·at 93 (suc n) i ≤ d → d' + count·at 93 (suc n) i ≡ d + count·at 91 (suc n) i → ((e : ℕ) → count·at 93 n (i + 1) ≤ e → d' + count·at 93 n (i + 1) ≡ e + count·at 91 n (i + 1) → comment·end mark e (i + 1) (drop (i + 1) text) ≡ comment·end mark d' j (drop j text)) → comment·end mark d i (drop i text) ≡ comment·end mark d' j (drop j text)
+  comment-byte : (mark n d d' i j : ℕ) → i < length text → count·at 93 (suc n) i ≤ d → d' + count·at 93 (suc n) i ≡ d + count·at 91 (suc n) i
+      → ((e : ℕ) → count·at 93 n (i + 1) ≤ e → d' + count·at 93 n (i + 1) ≡ e + count·at 91 n (i + 1) → comment·end mark e (i + 1) (drop (i + 1) text) ≡ comment·end mark d' j (drop j text))
+      → comment·end mark d i (drop i text) ≡ comment·end mark d' j (drop j text)
   comment-byte mark n d d' i j lt few sum behind = by-test (eqb (getD text i 0) 91) opening (λ f. by-test (eqb (getD text i 0) 93) (closing f) (other f))
     where
       opening : eqb (getD text i 0) 91 ≡ true → comment·end mark d i (drop i text) ≡ comment·end mark d' j (drop j text)
@@ -73,7 +78,8 @@ module _ (text : List ℕ) where
           comment-goes-on text mark i lt (eqb-false (getD text i 0) 91 f) (eqb-false (getD text i 0) 93 g) d ∙ behind d (omega arith) (omega arith)
 
   -- A block of n bytes from i on, up to j.
-  comment-block : (mark n d d' i j : ℕ) → j ≡ i + n → j ≤ length text → count·at 93 n i ≤ d → d' + count·at 93 n i ≡ d + count·at 91 n i → comment·end mark d i (drop i text) ≡ comment·end mark d' j (drop j text)
+  comment-block : (mark n d d' i j : ℕ) → j ≡ i + n → j ≤ length text → count·at 93 n i ≤ d → d' + count·at 93 n i ≡ d + count·at 91 n i
+      → comment·end mark d i (drop i text) ≡ comment·end mark d' j (drop j text)
   unfolding count·in
   comment-block mark zero d d' i j e room few sum =
       let same : j ≡ i = omega arith in
@@ -85,7 +91,9 @@ module _ (text : List ℕ) where
 pub nested-start : (text : List ℕ) (from depth : ℕ) → from ≤ length text → depth ≤ from → Nested text from depth from depth
 nested-start text from depth h low = record { ahead = omega arith; within = h; low = low; rest = λ mark. refl }
 
-pub nested-turn : (text : List ℕ) (from depth i d closing opening : ℕ) → Nested text from depth i d → i + 8 ≤ length text → closing ≡ count·in 93 8 (drop i text) → closing ≤ d → opening ≡ count·in 91 8 (drop i text) → opening ≤ 8 → Nested text from depth (i + 8) (d - closing + opening)
+pub nested-turn : (text : List ℕ) (from depth i d closing opening : ℕ) → Nested text from depth i d → i + 8 ≤ length text
+    → closing ≡ count·in 93 8 (drop i text) → closing ≤ d → opening ≡ count·in 91 8 (drop i text) → opening ≤ 8
+    → Nested text from depth (i + 8) (d - closing + opening)
 nested-turn text from depth i d closing opening k room c few o most =
     record {
       ahead = omega arith;

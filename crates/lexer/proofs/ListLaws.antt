@@ -24,7 +24,8 @@ module _ {X : Type 0} (f : ℕ → X) where
 
 -- What no byte of a kind changes, eight of them do not change.
 module _ {X : Type 0} (P : ℕ → Type 0) (text : List ℕ) (f : ℕ → X) (next : (i j : ℕ) → i < length text → j ≡ i + 1 → P (getD text i 0) → f i ≡ f j) where
-  pub past-eight : (i : ℕ) → i + 8 ≤ length text → P (getD text i 0) → P (getD text (i + 1) 0) → P (getD text (i + 2) 0) → P (getD text (i + 3) 0) → P (getD text (i + 4) 0) → P (getD text (i + 5) 0) → P (getD text (i + 6) 0) → P (getD text (i + 7) 0) → f i ≡ f (i + 8)
+  pub past-eight : (i : ℕ) → i + 8 ≤ length text → P (getD text i 0) → P (getD text (i + 1) 0) → P (getD text (i + 2) 0) → P (getD text (i + 3) 0)
+      → P (getD text (i + 4) 0) → P (getD text (i + 5) 0) → P (getD text (i + 6) 0) → P (getD text (i + 7) 0) → f i ≡ f (i + 8)
   past-eight i room p p' p'' p₃ p₄ p₅ p₆ p₇ =
       next i (i + 1) (omega arith) (omega arith) p
       ∙ next (i + 1) (i + 2) (omega arith) (omega arith) p'

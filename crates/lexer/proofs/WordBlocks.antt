@@ -35,7 +35,10 @@ module _ (text : List ℕ) where
   word-next i j h e p = rw e (word-goes-on text i h Symbol.Other (symbol-at-class text i Class.Other h p) other-continues)
 
   -- eight bytes, each with a test that says so of it
-  pub word-eight : (i : ℕ) → i + 8 ≤ length text → (a b c d a' b' c' d' : Bool) → (a ≡ true → OtherByte (getD text i 0)) → (b ≡ true → OtherByte (getD text (i + 1) 0)) → (c ≡ true → OtherByte (getD text (i + 2) 0)) → (d ≡ true → OtherByte (getD text (i + 3) 0)) → (a' ≡ true → OtherByte (getD text (i + 4) 0)) → (b' ≡ true → OtherByte (getD text (i + 5) 0)) → (c' ≡ true → OtherByte (getD text (i + 6) 0)) → (d' ≡ true → OtherByte (getD text (i + 7) 0)) → (a && b && c && d) && (a' && b' && c' && d') ≡ true → end·from i ≡ end·from (i + 8)
+  pub word-eight : (i : ℕ) → i + 8 ≤ length text → (a b c d a' b' c' d' : Bool) → (a ≡ true → OtherByte (getD text i 0))
+      → (b ≡ true → OtherByte (getD text (i + 1) 0)) → (c ≡ true → OtherByte (getD text (i + 2) 0)) → (d ≡ true → OtherByte (getD text (i + 3) 0))
+      → (a' ≡ true → OtherByte (getD text (i + 4) 0)) → (b' ≡ true → OtherByte (getD text (i + 5) 0)) → (c' ≡ true → OtherByte (getD text (i + 6) 0))
+      → (d' ≡ true → OtherByte (getD text (i + 7) 0)) → (a && b && c && d) && (a' && b' && c' && d') ≡ true → end·from i ≡ end·from (i + 8)
   word-eight i room a b c d a' b' c' d' p q r s p' q' r' s' h =
       let t = all-four a b c d (and-left (a && b && c && d) (a' && b' && c' && d') h) in
       let t' = all-four a' b' c' d' (and-right (a && b && c && d) (a' && b' && c' && d') h) in
@@ -45,6 +48,7 @@ module _ (text : List ℕ) where
 pub wording-start : (text : List ℕ) (from : ℕ) → from ≤ length text → Wording text from from
 wording-start text from h = record { ahead = omega arith; within = h; rest = refl }
 
-pub wording-eight : (text : List ℕ) (from i : ℕ) → Wording text from i → i + 8 ≤ length text → (a : Bool) → not a ≡ false → (a ≡ true → end·from text i ≡ end·from text (i + 8)) → Wording text from (i + 8)
+pub wording-eight : (text : List ℕ) (from i : ℕ) → Wording text from i → i + 8 ≤ length text → (a : Bool) → not a ≡ false
+    → (a ≡ true → end·from text i ≡ end·from text (i + 8)) → Wording text from (i + 8)
 wording-eight text from i k room true h p = record { ahead = omega arith; within = room; rest = sym (p refl) ∙ k .rest }
 wording-eight text from i k room false h p = absurd (true≢false h)

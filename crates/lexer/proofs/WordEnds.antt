@@ -28,7 +28,8 @@ abbrev pub resumed : List ℕ → Scan → Scan
 resumed text (Scan.At j) = word·end 0 0 j (drop j text)
 resumed text (Scan.Open mark) = Scan.Open mark
 
-resumed-pick : (text : List ℕ) (o e : Bool) (x y z u v w : Scan) → x ≡ resumed text u → y ≡ resumed text v → z ≡ resumed text w → pick o x (pick e y z) ≡ resumed text (pick o u (pick e v w))
+resumed-pick : (text : List ℕ) (o e : Bool) (x y z u v w : Scan) → x ≡ resumed text u → y ≡ resumed text v → z ≡ resumed text w
+    → pick o x (pick e y z) ≡ resumed text (pick o u (pick e v w))
 unfolding pick
 resumed-pick text true e x y z u v w p q r = p
 resumed-pick text false true x y z u v w p q r = q

@@ -29,7 +29,8 @@ use mathlib.Core.Path.{_≡_, refl, ap}
 use native.Mathlib.Omega.{arith}
 
 -- A token's index alone matters to the row that it is in.
-grown-index : (sh : Shape) (rows : List Taxon) (i : ℕ) (n : List ℕ) (j : ℕ) (v w : Token) (o : Outcome Row) → then o (row·grown sh rows i n (at j v)) ≡ then o (row·grown sh rows i n (at j w))
+grown-index : (sh : Shape) (rows : List Taxon) (i : ℕ) (n : List ℕ) (j : ℕ) (v w : Token) (o : Outcome Row)
+    → then o (row·grown sh rows i n (at j v)) ≡ then o (row·grown sh rows i n (at j w))
 unfolding then row·grown
 grown-index sh rows i n j v w (done (plain cells)) = refl
 grown-index sh rows i n j v w (done (within cells k o set)) = refl
@@ -55,7 +56,9 @@ module _ (sh : Shape) (rows : List Taxon) (n : List ℕ) (cells : List Cell) {ts
 
 -- One sign more. A word may follow at once only where the row is not full.
 module _ (sh : Shape) (rows : List Taxon) (n : List ℕ) {t : Sequence} where
-  sign-grown : (b : ℕ) (c : Cell) (cells : List Cell) (ts : List Token) → cell (sh .format) b ≡ some c → ((u : List ℕ) (r : List Token) → ts ≡ word u ∷ r → length (cells ++ (c ∷ [])) < sh .characters) → Grown sh rows n (cells ++ (c ∷ [])) ts t → (i : ℕ) → Turns (sequential·turn sh) (inside rows i n (plain cells)) (sign·joined b ts) t
+  sign-grown : (b : ℕ) (c : Cell) (cells : List Cell) (ts : List Token) → cell (sh .format) b ≡ some c
+      → ((u : List ℕ) (r : List Token) → ts ≡ word u ∷ r → length (cells ++ (c ∷ [])) < sh .characters) → Grown sh rows n (cells ++ (c ∷ [])) ts t
+      → (i : ℕ) → Turns (sequential·turn sh) (inside rows i n (plain cells)) (sign·joined b ts) t
   unfolding words·from sequential·turn
   sign-grown b c cells ts e room g i = sign-joined-turned b ts alone joins
     where
@@ -68,7 +71,9 @@ module _ (sh : Shape) (rows : List Taxon) (n : List ℕ) {t : Sequence} where
           record { turned = λ j. rw (chunk-byte (sh .format) Kind.Word word-symbolic b u j c cells e, grown-index sh rows i n j (word (b ∷ u)) (word u) (chunk (sh .format) (plain (cells ++ (c ∷ []))) (at j (word u)))) (on .turned j) }
 
   -- One sign more in a set, and a whole set.
-  sign-within : (b j : ℕ) (cells : List Cell) (k : Bracket) (o : ℕ) (set : List ℕ) (ts : List Token) → cell (sh .format) b ≡ some (state j) → (i : ℕ) → Turns (sequential·turn sh) (inside rows i n (within cells k o (insert j set))) ts t → Turns (sequential·turn sh) (inside rows i n (within cells k o set)) (sign·joined b ts) t
+  sign-within : (b j : ℕ) (cells : List Cell) (k : Bracket) (o : ℕ) (set : List ℕ) (ts : List Token) → cell (sh .format) b ≡ some (state j) → (i : ℕ)
+      → Turns (sequential·turn sh) (inside rows i n (within cells k o (insert j set))) ts t
+      → Turns (sequential·turn sh) (inside rows i n (within cells k o set)) (sign·joined b ts) t
   unfolding words·from sequential·turn row·grown
   sign-within b j cells k o set ts e i g = sign-joined-turned b ts alone joins
     where
@@ -90,26 +95,33 @@ wordy [] = false
 wordy (t ∷ r) = word? (t .kind)
 
 -- A word follows a cell only where another cell does.
-room-behind : (type : DataType) (symbols : List ℕ) (count : ℕ) (c : Cell) (r cells : List Cell) (ts : List Token) → length (cells ++ (c ∷ r)) ≡ count → (u : List ℕ) (q : List Token) → cells·tokens type symbols r (newline ∷ ts) ≡ word u ∷ q → length (cells ++ (c ∷ [])) < count
+room-behind : (type : DataType) (symbols : List ℕ) (count : ℕ) (c : Cell) (r cells : List Cell) (ts : List Token) → length (cells ++ (c ∷ r)) ≡ count
+    → (u : List ℕ) (q : List Token) → cells·tokens type symbols r (newline ∷ ts) ≡ word u ∷ q → length (cells ++ (c ∷ [])) < count
 unfolding cells·tokens wordy word?
 room-behind type symbols count c [] cells ts e u q p = absurd (false≢true (ap wordy p))
 room-behind type symbols count c (d ∷ r) cells ts e u q p = omega (arith, simp length-append at e, length-append cells (c ∷ []))
 
 module _ (sh : Shape) (type : DataType) (symbols : List ℕ) (gaps : Bool) (signs : Signs (sh .format) type symbols gaps) (rows : List Taxon) (n : List ℕ) {t : Sequence} where
-  set-within : (s : List ℕ) (cells : List Cell) (k : Bracket) (o : ℕ) (set : List ℕ) (ts : List Token) → rising (length symbols) s ≡ true → (i : ℕ) → Turns (sequential·turn sh) (inside rows i n (within cells k o (insert·all s set))) ts t → Turns (sequential·turn sh) (inside rows i n (within cells k o set)) (set·tokens symbols s ts) t
+  set-within : (s : List ℕ) (cells : List Cell) (k : Bracket) (o : ℕ) (set : List ℕ) (ts : List Token) → rising (length symbols) s ≡ true → (i : ℕ)
+      → Turns (sequential·turn sh) (inside rows i n (within cells k o (insert·all s set))) ts t
+      → Turns (sequential·turn sh) (inside rows i n (within cells k o set)) (set·tokens symbols s ts) t
   unfolding set·tokens insert·all
   set-within [] cells k o set ts h i g = g
   set-within (j ∷ s) cells k o set ts h i g =
       sign-within sh rows n (sign symbols j) j cells k o set (set·tokens symbols s ts) (signs .states j (rising-first (length symbols) j s h)) i
       (set-within s cells k o (insert j set) ts (rising-rest (length symbols) j s h) i (rw (insert-all-comm s j set) g))
 
-  closer-turned : (k : Bracket) (cells : List Cell) (o : ℕ) (s : List ℕ) (ts : List Token) → empty? s ≡ false → Grown sh rows n (cells ++ (set·cell k s ∷ [])) ts t → (i : ℕ) → Turns (sequential·turn sh) (inside rows i n (within cells k o s)) (mark (closer k) ∷ ts) t
+  closer-turned : (k : Bracket) (cells : List Cell) (o : ℕ) (s : List ℕ) (ts : List Token) → empty? s ≡ false
+      → Grown sh rows n (cells ++ (set·cell k s ∷ [])) ts t → (i : ℕ)
+      → Turns (sequential·turn sh) (inside rows i n (within cells k o s)) (mark (closer k) ∷ ts) t
   unfolding words·from sequential·turn chunk closer closed empty?
   closer-turned k cells o [] ts h g i = absurd (true≢false h)
   closer-turned brace cells o (j ∷ s) ts h g i = record { turned = λ m. g .grown i (suc m) (at m (mark 125)) }
   closer-turned parenthesis cells o (j ∷ s) ts h g i = record { turned = λ m. g .grown i (suc m) (at m (mark 41)) }
 
-  set-turned : (k : Bracket) (s : List ℕ) (cells : List Cell) (ts : List Token) → sound·set (length symbols) s ≡ true → Grown sh rows n (cells ++ (set·cell k s ∷ [])) ts t → (i : ℕ) → Turns (sequential·turn sh) (inside rows i n (plain cells)) (mark (opener k) ∷ set·tokens symbols s (mark (closer k) ∷ ts)) t
+  set-turned : (k : Bracket) (s : List ℕ) (cells : List Cell) (ts : List Token) → sound·set (length symbols) s ≡ true
+      → Grown sh rows n (cells ++ (set·cell k s ∷ [])) ts t → (i : ℕ)
+      → Turns (sequential·turn sh) (inside rows i n (plain cells)) (mark (opener k) ∷ set·tokens symbols s (mark (closer k) ∷ ts)) t
   unfolding words·from sequential·turn row·grown chunk opener sound·set
   set-turned k s cells ts h g i = go k inner
     where
@@ -121,11 +133,15 @@ module _ (sh : Shape) (type : DataType) (symbols : List ℕ) (gaps : Bool) (sign
           set-within s cells k o [] (mark (closer k) ∷ ts) rises i
           (rw (insert-rising (length symbols) s rises) (closer-turned k cells o s ts (not-true (empty? s) (and-left (not (empty? s)) (rising (length symbols) s) h)) g i))
 
-      go : (x : Bracket) → ((o : ℕ) → Turns (sequential·turn sh) (inside rows i n (within cells x o [])) (set·tokens symbols s (mark (closer k) ∷ ts)) t) → Turns (sequential·turn sh) (inside rows i n (plain cells)) (mark (opener x) ∷ set·tokens symbols s (mark (closer k) ∷ ts)) t
+      go : (x : Bracket)
+          → ((o : ℕ) → Turns (sequential·turn sh) (inside rows i n (within cells x o [])) (set·tokens symbols s (mark (closer k) ∷ ts)) t)
+          → Turns (sequential·turn sh) (inside rows i n (plain cells)) (mark (opener x) ∷ set·tokens symbols s (mark (closer k) ∷ ts)) t
       go brace r = record { turned = λ m. r m .turned (suc m) }
       go parenthesis r = record { turned = λ m. r m .turned (suc m) }
 
-  cell-turned : (c : Cell) (cells : List Cell) (ts : List Token) → sound·cell (length symbols) c ≡ true → (gap? c ≡ true → gaps ≡ true) → ((u : List ℕ) (r : List Token) → ts ≡ word u ∷ r → length (cells ++ (c ∷ [])) < sh .characters) → Grown sh rows n (cells ++ (c ∷ [])) ts t → (i : ℕ) → Turns (sequential·turn sh) (inside rows i n (plain cells)) (cell·tokens type symbols c ts) t
+  cell-turned : (c : Cell) (cells : List Cell) (ts : List Token) → sound·cell (length symbols) c ≡ true → (gap? c ≡ true → gaps ≡ true)
+      → ((u : List ℕ) (r : List Token) → ts ≡ word u ∷ r → length (cells ++ (c ∷ [])) < sh .characters) → Grown sh rows n (cells ++ (c ∷ [])) ts t
+      → (i : ℕ) → Turns (sequential·turn sh) (inside rows i n (plain cells)) (cell·tokens type symbols c ts) t
   unfolding cell·tokens sound·cell gap? opener closer set·cell
   cell-turned (state j) cells ts h p room g i = sign-grown sh rows n (sign symbols j) (state j) cells ts (signs .states j (ltb-true j (length symbols) h)) room g i
   cell-turned (uncertain s) cells ts h p room g i = set-turned brace s cells ts h g i

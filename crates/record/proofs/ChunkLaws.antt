@@ -44,7 +44,8 @@ module _ (f : Format) (k : Kind) (can : Symbolic k) (b : ℕ) (u : List ℕ) (i 
   unfolding words·from chunk symbols cells·of before
   chunk-byte c cells e = rw (can .no-brace, can .no-parenthesis, can .some-symbol, e) (go (cells·of f u))
     where
-      go : (o : Option (List Cell)) → then (need (before (some c) o) Refusal.CellSymbol i) (λ new. done (plain (cells ++ new))) ≡ then (need o Refusal.CellSymbol i) (λ new. done (plain ((cells ++ (c ∷ [])) ++ new)))
+      go : (o : Option (List Cell))
+          → then (need (before (some c) o) Refusal.CellSymbol i) (λ new. done (plain (cells ++ new))) ≡ then (need o Refusal.CellSymbol i) (λ new. done (plain ((cells ++ (c ∷ [])) ++ new)))
       go none = refl
       go (some cs) = ap (λ l. done (plain l)) (sym (append-assoc cells (c ∷ []) cs))
 
@@ -53,7 +54,8 @@ module _ (f : Format) (k : Kind) (can : Symbolic k) (b : ℕ) (u : List ℕ) (i 
   unfolding words·from chunk symbols cells·of before into·set only·states with·state insert·all
   set-byte j cells s o set e = rw (can .no-closer s, can .some-symbol, e) (go (cells·of f u))
     where
-      states : (p : Option (List ℕ)) → then (need (with·state j p) Refusal.StateSet i) (λ new. done (within cells s o (insert·all new set))) ≡ then (need p Refusal.StateSet i) (λ new. done (within cells s o (insert·all new (insert j set))))
+      states : (p : Option (List ℕ))
+          → then (need (with·state j p) Refusal.StateSet i) (λ new. done (within cells s o (insert·all new set))) ≡ then (need p Refusal.StateSet i) (λ new. done (within cells s o (insert·all new (insert j set))))
       states none = refl
       states (some new) = ap (λ l. done (within cells s o l)) (sym (insert-all-comm new j set))
 

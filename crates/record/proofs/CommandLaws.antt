@@ -55,7 +55,8 @@ unfolding words·from commands·from
 newline-read r = record { read = λ i. r .read (suc i) }
 
 -- One command, then the others.
-pub command-read : {s t : State} (h : Token) {ts rest : List Token} → line·end? (h .kind) ≡ false → mark? 59 (h .kind) ≡ false → Passes ts rest → ((i : ℕ) → (u : State) × (step s (command (at i h) (up·to·end (numbered (suc i) ts))) ≡ done u) × Reads u rest t) → Reads s (h ∷ ts) t
+pub command-read : {s t : State} (h : Token) {ts rest : List Token} → line·end? (h .kind) ≡ false → mark? 59 (h .kind) ≡ false → Passes ts rest
+    → ((i : ℕ) → (u : State) × (step s (command (at i h) (up·to·end (numbered (suc i) ts))) ≡ done u) × Reads u rest t) → Reads s (h ∷ ts) t
 unfolding words·from commands·from begun
 command-read {s} {t} h {ts} {rest} l m p next = record { read = go }
   where
@@ -78,7 +79,8 @@ module _ {S : Type 0} {turn : S → Numbered → Outcome S} {s : S} where
   unfolding words·from
   newline-turned r = record { turned = λ i. r .turned (suc i) }
 
-  pub token-turned : (w : Token) {t : S} {ts : List Token} → line·end? (w .kind) ≡ false → mark? 59 (w .kind) ≡ false → ((i : ℕ) → (u : S) × (turn s (at i w) ≡ done u) × Turns turn u ts t) → Turns turn s (w ∷ ts) t
+  pub token-turned : (w : Token) {t : S} {ts : List Token} → line·end? (w .kind) ≡ false → mark? 59 (w .kind) ≡ false
+      → ((i : ℕ) → (u : S) × (turn s (at i w) ≡ done u) × Turns turn u ts t) → Turns turn s (w ∷ ts) t
   unfolding words·from
   token-turned w {t} {ts} l m next = record { turned = go }
     where
@@ -86,7 +88,8 @@ module _ {S : Type 0} {turn : S → Numbered → Outcome S} {s : S} where
       go i = let (u, once, after) = next i in rw (m, l, once) (after .turned (suc i))
 
 -- A symbol in front of tokens is `+`, or a word alone, or joins the word that they begin with.
-joined-cases : (P : List Token → Type 0) (b : ℕ) (ts : List Token) → P (word (b ∷ []) ∷ ts) → ((u : List ℕ) (r : List Token) → ts ≡ word u ∷ r → P (word (b ∷ u) ∷ r)) → P (joined b ts)
+joined-cases : (P : List Token → Type 0) (b : ℕ) (ts : List Token) → P (word (b ∷ []) ∷ ts)
+    → ((u : List ℕ) (r : List Token) → ts ≡ word u ∷ r → P (word (b ∷ u) ∷ r)) → P (joined b ts)
 unfolding joined joined·kind
 joined-cases P b [] alone joins = alone
 joined-cases P b (w ∷ r) alone joins = go (w .kind) alone joins
@@ -100,7 +103,8 @@ joined-cases P b (w ∷ r) alone joins = go (w .kind) alone joins
     go Kind.OpenQuote a j = a
     go Kind.OpenComment a j = a
 
-pub sign-cases : (P : List Token → Type 0) (b : ℕ) (ts : List Token) → (b ≡ 43 → P (mark 43 ∷ ts)) → P (word (b ∷ []) ∷ ts) → ((u : List ℕ) (r : List Token) → ts ≡ word u ∷ r → P (word (b ∷ u) ∷ r)) → P (sign·joined b ts)
+pub sign-cases : (P : List Token → Type 0) (b : ℕ) (ts : List Token) → (b ≡ 43 → P (mark 43 ∷ ts)) → P (word (b ∷ []) ∷ ts)
+    → ((u : List ℕ) (r : List Token) → ts ≡ word u ∷ r → P (word (b ∷ u) ∷ r)) → P (sign·joined b ts)
 unfolding words·from sign·joined
 sign-cases P b ts plus alone joins =
     by-test (eqb b 43) (λ t. rw t (plus (eqb-true b 43 t))) (λ f. rw f (joined-cases P b ts alone joins))

@@ -24,7 +24,8 @@ declared d f l m = record { dimensions = d; format = f; taxa = none; labels = l;
 abbrev pub in·form : ℕ → Data → State
 in·form b d = record { phase = in·data b d; taxa = none; matrix = none; assumptions = false }
 
-pub begin-data-read : {t : State} {rest : List Token} → ((b : ℕ) → Reads (in·form b (declared none none [] none)) rest t) → Reads at·start (key "BEGIN" ∷ key "DATA" ∷ mark 59 ∷ rest) t
+pub begin-data-read : {t : State} {rest : List Token} → ((b : ℕ) → Reads (in·form b (declared none none [] none)) rest t)
+    → Reads at·start (key "BEGIN" ∷ key "DATA" ∷ mark 59 ∷ rest) t
 unfolding words·from at·start step outside? begin·words begin·block given in·phase no·data
 begin-data-read r =
     command-read (key "BEGIN") refl refl (there (key "DATA") refl here)
@@ -38,7 +39,8 @@ sizes n m = record { taxa = n; characters = m; new·taxa = false }
 abbrev size·tokens : List ℕ → List ℕ → List Token → List Token
 size·tokens u v rest = key "NTAX" ∷ mark 61 ∷ word u ∷ key "NCHAR" ∷ mark 61 ∷ word v ∷ mark 59 ∷ rest
 
-sizes-read : (n m : ℕ) (u v : List ℕ) (rest : List Token) → positive u ≡ suc n → positive v ≡ suc m → (i : ℕ) → dimensions (words·from i (size·tokens u v rest)) ≡ done (sizes (suc n) (suc m))
+sizes-read : (n m : ℕ) (u v : List ℕ) (rest : List Token) → positive u ≡ suc n → positive v ≡ suc m → (i : ℕ)
+    → dimensions (words·from i (size·tokens u v rest)) ≡ done (sizes (suc n) (suc m))
 unfolding words·from dimensions D.no·dimensions D.with·count D.count·option D.dimension·option D.dimension·value D.dimension·turn D.dimension·end
 sizes-read n m u v rest p q i = rw (p, q) refl
 
@@ -47,7 +49,9 @@ unfolding words·from
 sizes-passes u v rest =
     there (key "NTAX") refl (there (mark 61) refl (there (word u) refl (there (key "NCHAR") refl (there (mark 61) refl (there (word v) refl here)))))
 
-pub dimensions-read : {t : State} (b n m : ℕ) (u v : List ℕ) {rest : List Token} → positive u ≡ suc n → positive v ≡ suc m → Reads (in·form b (declared (some (sizes (suc n) (suc m))) none [] none)) rest t → Reads (in·form b (declared none none [] none)) (key "DIMENSIONS" ∷ size·tokens u v rest) t
+pub dimensions-read : {t : State} (b n m : ℕ) (u v : List ℕ) {rest : List Token} → positive u ≡ suc n → positive v ≡ suc m
+    → Reads (in·form b (declared (some (sizes (suc n) (suc m))) none [] none)) rest t
+    → Reads (in·form b (declared none none [] none)) (key "DIMENSIONS" ∷ size·tokens u v rest) t
 unfolding words·from step outside? block·step ends inner·step data·step data·command given with·dimensions in·phase
 dimensions-read b n m u v {rest} p q r =
     command-read (key "DIMENSIONS") refl refl (sizes-passes u v rest)

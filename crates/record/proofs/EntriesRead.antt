@@ -46,7 +46,11 @@ few-rest count c r few = and-right (leb (length (c .states)) count) (few·states
 
 module _ (count h : ℕ) (ws : List Numbered) where
   -- One entry, from where one may begin.
-  entry-read : (c : Character) (r : List Character) (p : List Labelled) (k : ℕ) (e : Entry) (ts : List Token) {result : List Labelled} → k ≡ suc (length p) → k ≤ largest → sound·labels (c ∷ r) ≡ true → few·states count (c ∷ r) ≡ true → ((w : Numbered) → entry·turn count (state·labels h ws) (p ++ replicate (suc (length r)) unlabelled) e w ≡ entry·begins (state·labels h ws) (p ++ replicate (suc (length r)) unlabelled) w) → ((ds : List Labelled) (f : Entry) → Ending count (state·labels h ws) ds f ((p ++ (labels·one c ∷ [])) ++ replicate (length r) unlabelled) → Labels count (state·labels h ws) ds f ts result) → Labels count (state·labels h ws) (p ++ replicate (suc (length r)) unlabelled) e (entry·tokens k c ts) result
+  entry-read : (c : Character) (r : List Character) (p : List Labelled) (k : ℕ) (e : Entry) (ts : List Token) {result : List Labelled}
+      → k ≡ suc (length p) → k ≤ largest → sound·labels (c ∷ r) ≡ true → few·states count (c ∷ r) ≡ true
+      → ((w : Numbered) → entry·turn count (state·labels h ws) (p ++ replicate (suc (length r)) unlabelled) e w ≡ entry·begins (state·labels h ws) (p ++ replicate (suc (length r)) unlabelled) w)
+      → ((ds : List Labelled) (f : Entry) → Ending count (state·labels h ws) ds f ((p ++ (labels·one c ∷ [])) ++ replicate (length r) unlabelled) → Labels count (state·labels h ws) ds f ts result)
+      → Labels count (state·labels h ws) (p ++ replicate (suc (length r)) unlabelled) e (entry·tokens k c ts) result
   unfolding entry·tokens unlabelled sound·labels few·states
   entry-read c r p k e ts place most sound few begins more =
       let cs : List Labelled = p ++ replicate (suc (length r)) unlabelled in
@@ -60,7 +64,10 @@ module _ (count h : ℕ) (ws : List Numbered) where
       (λ ds f b. more ds f (rw append-assoc b)))
 
   -- The entries behind another: a comma stands before each.
-  later-entries : (r : List Character) (p : List Labelled) (k : ℕ) (rest : List Token) → k ≡ suc (length p) → length p + length r ≤ largest → sound·labels r ≡ true → few·states count r ≡ true → (cs : List Labelled) (e : Entry) → Ending count (state·labels h ws) cs e (p ++ replicate (length r) unlabelled) → Labels count (state·labels h ws) cs e (entries·tokens false k r (mark 59 ∷ rest)) (p ++ labels·of r)
+  later-entries : (r : List Character) (p : List Labelled) (k : ℕ) (rest : List Token) → k ≡ suc (length p) → length p + length r ≤ largest
+      → sound·labels r ≡ true → few·states count r ≡ true → (cs : List Labelled) (e : Entry)
+      → Ending count (state·labels h ws) cs e (p ++ replicate (length r) unlabelled)
+      → Labels count (state·labels h ws) cs e (entries·tokens false k r (mark 59 ∷ rest)) (p ++ labels·of r)
   unfolding words·from entries·tokens comma·tokens labels·of L.at entry·turn
   later-entries [] p k rest place most sound few cs e b = record { given·labels = λ i. b .by-end }
   later-entries (c ∷ r) p k rest place most sound few cs e b =
@@ -78,7 +85,9 @@ module _ (count h : ℕ) (ws : List Numbered) where
       (λ f. rw f (more cs e (rw (no-label c f, append-assoc) b)))
 
   -- All entries; there is one.
-  first-entries : (r : List Character) (p : List Labelled) (k : ℕ) (rest : List Token) → k ≡ suc (length p) → length p + length r ≤ largest → sound·labels r ≡ true → few·states count r ≡ true → labelled r ≡ true → Labels count (state·labels h ws) (p ++ replicate (length r) unlabelled) L.first (entries·tokens true k r (mark 59 ∷ rest)) (p ++ labels·of r)
+  first-entries : (r : List Character) (p : List Labelled) (k : ℕ) (rest : List Token) → k ≡ suc (length p) → length p + length r ≤ largest
+      → sound·labels r ≡ true → few·states count r ≡ true → labelled r ≡ true
+      → Labels count (state·labels h ws) (p ++ replicate (length r) unlabelled) L.first (entries·tokens true k r (mark 59 ∷ rest)) (p ++ labels·of r)
   unfolding words·from entries·tokens comma·tokens labels·of labelled entry·turn
   first-entries [] p k rest place most sound few some-label = absurd (false≢true some-label)
   first-entries (c ∷ r) p k rest place most sound few some-label =
@@ -93,7 +102,9 @@ module _ (count h : ℕ) (ws : List Numbered) where
       (simp append-assoc at (first-entries r (p ++ (unlabelled ∷ [])) (suc k) rest (one unlabelled) (all unlabelled) (labels-rest c r sound) (few-rest count c r few) (rw f at some-label))))
 
 -- The whole command.
-pub entries-read : (count h i : ℕ) (cs : List Character) (rest : List Token) → length cs ≤ largest → sound·labels cs ≡ true → few·states count cs ≡ true → labelled cs ≡ true → L.apply·labels count (length cs) (state·labels h (words·from i (entries·tokens true 1 cs (mark 59 ∷ rest))) ∷ []) ≡ done (labels·of cs)
+pub entries-read : (count h i : ℕ) (cs : List Character) (rest : List Token) → length cs ≤ largest → sound·labels cs ≡ true
+    → few·states count cs ≡ true → labelled cs ≡ true
+    → L.apply·labels count (length cs) (state·labels h (words·from i (entries·tokens true 1 cs (mark 59 ∷ rest))) ∷ []) ≡ done (labels·of cs)
 unfolding words·from L.apply·labels L.label·command L.label·entries
 entries-read count h i cs rest most sound few some-label =
     rw (first-entries count h (words·from i (entries·tokens true 1 cs (mark 59 ∷ rest))) cs [] 1 rest refl (omega arith) sound few some-label .given·labels i) refl

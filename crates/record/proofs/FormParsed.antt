@@ -35,7 +35,10 @@ use mathlib.Core.Path.{_≡_, refl, _∙_}
 use native.Mathlib.Omega.{arith}
 
 -- CHARSTATELABELS, if there is a label: the command waits for MATRIX.
-labels-read : (b count : ℕ) (d : Dimensions) (f : Format) (cs : List Character) {t : State} {rest : List Token} → length cs ≤ largest → sound·labels cs ≡ true → few·states count cs ≡ true → ((ls : List LabelCommand) → apply·labels count (length cs) ls ≡ done (labels·of cs) → Reads (in·form b (declared (some d) (some f) ls none)) rest t) → Reads (in·form b (declared (some d) (some f) [] none)) (labels·tokens cs rest) t
+labels-read : (b count : ℕ) (d : Dimensions) (f : Format) (cs : List Character) {t : State} {rest : List Token} → length cs ≤ largest
+    → sound·labels cs ≡ true → few·states count cs ≡ true
+    → ((ls : List LabelCommand) → apply·labels count (length cs) ls ≡ done (labels·of cs) → Reads (in·form b (declared (some d) (some f) ls none)) rest t)
+    → Reads (in·form b (declared (some d) (some f) [] none)) (labels·tokens cs rest) t
 unfolding words·from labels·tokens step outside? block·step ends inner·step data·step data·command labelling labelled·by label·step given in·phase
 labels-read b count d f cs {rest = rest} most sound few more =
     by-test (labelled cs)
@@ -46,12 +49,14 @@ labels-read b count d f cs {rest = rest} most sound few more =
     (in·form b (declared (some d) (some f) ls none), refl, newline-read (more ls (entries-read count i (suc i) cs (newline ∷ rest) most sound few t))))))
     (λ f. rw f (more [] (nothing-labelled count cs f)))
 
-end-data-read : (b : ℕ) (d : Dimensions) (f : Format) (ls : List LabelCommand) (r : Reading) {t : State} {rest : List Token} → Reads (behind·blocks r false) rest t → Reads (in·form b (declared (some d) (some f) ls (some r))) (key "END" ∷ mark 59 ∷ rest) t
+end-data-read : (b : ℕ) (d : Dimensions) (f : Format) (ls : List LabelCommand) (r : Reading) {t : State} {rest : List Token}
+    → Reads (behind·blocks r false) rest t → Reads (in·form b (declared (some d) (some f) ls (some r))) (key "END" ∷ mark 59 ∷ rest) t
 unfolding words·from step outside? block·step ends end·block data·end empty?
 end-data-read b d f ls r more = command-read (key "END") refl refl here (λ i. (behind·blocks r false, refl, more))
 
 -- FORMAT's tokens begin with its word.
-format-words : (t : DataType) (symbols : List ℕ) (gaps : Bool) (behind : List Token) → format·tokens t symbols gaps behind ≡ key "FORMAT" ∷ format·words t symbols gaps (newline ∷ behind)
+format-words : (t : DataType) (symbols : List ℕ) (gaps : Bool) (behind : List Token)
+    → format·tokens t symbols gaps behind ≡ key "FORMAT" ∷ format·words t symbols gaps (newline ∷ behind)
 unfolding format·tokens format·words
 format-words DataType.Standard symbols gaps behind = refl
 format-words DataType.Dna symbols gaps behind = refl

@@ -105,31 +105,37 @@ turn·of : Formatting → Token → Outcome Formatting
 unfolding words·from given string? F.options F.no·options F.with·type F.with·symbols F.with·missing F.with·gap F.with·case F.once F.format·option F.single·symbol F.symbol·value F.format·value F.format·turn
 turn·of s t = format·turn s (at 0 t)
 
-symbols-turned : (m : ℕ) (g : Option ℕ) (symbols : List ℕ) {rest : List Token} → all·valid symbols ≡ true → Turns format·turn (option (standard·options none m g)) (key "SYMBOLS" ∷ mark 61 ∷ string symbols ∷ mark 59 ∷ rest) (option (standard·options (some symbols) m g))
+symbols-turned : (m : ℕ) (g : Option ℕ) (symbols : List ℕ) {rest : List Token} → all·valid symbols ≡ true
+    → Turns format·turn (option (standard·options none m g)) (key "SYMBOLS" ∷ mark 61 ∷ string symbols ∷ mark 59 ∷ rest) (option (standard·options (some symbols) m g))
 unfolding turn·of
 symbols-turned m g symbols v = record { turned = λ i. rw (unspaced-valid symbols v) refl }
 
-gap-turned : {t : Formatting} (m g : ℕ) (gaps : Bool) {ts : List Token} → (gaps ≡ true → valid·symbol g ≡ true) → Turns format·turn (option (standard·options none m (gap·of g gaps))) ts t → Turns format·turn (option (standard·options none m none)) (gap·tokens g gaps ts) t
+gap-turned : {t : Formatting} (m g : ℕ) (gaps : Bool) {ts : List Token} → (gaps ≡ true → valid·symbol g ≡ true)
+    → Turns format·turn (option (standard·options none m (gap·of g gaps))) ts t
+    → Turns format·turn (option (standard·options none m none)) (gap·tokens g gaps ts) t
 unfolding turn·of gap·tokens gap·of
 gap-turned m g false v r = r
 gap-turned {t} m g true {ts} v r =
     let sign : (j : ℕ) → Turns format·turn (value (standard·options none m none) gap-key j) (sign·token g ∷ ts) t = λ j. sign-turned g (λ i k. rw (v refl) refl) r in
     record { turned = λ i. sign i .turned (suc (suc i)) }
 
-missing-turned : {t : Formatting} (m : ℕ) {ts : List Token} → valid·symbol m ≡ true → Turns format·turn (option (standard·options none m none)) ts t → Turns format·turn (option no·options) (key "DATATYPE" ∷ mark 61 ∷ key "STANDARD" ∷ key "RESPECTCASE" ∷ key "MISSING" ∷ mark 61 ∷ sign·token m ∷ ts) t
+missing-turned : {t : Formatting} (m : ℕ) {ts : List Token} → valid·symbol m ≡ true → Turns format·turn (option (standard·options none m none)) ts t
+    → Turns format·turn (option no·options) (key "DATATYPE" ∷ mark 61 ∷ key "STANDARD" ∷ key "RESPECTCASE" ∷ key "MISSING" ∷ mark 61 ∷ sign·token m ∷ ts) t
 unfolding turn·of
 missing-turned {t} m {ts} v r =
     let sign : (j : ℕ) → Turns format·turn (value before·missing missing-key j) (sign·token m ∷ ts) t = λ j. sign-turned m (λ i k. rw v refl) r in
     record { turned = λ i. sign (suc (suc (suc (suc i)))) .turned (suc (suc (suc (suc (suc (suc i)))))) }
 
 -- The symbols may stand together.
-signs-distinct : (symbols : List ℕ) (gaps : Bool) → sound·symbols DataType.Standard symbols gaps ≡ true → distinct (F.signs (form·of DataType.Standard symbols gaps) (form·of DataType.Standard symbols gaps .gap)) ≡ true
+signs-distinct : (symbols : List ℕ) (gaps : Bool) → sound·symbols DataType.Standard symbols gaps ≡ true
+    → distinct (F.signs (form·of DataType.Standard symbols gaps) (form·of DataType.Standard symbols gaps .gap)) ≡ true
 unfolding F.signs distinct form·of gap·of
 signs-distinct symbols true s =
     rw (gap-free symbols s, missing-free symbols true s, symbols-distinct symbols true s) refl
 signs-distinct symbols false s = rw (missing-free symbols false s, symbols-distinct symbols false s) refl
 
-signs-good : (symbols : List ℕ) (gaps : Bool) → sound·symbols DataType.Standard symbols gaps ≡ true → (h : ℕ) → F.judged h (standard·options (some symbols) (missing·sign DataType.Standard symbols) (gap·of (gap·sign DataType.Standard symbols) gaps)) ≡ done (form·of DataType.Standard symbols gaps)
+signs-good : (symbols : List ℕ) (gaps : Bool) → sound·symbols DataType.Standard symbols gaps ≡ true → (h : ℕ)
+    → F.judged h (standard·options (some symbols) (missing·sign DataType.Standard symbols) (gap·of (gap·sign DataType.Standard symbols) gaps)) ≡ done (form·of DataType.Standard symbols gaps)
 unfolding F.judged F.format·of F.settled F.good·symbols F.dna·options pick form·of
 signs-good symbols gaps s h =
     let f : Format = form·of DataType.Standard symbols gaps in
@@ -151,7 +157,8 @@ dna-read : (rest : List Token) (gaps : Bool) (h i : ℕ) → F.format h (words·
 unfolding turn·of format·words form·of run·text
 dna-read rest gaps h i = refl
 
-pub format-words-read : (t : DataType) (symbols : List ℕ) (gaps : Bool) (rest : List Token) → sound·symbols t symbols gaps ≡ true → (h i : ℕ) → F.format h (words·from i (format·words t symbols gaps rest)) ≡ done (form·of t symbols gaps)
+pub format-words-read : (t : DataType) (symbols : List ℕ) (gaps : Bool) (rest : List Token) → sound·symbols t symbols gaps ≡ true → (h i : ℕ)
+    → F.format h (words·from i (format·words t symbols gaps rest)) ≡ done (form·of t symbols gaps)
 unfolding words·from F.format F.format·end format·words sound·symbols
 format-words-read DataType.Standard symbols gaps rest s h i =
     let m : ℕ = missing·sign DataType.Standard symbols in
@@ -184,7 +191,9 @@ format-passes DataType.Standard symbols gaps rest =
 format-passes DataType.Dna symbols gaps rest =
     there (key "DATATYPE") refl (there (mark 61) refl (there (key "DNA") refl (there (key "MISSING") refl (there (mark 61) refl (there (key "?") refl (there (key "GAP") refl (there (mark 61) refl (there (key "-") refl here))))))))
 
-pub format-read : {t : State} (b : ℕ) (d : Dimensions) (type : DataType) (symbols : List ℕ) (gaps : Bool) {rest : List Token} → sound·symbols type symbols gaps ≡ true → Reads (in·form b (declared (some d) (some (form·of type symbols gaps)) [] none)) rest t → Reads (in·form b (declared (some d) none [] none)) (key "FORMAT" ∷ format·words type symbols gaps rest) t
+pub format-read : {t : State} (b : ℕ) (d : Dimensions) (type : DataType) (symbols : List ℕ) (gaps : Bool) {rest : List Token}
+    → sound·symbols type symbols gaps ≡ true → Reads (in·form b (declared (some d) (some (form·of type symbols gaps)) [] none)) rest t
+    → Reads (in·form b (declared (some d) none [] none)) (key "FORMAT" ∷ format·words type symbols gaps rest) t
 unfolding words·from step outside? block·step ends inner·step data·step data·command given with·format in·phase
 format-read b d type symbols gaps {rest} s r =
     command-read (key "FORMAT") refl refl (format-passes type symbols gaps rest)

@@ -37,7 +37,8 @@ labels·of (c ∷ r) = record { label = c .label; states = states·given (c .sta
 
 -- From a state the words up to `;` give these labels.
 pub record Labels (count : ℕ) (c : LabelCommand) (cs : List Labelled) (e : Entry) (ts : List Token) (result : List Labelled) : Type 0 where
-  pub given·labels : (i : ℕ) → then (fold (λ x w. entry·turn count c (x .characters) (x .entry) w) (L.at cs e) (words (up·to·end (numbered i ts)))) (λ x. entry·end count c (x .characters) (x .entry)) ≡ done result
+  pub given·labels : (i : ℕ)
+      → then (fold (λ x w. entry·turn count c (x .characters) (x .entry) w) (L.at cs e) (words (up·to·end (numbered i ts)))) (λ x. entry·end count c (x .characters) (x .entry)) ≡ done result
 
 -- An entry that a comma or the end turns into these labels.
 pub record Ending (count : ℕ) (c : LabelCommand) (cs : List Labelled) (e : Entry) (ds : List Labelled) : Type 0 where
@@ -67,13 +68,18 @@ abbrev pub state·labels : ℕ → List Numbered → LabelCommand
 state·labels h ws = record { what = charstatelabels; head = h; words = ws }
 
 module _ (count h : ℕ) (ws : List Numbered) {result : List Labelled} where
-  pub number-labels : (k : ℕ) (cs : List Labelled) (e : Entry) (ts : List Token) → ((w : Numbered) → entry·turn count (state·labels h ws) cs e w ≡ entry·begins (state·labels h ws) cs w) → 1 ≤ k → k ≤ length cs → k ≤ largest → ((i : ℕ) → Labels count (state·labels h ws) cs (L.numbered k i) ts result) → Labels count (state·labels h ws) cs e (word (decimal k) ∷ ts) result
+  pub number-labels : (k : ℕ) (cs : List Labelled) (e : Entry) (ts : List Token)
+      → ((w : Numbered) → entry·turn count (state·labels h ws) cs e w ≡ entry·begins (state·labels h ws) cs w) → 1 ≤ k → k ≤ length cs → k ≤ largest
+      → ((i : ℕ) → Labels count (state·labels h ws) cs (L.numbered k i) ts result)
+      → Labels count (state·labels h ws) cs e (word (decimal k) ∷ ts) result
   unfolding words·from L.at entry·begins L.entry·number
   number-labels k cs e ts begins one most fits r =
       record { given·labels = λ i. rw (begins (at i (word (decimal k))), positive-decimal k one fits, le-leb 1 k one, le-leb k (length cs) most) (r i .given·labels (suc i)) }
 
   -- State labels, behind `/`.
-  each-labels : (k i : ℕ) (cs : List Labelled) (s t : List (List ℕ)) (ts : List Token) → sound·names s ≡ true → Labels count (state·labels h ws) cs (L.states k i (t ++ s)) ts result → Labels count (state·labels h ws) cs (L.states k i t) (each·tokens s ts) result
+  each-labels : (k i : ℕ) (cs : List Labelled) (s t : List (List ℕ)) (ts : List Token) → sound·names s ≡ true
+      → Labels count (state·labels h ws) cs (L.states k i (t ++ s)) ts result
+      → Labels count (state·labels h ws) cs (L.states k i t) (each·tokens s ts) result
   unfolding turn·of each·tokens sound·names
   each-labels k i cs [] t ts n r = rw append-nil at r
   each-labels k i cs (a ∷ s) t ts n r =
@@ -111,7 +117,10 @@ filled p l s q = p ++ (record { label = l; states = states·given s } ∷ q)
 
 module _ (count h : ℕ) (ws : List Numbered) (p : List Labelled) (q : List Labelled) (k : ℕ) (place : k ≡ suc (length p)) {result : List Labelled} where
   -- An entry's state labels, if any, and what is behind it.
-  states-labels : (l : List ℕ) (s : List (List ℕ)) (i : ℕ) (e : Entry) (ts : List Token) → Behind count (state·labels h ws) (front p l q) k i e → sound·names s ≡ true → leb (length s) count ≡ true → ((ds : List Labelled) (f : Entry) → Ending count (state·labels h ws) ds f (filled p l s q) → Labels count (state·labels h ws) ds f ts result) → Labels count (state·labels h ws) (front p l q) e (states·tokens s ts) result
+  states-labels : (l : List ℕ) (s : List (List ℕ)) (i : ℕ) (e : Entry) (ts : List Token) → Behind count (state·labels h ws) (front p l q) k i e
+      → sound·names s ≡ true → leb (length s) count ≡ true
+      → ((ds : List Labelled) (f : Entry) → Ending count (state·labels h ws) ds f (filled p l s q) → Labels count (state·labels h ws) ds f ts result)
+      → Labels count (state·labels h ws) (front p l q) e (states·tokens s ts) result
   unfolding words·from states·tokens states·given begin·states L.at given
   states-labels l [] i e ts b n few r = r (front p l q) e (b .ending)
   states-labels l (a ∷ s) i e ts b n few r =
@@ -124,7 +133,10 @@ module _ (count h : ℕ) (ws : List Numbered) (p : List Labelled) (q : List Labe
       record { given·labels = λ j. rw (b .slash j, character-here p (record { label = l; states = none }) q k place) (all .given·labels (suc j)) }
 
   -- An entry behind its number.
-  pub entry-labels : (l : List ℕ) (s : List (List ℕ)) (i : ℕ) (ts : List Token) → sound·label l ≡ true → sound·names s ≡ true → leb (length s) count ≡ true → ((ds : List Labelled) (f : Entry) → Ending count (state·labels h ws) ds f (filled p l s q) → Labels count (state·labels h ws) ds f ts result) → Labels count (state·labels h ws) (front p [] q) (L.numbered k i) (label·tokens l (states·tokens s ts)) result
+  pub entry-labels : (l : List ℕ) (s : List (List ℕ)) (i : ℕ) (ts : List Token) → sound·label l ≡ true → sound·names s ≡ true
+      → leb (length s) count ≡ true
+      → ((ds : List Labelled) (f : Entry) → Ending count (state·labels h ws) ds f (filled p l s q) → Labels count (state·labels h ws) ds f ts result)
+      → Labels count (state·labels h ws) (front p [] q) (L.numbered k i) (label·tokens l (states·tokens s ts)) result
   unfolding label·tokens sound·label turn·of
   entry-labels [] s i ts w n few r = states-labels [] s i (L.numbered k i) ts (behind-number count (state·labels h ws) (front p [] q) k i) n few r
   entry-labels (b ∷ l) s i ts w n few r =

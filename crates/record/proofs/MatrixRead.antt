@@ -89,7 +89,8 @@ module _ (r : Reading) (s : Sound r) where
       pick-second (written·format r .interleave) (interleaved (shape r i) raw) (sequential (shape r i) (words raw)) (form-sequential (r .symbols) (gap·in (r .taxa)) (r .data·type))
       ∙ rw (all .turned j, eqb-same) refl
 
-  matrix-value : (i j : ℕ) (rest : List Token) (ls : List LabelCommand) → Labelled·by r ls → matrix (with·labels r ls none) (at i (key "MATRIX")) (up·to·end (numbered j (matrix·words r rest))) ≡ done (with·characters r (untyped (r .characters)))
+  matrix-value : (i j : ℕ) (rest : List Token) (ls : List LabelCommand) → Labelled·by r ls
+      → matrix (with·labels r ls none) (at i (key "MATRIX")) (up·to·end (numbered j (matrix·words r rest))) ≡ done (with·characters r (untyped (r .characters)))
   unfolding words·from matrix matrix·shape matrix·reading declared·count agrees in·order
   matrix-value i j rest ls labels =
       let (n, taxa) = some-length (r .taxa) (s .some·taxon) in
@@ -97,7 +98,9 @@ module _ (r : Reading) (s : Sound r) where
       rw (ne-eqb (length (r .characters)) 0 (λ e. omega (arith, some-cell)), ne-eqb (length (r .taxa)) 0 (λ e. omega arith), rows-read i j rest, form-symbols (r .symbols) (gap·in (r .taxa)) (r .data·type), labels, form-type (r .symbols) (gap·in (r .taxa)) (r .data·type))
       refl
 
-  pub matrix-read : (b : ℕ) (ls : List LabelCommand) {t : State} {rest : List Token} → Labelled·by r ls → Reads (in·form b (with·labels r ls (some (with·characters r (untyped (r .characters)))))) rest t → Reads (in·form b (with·labels r ls none)) (key "MATRIX" ∷ matrix·words r rest) t
+  pub matrix-read : (b : ℕ) (ls : List LabelCommand) {t : State} {rest : List Token} → Labelled·by r ls
+      → Reads (in·form b (with·labels r ls (some (with·characters r (untyped (r .characters)))))) rest t
+      → Reads (in·form b (with·labels r ls none)) (key "MATRIX" ∷ matrix·words r rest) t
   unfolding words·from step outside? block·step ends inner·step data·step data·command given with·matrix in·phase
   matrix-read b ls {rest = rest} labels more =
       command-read (key "MATRIX") refl refl (there newline refl (rows-passes (r .data·type) (r .symbols) (r .taxa) here))

@@ -64,7 +64,10 @@ new-name n (m ∷ l) r h =
     or-both (alike-sym n m ∙ known-later m n l r later) (new-name n l r (and-right (not (known m (l ++ (n ∷ r)))) (names·differ (l ++ (n ∷ r))) h))
 
 module _ (sh : Shape) (type : DataType) (symbols : List ℕ) (gaps : Bool) (signs : Signs (sh .format) type symbols gaps) (some-cell : 0 < sh .characters) where
-  pub rows-turned : (xs rows : List Taxon) (rest : List Token) → sound·rows (length symbols) xs ≡ true → (gap·in xs ≡ true → gaps ≡ true) → all·long (sh .characters) xs ≡ true → sound·names (names xs) ≡ true → names·differ (names (rows ++ xs)) ≡ true → length (rows ++ xs) ≡ sh .taxa → Turns (sequential·turn sh) (between rows) (rows·tokens type symbols xs (mark 59 ∷ rest)) (between (rows ++ xs))
+  pub rows-turned : (xs rows : List Taxon) (rest : List Token) → sound·rows (length symbols) xs ≡ true → (gap·in xs ≡ true → gaps ≡ true)
+      → all·long (sh .characters) xs ≡ true → sound·names (names xs) ≡ true → names·differ (names (rows ++ xs)) ≡ true
+      → length (rows ++ xs) ≡ sh .taxa
+      → Turns (sequential·turn sh) (between rows) (rows·tokens type symbols xs (mark 59 ∷ rest)) (between (rows ++ xs))
   unfolding words·from rows·tokens sequential·turn row·begins sound·rows gap·in all·long sound·names names
   rows-turned [] rows rest sound gapped long named unlike count = rw append-nil end-turned
   rows-turned (x ∷ xs) rows rest sound gapped long named unlike count =

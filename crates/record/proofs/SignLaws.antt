@@ -35,7 +35,8 @@ getD-among [] i h = absurd (omega arith)
 getD-among (a ∷ l) zero h = rw eqb-same refl
 getD-among (a ∷ l) (suc i) h = by-test (eqb (getD l i 0) a) (λ t. rw t refl) (λ f. rw f (getD-among l i (omega arith)))
 
-find-sign : (f : Format) → f .respect·case ≡ true → (symbols : List ℕ) (k i : ℕ) → distinct symbols ≡ true → i < length symbols → find·symbol f (getD symbols i 0) k symbols ≡ some (k + i)
+find-sign : (f : Format) → f .respect·case ≡ true → (symbols : List ℕ) (k i : ℕ) → distinct symbols ≡ true → i < length symbols
+    → find·symbol f (getD symbols i 0) k symbols ≡ some (k + i)
 unfolding find·symbol distinct pick
 find-sign f c [] k i d h = absurd (omega arith)
 find-sign f c (s ∷ r) k zero d h = rw (equal-eqb f c s s, eqb-same s) (ap some (omega arith))
@@ -45,7 +46,8 @@ find-sign f c (s ∷ r) k (suc i) d h =
     (ap some (omega arith))
 
 -- STANDARD: missing and gap are no states, and are tried first.
-past-gap : (symbols : List ℕ) (gaps : Bool) → sound·symbols DataType.Standard symbols gaps ≡ true → (b : ℕ) → among b symbols ≡ true → gap·or (form·of DataType.Standard symbols gaps) (gap·of (gap·sign DataType.Standard symbols) gaps) b ≡ state·cell (state·of (form·of DataType.Standard symbols gaps) b)
+past-gap : (symbols : List ℕ) (gaps : Bool) → sound·symbols DataType.Standard symbols gaps ≡ true → (b : ℕ) → among b symbols ≡ true
+    → gap·or (form·of DataType.Standard symbols gaps) (gap·of (gap·sign DataType.Standard symbols) gaps) b ≡ state·cell (state·of (form·of DataType.Standard symbols gaps) b)
 unfolding gap·or gap·of state·or·code form·of pick among
 past-gap symbols false s b h = refl
 past-gap symbols true s b h =
@@ -53,7 +55,8 @@ past-gap symbols true s b h =
     let new : among g symbols ≡ false = or-right (eqb g (missing·sign DataType.Standard symbols)) (among g symbols) (gap-free symbols s) in
     rw (equal-eqb (form·of DataType.Standard symbols true) refl g b, eqb-sym g b, among-differ g b symbols new h) refl
 
-state-standard : (symbols : List ℕ) (gaps : Bool) → sound·symbols DataType.Standard symbols gaps ≡ true → (i : ℕ) → i < length symbols → cell (form·of DataType.Standard symbols gaps) (sign symbols i) ≡ some (state i)
+state-standard : (symbols : List ℕ) (gaps : Bool) → sound·symbols DataType.Standard symbols gaps ≡ true → (i : ℕ) → i < length symbols
+    → cell (form·of DataType.Standard symbols gaps) (sign symbols i) ≡ some (state i)
 unfolding cell form·of pick state·of state·cell sign
 state-standard symbols gaps s i h =
     let f : Format = form·of DataType.Standard symbols gaps in
@@ -68,7 +71,8 @@ missing-standard symbols gaps =
     let m : ℕ = missing·sign DataType.Standard symbols in
     rw (equal-eqb (form·of DataType.Standard symbols gaps) refl m m, eqb-same m) refl
 
-gap-standard : (symbols : List ℕ) (gaps : Bool) → sound·symbols DataType.Standard symbols gaps ≡ true → gaps ≡ true → cell (form·of DataType.Standard symbols gaps) (gap·sign DataType.Standard symbols) ≡ some gap
+gap-standard : (symbols : List ℕ) (gaps : Bool) → sound·symbols DataType.Standard symbols gaps ≡ true → gaps ≡ true
+    → cell (form·of DataType.Standard symbols gaps) (gap·sign DataType.Standard symbols) ≡ some gap
 unfolding cell gap·or gap·of form·of pick among
 gap-standard symbols false s e = absurd (false≢true e)
 gap-standard symbols true s e =

@@ -68,7 +68,8 @@ unfolding words·from ordering order·word
 order-read CharacterOrdering.Ordered i = refl
 order-read CharacterOrdering.Unordered i = refl
 
-types-turned : (t : Typeset) (cs : List Character) (ts : Types) (rest : List Token) → Turns (typeset·turn t) (T.types ts none) (types·tokens cs (mark 59 ∷ rest)) (T.types (ts ++ types·of cs) none)
+types-turned : (t : Typeset) (cs : List Character) (ts : Types) (rest : List Token)
+    → Turns (typeset·turn t) (T.types ts none) (types·tokens cs (mark 59 ∷ rest)) (T.types (ts ++ types·of cs) none)
 unfolding words·from types·tokens types·of typeset·turn T.vector·word
 types-turned t [] ts rest = rw append-nil end-turned
 types-turned t (c ∷ r) ts rest =
@@ -100,7 +101,8 @@ unfolding words·from T.vector·end types·of empty?
 vector-whole t [] h e = absurd (true≢false h)
 vector-whole t (c ∷ r) h e = rw (eq-eqb (suc (length (types·of r))) (t .characters) (ap suc (types-length r) ∙ sym e)) refl
 
-typeset-read : (t : Typeset) (cs : List Character) (rest : List Token) (i : ℕ) → empty? cs ≡ false → t .characters ≡ length cs → typeset t (words·from i (typeset·words cs rest)) ≡ done (types·of cs)
+typeset-read : (t : Typeset) (cs : List Character) (rest : List Token) (i : ℕ) → empty? cs ≡ false → t .characters ≡ length cs
+    → typeset t (words·from i (typeset·words cs rest)) ≡ done (types·of cs)
 unfolding words·from typeset T.typeset·end
 typeset-read t cs rest i h e = rw (typeset-turned t cs rest .turned i) (vector-whole t cs h e)
 
@@ -114,11 +116,14 @@ behind·blocks r b = record { phase = outside; taxa = none; matrix = some r; ass
 abbrev in·types : ℕ → Reading → Option Types → State
 in·types b r set = record { phase = in·assumptions b r none set; taxa = none; matrix = some r; assumptions = false }
 
-begin-read : (u : Reading) {t : State} {rest : List Token} → ((b : ℕ) → Reads (in·types b u none) rest t) → Reads (behind·blocks u false) (key "BEGIN" ∷ key "ASSUMPTIONS" ∷ mark 59 ∷ rest) t
+begin-read : (u : Reading) {t : State} {rest : List Token} → ((b : ℕ) → Reads (in·types b u none) rest t)
+    → Reads (behind·blocks u false) (key "BEGIN" ∷ key "ASSUMPTIONS" ∷ mark 59 ∷ rest) t
 unfolding words·from step outside? begin·words begin·block begin·assumptions in·phase
 begin-read u r = command-read (key "BEGIN") refl refl (there (key "ASSUMPTIONS") refl here) (λ i. (in·types (suc i) u none, refl, r (suc i)))
 
-types-read : (b : ℕ) (r : Reading) (cs : List Character) {t : State} {rest : List Token} → empty? cs ≡ false → Reads (in·types b (with·characters r (untyped cs)) (some (types·of cs))) rest t → Reads (in·types b (with·characters r (untyped cs)) none) (key "TYPESET" ∷ typeset·words cs rest) t
+types-read : (b : ℕ) (r : Reading) (cs : List Character) {t : State} {rest : List Token} → empty? cs ≡ false
+    → Reads (in·types b (with·characters r (untyped cs)) (some (types·of cs))) rest t
+    → Reads (in·types b (with·characters r (untyped cs)) none) (key "TYPESET" ∷ typeset·words cs rest) t
 unfolding words·from step outside? block·step ends inner·step assumption·step given in·phase
 types-read b r cs {rest = rest} h more =
     command-read (key "TYPESET") refl refl (typeset-passes cs rest)
@@ -128,11 +133,13 @@ types-read b r cs {rest = rest} h more =
       more,
     ))
 
-end-read : (b : ℕ) (r : Reading) {t : State} {rest : List Token} → Reads (behind·blocks r true) rest t → Reads (in·types b (with·characters r (untyped (r .characters))) (some (types·of (r .characters)))) (key "END" ∷ mark 59 ∷ rest) t
+end-read : (b : ℕ) (r : Reading) {t : State} {rest : List Token} → Reads (behind·blocks r true) rest t
+    → Reads (in·types b (with·characters r (untyped (r .characters))) (some (types·of (r .characters)))) (key "END" ∷ mark 59 ∷ rest) t
 unfolding words·from step outside? block·step ends end·block with·types empty?
 end-read b r more = command-read (key "END") refl refl here (λ i. (behind·blocks r true, rw (typed-back (r .characters)) refl, more))
 
-pub assumptions-read : (r : Reading) → empty? (r .characters) ≡ false → Reads (behind·blocks (with·characters r (untyped (r .characters))) false) (assumptions·tokens (r .characters)) (behind·blocks r (has·ordered (r .characters)))
+pub assumptions-read : (r : Reading) → empty? (r .characters) ≡ false
+    → Reads (behind·blocks (with·characters r (untyped (r .characters))) false) (assumptions·tokens (r .characters)) (behind·blocks r (has·ordered (r .characters)))
 unfolding words·from assumptions·tokens
 assumptions-read r h =
     by-test (has·ordered (r .characters))
