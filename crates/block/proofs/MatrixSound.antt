@@ -5,13 +5,13 @@ use Rattle.block.proofs.ChunkSound.{Fine}
 use Rattle.block.proofs.CommandWords.{all-words}
 use Rattle.block.proofs.DimensionsFew.{Few}
 use Rattle.block.proofs.FormatSound.{Good, default-good}
-use Rattle.block.proofs.LabelsSound.{States, Given, Labels, CleanLabels, labels-labelled}
+use Rattle.block.proofs.LabelsSound.{States, Labels, Of·words, labels-labelled}
 use Rattle.block.proofs.MatrixParts.{rows-keep, matrix-parts}
-use Rattle.block.proofs.NamesSound.{Clean, Named, Names, Sound·name, all-sound}
-use Rattle.block.proofs.OutcomeLaws.{pick-either, All, Opt}
+use Rattle.block.proofs.NamesSound.{Named, Names, Sound·name, all-sound}
+use Rattle.block.proofs.OutcomeLaws.{pick-either, All, all-append, Opt}
 use Rattle.block.proofs.PagesSound.{interleaved-matrix}
 use Rattle.block.proofs.RowsSound.{Whole, length-names, Matrix, sequential-matrix}
-use Rattle.block.proofs.SoundParts.{sound-parts}
+use Rattle.block.proofs.SoundParts.{labels-names, sound-parts}
 use Rattle.block.specs.Blocks.{Data, declared·count, agrees, unordered, rows, matrix, orderable}
 use Rattle.block.specs.Cell.{Cell}
 use Rattle.block.specs.Commands.{words}
@@ -21,10 +21,10 @@ use Rattle.block.specs.Labels.{Labelled}
 use Rattle.block.specs.Outcome.{done}
 use Rattle.block.specs.Reading.{Taxon, Reading}
 use Rattle.block.specs.Sequential.{Shape, names, sequential}
-use Rattle.block.specs.Sound.{sound·names, names·differ, sound·labels, few·states, sound·cells, sound·rows, gap?, gap·among, gap·in, sound·symbols, Sound}
+use Rattle.block.specs.Sound.{names·differ, label·texts, few·states, sound·cells, sound·rows, gap?, gap·among, gap·in, sound·symbols, Sound}
 use Rattle.block.specs.TaxonOrder.{all·rows, Follows}
 use Rattle.lexer.proofs.Basics.{and-left, and-right, and-both, by-test}
-use Rattle.lexer.specs.Base.{empty?, given}
+use Rattle.lexer.specs.Base.{pick, empty?, given}
 use Rattle.lexer.specs.Words.{Numbered, largest}
 use borrow.Author.Tests.{eqb-true, eqb-false, eq-eqb, leb-true, le-leb}
 use lib.Dec.{leb, eqb}
@@ -35,7 +35,8 @@ use mathlib.Core.Option.{Option, none, some, Option·getD}
 use mathlib.Core.Path.{_≡_, refl, sym, ap, _∙_}
 use native.Mathlib.Omega.{arith}
 
--- A reading that is sound whatever the types of its characters; of the names of its taxa, something holds in place of their soundness.
+-- A reading that is sound whatever the types of its characters; of the names of its taxa and of its labels, something holds in place of
+-- their soundness.
 pub record Untyped (N : List ℕ → Type 0) (r : Reading) : Type 0 where
   pub some·taxon : empty? (r .taxa) ≡ false
   pub some·character : empty? (r .characters) ≡ false
@@ -46,12 +47,12 @@ pub record Untyped (N : List ℕ → Type 0) (r : Reading) : Type 0 where
   pub symbols·sound : sound·symbols (r .data·type) (r .symbols) (gap·in (r .taxa)) ≡ true
   pub names·each : All N (names (r .taxa))
   pub names·unlike : names·differ (names (r .taxa)) ≡ true
-  pub labels·sound : sound·labels (r .characters) ≡ true
+  pub labels·each : All N (label·texts (r .characters))
   pub states·few : few·states (length (r .symbols)) (r .characters) ≡ true
 
 pub typed-sound : (r : Reading) → Untyped Sound·name r → orderable (r .data·type) (r .characters) ≡ true → Sound r
 typed-sound r u o =
-    sound-parts r (u .some·taxon) (u .some·character) (u .taxa·few) (u .characters·few) (u .rows·long) (u .cells·sound) (u .symbols·sound) (all-sound (names (r .taxa)) (u .names·each)) (u .names·unlike) (u .labels·sound) (u .states·few) o
+    sound-parts r (u .some·taxon) (u .some·character) (u .taxa·few) (u .characters·few) (u .rows·long) (u .cells·sound) (u .symbols·sound) (all-sound (names (r .taxa)) (u .names·each)) (u .names·unlike) (labels-names (r .characters) ∙ all-sound (label·texts (r .characters)) (u .labels·each)) (u .states·few) o
 
 -- Whole rows, as tests.
 module _ (f : Format) (n : ℕ) where
@@ -101,28 +102,31 @@ follows-arranged N sh (some declared) taken ts d a m h =
       counted = sym (length-names ts) ∙ ap length (h .0) ∙ eqb-true (length declared) (sh .taxa) (and-left (eqb (length declared) (sh .taxa)) (leb (sh .taxa) largest) a);
     }
 
--- Characters with labels, as tests.
-module _ (count : ℕ) where
-  default-states : (s : Option (List (List ℕ))) → Given count s → States count (Option·getD s [])
-  default-states none g = record { named = unfold sound·names in refl; few = omega arith }
+-- Characters with labels.
+module _ (N : List ℕ → Type 0) (count : ℕ) where
+  default-states : (s : Option (List (List ℕ))) → Opt (States N count) s → States N count (Option·getD s [])
+  default-states none g = record { each = tt; few = omega arith }
   default-states (some s) g = g
 
-  unordered-labels : (cs : List Labelled) → All (Labels count) cs → sound·labels (unordered cs) ≡ true
-  unfolding unordered sound·labels
-  unordered-labels [] p = refl
-  unordered-labels (c ∷ r) p = and-both (and-both (p .0 .label) (default-states (c .states) (p .0 .states) .named)) (unordered-labels r (p .1))
+  unordered-labels : (cs : List Labelled) → All (Labels N count) cs → All N (label·texts (unordered cs))
+  unfolding unordered label·texts pick
+  unordered-labels [] p = tt
+  unordered-labels (c ∷ r) p =
+      let s = Option·getD (c .states) [] in
+      let more = all-append N s (label·texts (unordered r)) (default-states (c .states) (p .0 .states) .each) (unordered-labels r (p .1)) in
+      by-test (empty? (c .label)) (λ e. rw e more) (λ e. rw e (p .0 .label e, more))
 
-  unordered-few : (cs : List Labelled) → All (Labels count) cs → few·states count (unordered cs) ≡ true
+  unordered-few : (cs : List Labelled) → All (Labels N count) cs → few·states count (unordered cs) ≡ true
   unfolding unordered few·states
   unordered-few [] p = refl
   unordered-few (c ∷ r) p =
       let s = default-states (c .states) (p .0 .states) in
       and-both (le-leb (length (Option·getD (c .states) [])) count (s .few)) (unordered-few r (p .1))
 
-  unordered-length : (cs : List Labelled) → length (unordered cs) ≡ length cs
-  unfolding unordered
-  unordered-length [] = refl
-  unordered-length (c ∷ r) = ap suc (unordered-length r)
+unordered-length : (cs : List Labelled) → length (unordered cs) ≡ length cs
+unfolding unordered
+unordered-length [] = refl
+unordered-length (c ∷ r) = ap suc (unordered-length r)
 
 -- A list with a length above 0 is not empty.
 module _ {A : Type 0} where
@@ -142,13 +146,8 @@ default-formatted none p = default-good
 default-formatted (some f) p = p
 
 -- What is claimed of the parts of a state, so that the reading of a matrix is such.
-abbrev pub claims : (List ℕ → Type 0) → Claims
-claims N = record { dimensions = Few; names = Named N; format = Good; labels = CleanLabels; reading = Untyped N }
-
--- Words of clean tokens, of whose names something holds.
-pub record Naming (Q : Numbered → Type 0) (N : List ℕ → Type 0) : Type 0 where
-  pub clean : (w : Numbered) → Q w → Clean w
-  pub name : Names Q N
+abbrev pub claims : (List ℕ → Type 0) → (Numbered → Type 0) → Claims
+claims N Q = record { dimensions = Few; names = Named N; format = Good; labels = Of·words Q; reading = Untyped N }
 
 module _ (N : List ℕ → Type 0) (Q : Numbered → Type 0) (name : Names Q N) where
   pub rows-matrix : (sh : Shape) (good : Good (sh .format)) (raw : List Numbered) (taken : List Taxon) → All Q raw → rows sh raw ≡ done taken → Matrix N sh taken
@@ -156,17 +155,16 @@ module _ (N : List ℕ → Type 0) (Q : Numbered → Type 0) (name : Names Q N) 
   rows-matrix sh good raw taken q h =
       pick-either (sh .format .interleave) (interleaved sh raw) (sequential sh (words raw)) taken (interleaved-matrix N Q name sh good raw taken q) (sequential-matrix N Q name sh good (words raw) taken (all-words Q raw q)) h
 
-module _ (N : List ℕ → Type 0) (Q : Numbered → Type 0) (law : Naming Q N) where
-  pub matrix-untyped : (d : Data) (h : Numbered) (raw : List Numbered) (r : Reading) → Ready (claims N) d → All Q raw → matrix d h raw ≡ done r → Untyped N r
+  pub matrix-untyped : (d : Data) (h : Numbered) (raw : List Numbered) (r : Reading) → Ready (claims N Q) d → All Q raw → matrix d h raw ≡ done r → Untyped N r
   matrix-untyped d h raw r p q e =
       let k = matrix-parts d h raw r e in
       let sh = k .shape in
       let f = sh .format in
       let good : Good f = rw (k .shaped .formatted) (default-formatted (d .format) (p .format)) in
-      let m = follows-arranged N sh (d .taxa) (k .taken) (k .taxa) (p .taxa) (k .shaped .agreed) (rows-matrix N Q (law .name) sh good raw (k .taken) q (k .read)) (k .follows) in
-      let l = labels-labelled (length (f .symbols)) (sh .characters) (d .labels) (k .labelled) (p .labels) (k .labels) in
+      let m = follows-arranged N sh (d .taxa) (k .taken) (k .taxa) (p .taxa) (k .shaped .agreed) (rows-matrix sh good raw (k .taken) q (k .read)) (k .follows) in
+      let l = labels-labelled N Q name (length (f .symbols)) (sh .characters) (d .labels) (k .labelled) (p .labels) (k .labels) in
       let few : Few (k .dimensions) = rw (k .sized) at (p .dimensions) in
-      let size : length (unordered (k .labelled)) ≡ sh .characters = unordered-length (length (f .symbols)) (k .labelled) ∙ l .sized in
+      let size : length (unordered (k .labelled)) ≡ sh .characters = unordered-length (k .labelled) ∙ l .sized in
       rw (← k .is)
       (record {
         some·taxon = some-of (k .taxa) (sh .taxa) (m .counted) (k .shaped .some·taxa);
@@ -178,6 +176,6 @@ module _ (N : List ℕ → Type 0) (Q : Numbered → Type 0) (law : Naming Q N) 
         symbols·sound = good .symbols (gap·in (k .taxa)) (gap-rows f (sh .characters) (k .taxa) (m .whole));
         names·each = m .named .each;
         names·unlike = m .named .differ;
-        labels·sound = unordered-labels (length (f .symbols)) (k .labelled) (l .each);
-        states·few = unordered-few (length (f .symbols)) (k .labelled) (l .each);
+        labels·each = unordered-labels N (length (f .symbols)) (k .labelled) (l .each);
+        states·few = unordered-few N (length (f .symbols)) (k .labelled) (l .each);
       })

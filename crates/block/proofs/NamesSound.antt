@@ -4,6 +4,7 @@ use Rattle.block.proofs.OutcomeLaws.{then-done, need-done, pick-else, d
 use Rattle.block.specs.Names.{known, add·name, name·turn, unique·names}
 use Rattle.block.specs.Outcome.{done, need}
 use Rattle.block.specs.Sound.{no·underscore, no·return, not·blank, sound·name, sound·names, names·differ}
+use Rattle.block.specs.TaxonOrder.{Token·named, all·named}
 use Rattle.lexer.proofs.Basics.{and-left, and-right, and-both, or-both, or-left, or-right, alike-sym}
 use Rattle.lexer.proofs.LabelLaws.{label-parts}
 use Rattle.lexer.proofs.TokensClean.{clean-text}
@@ -12,7 +13,7 @@ use Rattle.lexer.specs.Words.{Numbered, label}
 use Rattle.lexer.specs.declared.refusal.Refusal.{Refusal}
 use borrow.Author.Tests.{not-true}
 use mathlib.Core.Bool.{true, false, not}
-use mathlib.Core.List.{List, [], _∷_, _++_}
+use mathlib.Core.List.{List, [], _∷_, _++_, List·Memᴰ}
 use mathlib.Core.Option.{some}
 use mathlib.Core.Path.{_≡_, refl, _∙_}
 
@@ -25,11 +26,6 @@ unfolding sound·name no·underscore no·return not·blank
 label-sound w n c h =
     let p = label-parts w n h c in
     and-both (and-both (and-both (p .utf) (rw (p .unlined))) (rw (p .returnless))) (p .marked)
-
-pub sound-names-one : (names : List (List ℕ)) (n : List ℕ) → sound·names names ≡ true → sound·name n ≡ true → sound·names (names ++ (n ∷ [])) ≡ true
-unfolding sound·names
-sound-names-one [] n h s = and-both s refl
-sound-names-one (m ∷ r) n h s = and-both (and-left (sound·name m) (sound·names r) h) (sound-names-one r n (and-right (sound·name m) (sound·names r) h) s)
 
 known-one : (m : List ℕ) (names : List (List ℕ)) (n : List ℕ) → known m names ≡ false → alike m n ≡ false → known m (names ++ (n ∷ [])) ≡ false
 unfolding known
@@ -111,5 +107,11 @@ module _ (N : List ℕ → Type 0) where
     unfolding unique·names
     unique-names-named ws names q h = fold-keeps (Named N) Q name·turn name-turn-named [] ws names named-none q h
 
-pub named-sound : (w : Numbered) (i : ℕ) (n : List ℕ) → Clean w → need (label w) Refusal.NotName i ≡ done n → sound·name n ≡ true
-named-sound = need-named Sound·name Clean label-sound
+-- The name of a word among these tokens is that of one of them.
+pub token-named : (ws : List Numbered) → Names (λ w. List·Memᴰ w ws) (Token·named ws)
+token-named ws w n q h = record { token = w; among = q; named = h }
+
+pub all-named : (ws : List Numbered) (texts : List (List ℕ)) → All (Token·named ws) texts → all·named ws texts
+unfolding all·named
+all-named ws [] p = tt
+all-named ws (n ∷ r) p = (p .0, all-named ws r (p .1))

@@ -69,10 +69,6 @@ module _ {A : Type 0} where
   all-map P Q f [] p = tt
   all-map P Q f (a ∷ l) p = (f a (p .0), all-map P Q f l (p .1))
 
-  pub all-both : (P Q : A → Type 0) (l : List A) → All P l → All Q l → All (λ a. P a × Q a) l
-  all-both P Q [] p q = tt
-  all-both P Q (a ∷ l) p q = ((p .0, q .0), all-both P Q l (p .1) (q .1))
-
   -- every member is found among them
   pub members : (l : List A) → All (λ a. List·Memᴰ a l) l
   members [] = tt

@@ -4,16 +4,16 @@ use Rattle.block.proofs.BlocksKept.{Brings, Kept, step-kept, start-kept
 use Rattle.block.proofs.CommandWords.{Of·tokens, all-words, commands-of, all-behind}
 use Rattle.block.proofs.DimensionsFew.{dimensions-few}
 use Rattle.block.proofs.FormatSound.{format-good}
-use Rattle.block.proofs.MatrixSound.{Untyped, typed-sound, claims, Naming, matrix-untyped}
-use Rattle.block.proofs.NamesSound.{Clean, Sound·name, label-sound, unique-names-named}
-use Rattle.block.proofs.OutcomeLaws.{All, all-map, fold-keeps}
+use Rattle.block.proofs.MatrixSound.{Untyped, typed-sound, claims, matrix-untyped}
+use Rattle.block.proofs.NamesSound.{Clean, Names, Sound·name, label-sound, unique-names-named}
+use Rattle.block.proofs.OutcomeLaws.{All, fold-keeps}
 use Rattle.block.proofs.ReadCommands.{Finished, read-finished}
 use Rattle.block.specs.Blocks.{State, at·start, retyped, with·types, step}
 use Rattle.block.specs.Commands.{Command, words}
 use Rattle.block.specs.Outcome.{done}
 use Rattle.block.specs.Parse.{reading, read}
 use Rattle.block.specs.Reading.{Character, Reading}
-use Rattle.block.specs.Sound.{Sound, sound·label, sound·labels, sound·names, few·states}
+use Rattle.block.specs.Sound.{label·texts, few·states, Sound}
 use Rattle.block.specs.TaxonOrder.{behind·header, commands·of}
 use Rattle.block.specs.Typeset.{Types}
 use Rattle.block.specs.declared.model.CharacterOrdering.{CharacterOrdering}
@@ -43,11 +43,11 @@ module _ (o : CharacterOrdering) where
   retyped-some [] (c ∷ cs) = refl
   retyped-some (t ∷ ts) (c ∷ cs) = refl
 
-  retyped-labels : (ts : Types) (cs : List Character) → sound·labels (retyped o ts cs) ≡ sound·labels cs
-  unfolding retyped sound·labels
+  retyped-labels : (ts : Types) (cs : List Character) → label·texts (retyped o ts cs) ≡ label·texts cs
+  unfolding retyped label·texts
   retyped-labels ts [] = refl
-  retyped-labels [] (c ∷ cs) = ap (λ b. sound·label (c .label) && sound·names (c .states) && b) (retyped-labels [] cs)
-  retyped-labels (t ∷ ts) (c ∷ cs) = ap (λ b. sound·label (c .label) && sound·names (c .states) && b) (retyped-labels ts cs)
+  retyped-labels [] (c ∷ cs) = rw (retyped-labels [] cs) refl
+  retyped-labels (t ∷ ts) (c ∷ cs) = rw (retyped-labels ts cs) refl
 
   retyped-few : (count : ℕ) (ts : Types) (cs : List Character) → few·states count (retyped o ts cs) ≡ few·states count cs
   unfolding retyped few·states
@@ -70,20 +70,20 @@ types-untyped N r default set u =
       symbols·sound = u .symbols·sound;
       names·each = u .names·each;
       names·unlike = u .names·unlike;
-      labels·sound = retyped-labels o ts (r .characters) ∙ u .labels·sound;
+      labels·each = rw (retyped-labels o ts (r .characters)) (u .labels·each);
       states·few = retyped-few o (length (r .symbols)) ts (r .characters) ∙ u .states·few;
     }
 
--- The reading of a text is sound but for its types, and what holds of the names of tokens holds of the names of its taxa.
-module _ (N : List ℕ → Type 0) (Q : Numbered → Type 0) (law : Naming Q N) where
-  brings : (s : State) (h : Numbered) (raw : List Numbered) → All Q raw → Brings (claims N) s h raw
+-- The reading of a text is sound but for its types, and what holds of the names of tokens holds of the names of its taxa and of its labels.
+module _ (N : List ℕ → Type 0) (Q : Numbered → Type 0) (name : Names Q N) where
+  brings : (s : State) (h : Numbered) (raw : List Numbered) → All Q raw → Brings (claims N Q) s h raw
   brings s h raw q =
       record {
-        named = λ t p names e. unique-names-named N Q (law .name) (words raw) names (all-words Q raw q) e;
+        named = λ t p names e. unique-names-named N Q name (words raw) names (all-words Q raw q) e;
         sized = dimensions-few (words raw);
         formatted = format-good (h .index) (words raw);
-        labelled = λ l. all-map Q Clean (law .clean) (words raw) (all-words Q raw q);
-        read = λ t b d at p r e. matrix-untyped N Q law d h raw r p q e;
+        labelled = λ l. all-words Q raw q;
+        read = λ t b d at p r e. matrix-untyped N Q name d h raw r p q e;
         typed = types-untyped N;
       }
 
@@ -91,10 +91,10 @@ module _ (N : List ℕ → Type 0) (Q : Numbered → Type 0) (law : Naming Q N) 
   unfolding commands·of
   reading-untyped text r q f =
       let ws = numbered 0 (tokens text) in
-      let keeps : (s : State) (c : Command) (t : State) → Kept (claims N) s → Of·tokens Q c → step s c ≡ done t → Kept (claims N) t =
-      λ s c t k o e. step-kept (claims N) s c t (λ h raw is. brings s h raw (rw is at o)) k e
+      let keeps : (s : State) (c : Command) (t : State) → Kept (claims N Q) s → Of·tokens Q c → step s c ≡ done t → Kept (claims N Q) t =
+      λ s c t k o e. step-kept (claims N Q) s c t (λ h raw is. brings s h raw (rw is at o)) k e
       in
-      let k = fold-keeps (Kept (claims N)) (Of·tokens Q) step keeps at·start (commands·of text) (f .state) (start-kept (claims N)) (commands-of Q (behind·header ws) (all-behind Q ws q)) (f .reached) in
+      let k = fold-keeps (Kept (claims N Q)) (Of·tokens Q) step keeps at·start (commands·of text) (f .state) (start-kept (claims N Q)) (commands-of Q (behind·header ws) (all-behind Q ws q)) (f .reached) in
       rw (f .matrix) at (k .matrix)
 
 numbered-clean : (i : ℕ) (ts : List Token) → all-clean ts ≡ true → All Clean (numbered i ts)
@@ -102,11 +102,11 @@ unfolding numbered all-clean
 numbered-clean i [] h = tt
 numbered-clean i (t ∷ r) h = (and-left (clean-text (t .text)) (all-clean r) h, numbered-clean (suc i) r (and-right (clean-text (t .text)) (all-clean r) h))
 
-pub finished-clean : (text : List ℕ) (r : Reading) → Finished text r → All Clean (numbered 0 (tokens text))
+finished-clean : (text : List ℕ) (r : Reading) → Finished text r → All Clean (numbered 0 (tokens text))
 finished-clean text r f = numbered-clean 0 (tokens text) (tokens-clean text (f .utf))
 
 -- Every reading is sound.
 pub reading-sound : (text : List ℕ) (r : Reading) → read text ≡ reading r → Sound r
 reading-sound text r h =
     let f = read-finished text r h in
-    typed-sound r (reading-untyped Sound·name Clean (record { clean = λ w c. c; name = label-sound }) text r (finished-clean text r f) f) (f .orderable)
+    typed-sound r (reading-untyped Sound·name Clean label-sound text r (finished-clean text r f) f) (f .orderable)

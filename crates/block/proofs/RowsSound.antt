@@ -11,7 +11,6 @@ use Rattle.block.specs.Names.{known}
 use Rattle.block.specs.Outcome.{done, then, fold, need}
 use Rattle.block.specs.Reading.{Taxon}
 use Rattle.block.specs.Sequential.{Shape, names, Sequence, between, inside, row·begins, row·grown, sequential·turn, row·open, sequential·end, sequential}
-use Rattle.block.specs.TaxonOrder.{Token·named, all·named}
 use Rattle.lexer.proofs.Basics.{by-test}
 use Rattle.lexer.specs.Base.{pick}
 use Rattle.lexer.specs.Words.{Numbered, label}
@@ -46,11 +45,6 @@ pub length-names : (rows : List Taxon) → length (names rows) ≡ length rows
 unfolding names
 length-names [] = refl
 length-names (r ∷ rs) = ap suc (length-names rs)
-
-pub all-named : (ws : List Numbered) (rows : List Taxon) → All (Token·named ws) (names rows) → all·named ws rows
-unfolding names all·named
-all-named ws [] p = tt
-all-named ws (r ∷ rs) p = (p .0, all-named ws rs (p .1))
 
 -- What the rows of a matrix are.
 pub record Matrix (N : List ℕ → Type 0) (sh : Shape) (rows : List Taxon) : Type 0 where

@@ -48,7 +48,7 @@ unfolding sound·names
 names-append [] r = refl
 names-append (n ∷ l) r = ap (λ b. sound·name n && b) (names-append l r) ∙ sym (and-assoc (sound·name n) (sound·names l) (sound·names r))
 
-labels-names : (cs : List Character) → sound·labels cs ≡ sound·names (label·texts cs)
+pub labels-names : (cs : List Character) → sound·labels cs ≡ sound·names (label·texts cs)
 unfolding sound·labels sound·label label·texts sound·names pick
 labels-names [] = refl
 labels-names (c ∷ r) =

@@ -5,14 +5,15 @@ use Rattle.block.proofs.DeclaredHeld.{declares-holds}
 use Rattle.block.proofs.FormatSound.{Good, format-good}
 use Rattle.block.proofs.MatrixParts.{matrix-parts}
 use Rattle.block.proofs.MatrixSound.{whole-long, default-formatted, rows-matrix}
+use Rattle.block.proofs.NamesSound.{token-named, all-named}
 use Rattle.block.proofs.OutcomeLaws.{members, Opt, fold-history}
 use Rattle.block.proofs.ReadCommands.{read-finished}
-use Rattle.block.proofs.RowsSound.{all-named}
 use Rattle.block.specs.Blocks.{Data, in·data, State, at·start, step, matrix, with·types}
 use Rattle.block.specs.Commands.{Command, command, words}
 use Rattle.block.specs.Outcome.{done, fold}
 use Rattle.block.specs.Parse.{reading, read}
 use Rattle.block.specs.Reading.{Taxon, Reading}
+use Rattle.block.specs.Sequential.{names}
 use Rattle.block.specs.TaxonOrder.{commands·of, Token·named, Declares, Matrix·of, Follows}
 use Rattle.lexer.specs.Base.{bytes}
 use Rattle.lexer.specs.Words.{Numbered, is}
@@ -93,7 +94,7 @@ module _ (before : List Command) (s : State) (reached : fold step at·start befo
   following word b d at formatted r e =
       let p = matrix-parts d h raw r e in
       let good : Good (p .shape .format) = rw (p .shaped .formatted) (default-formatted (d .format) formatted) in
-      let m = rows-matrix (Token·named raw) (λ w. List·Memᴰ w raw) (λ w n q e. record { token = w; among = q; named = e }) (p .shape) good raw (p .taken) (members raw) (p .read) in
+      let m = rows-matrix (Token·named raw) (λ w. List·Memᴰ w raw) (token-named raw) (p .shape) good raw (p .taken) (members raw) (p .read) in
       record {
         made =
             record {
@@ -115,7 +116,7 @@ module _ (before : List Command) (s : State) (reached : fold step at·start befo
               rows = p .taken;
               read = p .read;
               long = rw (← p .shaped .sized) (whole-long (p .shape .format) (p .shape .characters) (p .taken) (m .rowed .whole));
-              named = all-named raw (p .taken) (m .rowed .named .each);
+              named = all-named raw (names (p .taken)) (m .rowed .named .each);
               declared = declared b d at;
             };
         follows = subst (λ (ts : List Taxon). Follows (d .taxa) (p .taken) ts) (ap (λ x. x .taxa) (p .is)) (p .follows);

@@ -1,4 +1,4 @@
--- The order of the taxa, and where their names come from, as statements about a text's commands and tokens.
+-- The order of the taxa, and where names come from, as statements about a text's commands and tokens.
 use Prim.Native.Nat.{ℕ}
 use mathlib.Core.Bool.{Bool, true, false}
 use mathlib.Core.List.{List, [], _∷_, _++_, List·Memᴰ}
@@ -33,10 +33,10 @@ pub record Token·named (ws : List Numbered) (n : List ℕ) : Type 0 where
   pub among : List·Memᴰ token ws
   pub named : label token ≡ some n
 
--- The name of each of these taxa is that of one of the tokens.
-unfoldable pub all·named : List Numbered → List Taxon → Type 0
+-- Each of these texts is the name of one of the tokens.
+unfoldable pub all·named : List Numbered → List (List ℕ) → Type 0
 all·named ws [] = Unit {0}
-all·named ws (t ∷ r) = Token·named ws (t .name) × all·named ws r
+all·named ws (n ∷ r) = Token·named ws n × all·named ws r
 
 -- The blocks in which TAXLABELS declares taxa: TAXA, and DATA or CHARACTERS.
 unfoldable pub declaring? : Phase → Bool
@@ -83,7 +83,7 @@ pub record Matrix·of (cs : List Command) : Type 0 where
   pub read : Blocks.rows shape raw ≡ done rows
   -- every row has NCHAR cells, and its name is that of one of the command's tokens
   pub long : all·long (dimensions .characters) rows ≡ true
-  pub named : all·named raw rows
+  pub named : all·named raw (names rows)
   -- the block has names as declared exactly where a TAXLABELS command before it declares them
   pub declared : (ns : List (List ℕ)) → (block·data .taxa ≡ some ns) ↔ Declares before ns
 

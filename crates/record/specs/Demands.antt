@@ -11,7 +11,7 @@ use Rattle.lexer.specs.Words.{numbered}
 use Rattle.block.specs.Parse.{reading, read}
 use Rattle.block.specs.Reading.{Taxon, Character, Reading}
 use Rattle.block.specs.Sequential.{names}
-use Rattle.block.specs.Sound.{Sound}
+use Rattle.block.specs.Sound.{label·texts, Sound}
 use Rattle.block.specs.TaxonOrder.{commands·of, Matrix·of, Follows, all·named}
 use Rattle.lexer.specs.declared.refusal.Refusal.{Refusal}
 use Rattle.record.specs.Calls.{refuse, write·result, not·found, lookup·answer}
@@ -36,7 +36,11 @@ Taxa·follow·the·declaration =
 
 -- Demand 2. Names are those of the text's tokens.
 abbrev pub Names·come·from·tokens : Type 0
-Names·come·from·tokens = (text : List ℕ) (r : Reading) → Reads text r → all·named (numbered 0 (tokens text)) (r .taxa)
+Names·come·from·tokens = (text : List ℕ) (r : Reading) → Reads text r → all·named (numbered 0 (tokens text)) (names (r .taxa))
+
+-- Demand 2. Labels and state labels are those of the text's tokens.
+abbrev pub Labels·come·from·tokens : Type 0
+Labels·come·from·tokens = (text : List ℕ) (r : Reading) → Reads text r → all·named (numbered 0 (tokens text)) (label·texts (r .characters))
 
 -- The counts of a record are at most 1,048,576.
 pub record Counted (r : Reading) : Type 0 where
