@@ -42,7 +42,8 @@ module _ (N : List ℕ → Type 0) (Q : Numbered → Type 0) (name : Names Q N) 
   label-one : (c : Labelled) (n : List ℕ) → Labels N count c → N n → Labels N count (record { label = n; states = c .states })
   label-one c n p s = record { label = λ e. s; states = p .states }
 
-  each-labels : (cs : List Labelled) (ws : List Numbered) (ds : List Labelled) → All (Labels N count) cs → All Q ws → label·each cs ws ≡ done ds → All (Labels N count) ds × (length ds ≡ length cs)
+  each-labels : (cs : List Labelled) (ws : List Numbered) (ds : List Labelled) → All (Labels N count) cs → All Q ws → label·each cs ws ≡ done ds
+      → All (Labels N count) ds × (length ds ≡ length cs)
   unfolding label·each
   each-labels [] ws ds p c h = rw (← done-inj h) (tt, refl)
   each-labels (x ∷ cs) [] ds p c h = rw (← done-inj h) (p, refl)
@@ -53,7 +54,8 @@ module _ (N : List ℕ → Type 0) (Q : Numbered → Type 0) (name : Names Q N) 
       let k = each-labels cs ws (m .0) (p .1) (c .1) (m .1) in
       rw (← done-inj (m .2)) ((label-one x (n .0) (p .0) (need-named N Q name w (w .index) (n .0) (c .0) (n .1)), k .0), ap suc (k .1))
 
-  char-labelled : (head : ℕ) (ws : List Numbered) (cs ds : List Labelled) → Labelling·of N count size cs → All Q ws → char·labels head ws cs ≡ done ds → Labelling·of N count size ds
+  char-labelled : (head : ℕ) (ws : List Numbered) (cs ds : List Labelled) → Labelling·of N count size cs → All Q ws → char·labels head ws cs ≡ done ds
+      → Labelling·of N count size ds
   unfolding char·labels
   char-labelled head ws cs ds p c h =
       let e = pick-when (eqb (length ws) (length cs)) Refusal.Count head (label·each cs ws) ds h in
@@ -117,19 +119,22 @@ module _ (N : List ℕ → Type 0) (Q : Numbered → Type 0) (name : Names Q N) 
       let n = then-done (need (label w) Refusal.NotName (w .index)) _ t (e .1) in
       entered (with·label k (n .0) cs) (labelled k i) t (with-label-labelled k (n .0) cs p (need-named N Q name w (w .index) (n .0) c (n .1))) tt (n .2)
 
-  states-labelled : (cs : List Labelled) (k i : ℕ) (s : List (List ℕ)) (ds : List Labelled) → Labelling·of N count size cs → All N s → entry·states count cs k i s ≡ done ds → Labelling·of N count size ds
+  states-labelled : (cs : List Labelled) (k i : ℕ) (s : List (List ℕ)) (ds : List Labelled) → Labelling·of N count size cs → All N s
+      → entry·states count cs k i s ≡ done ds → Labelling·of N count size ds
   unfolding entry·states
   states-labelled cs k i s ds p q h =
       let e = pick-else (ltb count (length s)) Refusal.LabelEntry i (done (with·states k s cs)) ds h in
       rw (← done-inj (e .1)) (with-states-labelled k s cs p (record { each = q; few = ltb-false count (length s) (e .0) }))
 
-  state-entered : (cs : List Labelled) (k i : ℕ) (s : List (List ℕ)) (w : Numbered) (t : Entries) → Labelling·of N count size cs → All N s → Q w → state·label cs k i s w ≡ done t → Entered t
+  state-entered : (cs : List Labelled) (k i : ℕ) (s : List (List ℕ)) (w : Numbered) (t : Entries) → Labelling·of N count size cs → All N s → Q w
+      → state·label cs k i s w ≡ done t → Entered t
   unfolding state·label
   state-entered cs k i s w t p q c h =
       let n = then-done (need (label w) Refusal.NotName (w .index)) _ t h in
       entered cs (states k i (s ++ (n .0 ∷ []))) t p (all-one N s (n .0) q (need-named N Q name w (w .index) (n .0) c (n .1))) (n .2)
 
-  turn-entered : (c : LabelCommand) (cs : List Labelled) (e : Entry) (w : Numbered) (t : Entries) → Labelling·of N count size cs → Open e → Q w → entry·turn count c cs e w ≡ done t → Entered t
+  turn-entered : (c : LabelCommand) (cs : List Labelled) (e : Entry) (w : Numbered) (t : Entries) → Labelling·of N count size cs → Open e → Q w
+      → entry·turn count c cs e w ≡ done t → Entered t
   unfolding entry·turn
   turn-entered c cs first w t p o q h = begins-entered c cs w t p h
   turn-entered c cs next w t p o q h = begins-entered c cs w t p h
@@ -144,7 +149,8 @@ module _ (N : List ℕ → Type 0) (Q : Numbered → Type 0) (name : Names Q N) 
           let d = then-done (entry·states count cs k i s) (λ ds. done (at ds next)) t e in
           entered (d .0) next t (states-labelled cs k i s (d .0) p o (d .1)) tt (d .2)
 
-  end-labelled : (c : LabelCommand) (cs : List Labelled) (e : Entry) (ds : List Labelled) → Labelling·of N count size cs → Open e → entry·end count c cs e ≡ done ds → Labelling·of N count size ds
+  end-labelled : (c : LabelCommand) (cs : List Labelled) (e : Entry) (ds : List Labelled) → Labelling·of N count size cs → Open e
+      → entry·end count c cs e ≡ done ds → Labelling·of N count size ds
   unfolding entry·end
   end-labelled c cs first ds p o h = refused-done Refusal.LabelEntry (c .head) ds h
   end-labelled c cs next ds p o h = rw (← done-inj h) p
@@ -152,7 +158,8 @@ module _ (N : List ℕ → Type 0) (Q : Numbered → Type 0) (name : Names Q N) 
   end-labelled c cs (labelled k i) ds p o h = rw (← done-inj h) p
   end-labelled c cs (states k i s) ds p o h = states-labelled cs k i s ds p o h
 
-  entries-labelled : (c : LabelCommand) (cs ds : List Labelled) → Labelling·of N count size cs → All Q (c .words) → label·entries count c cs ≡ done ds → Labelling·of N count size ds
+  entries-labelled : (c : LabelCommand) (cs ds : List Labelled) → Labelling·of N count size cs → All Q (c .words) → label·entries count c cs ≡ done ds
+      → Labelling·of N count size ds
   unfolding label·entries at
   entries-labelled c cs ds p q h =
       let turn : Entries → Numbered → Outcome Entries = λ e w. entry·turn count c (e .characters) (e .entry) w in
@@ -160,7 +167,8 @@ module _ (N : List ℕ → Type 0) (Q : Numbered → Type 0) (name : Names Q N) 
       let k = fold-keeps Entered Q turn (λ s w t p q. turn-entered c (s .characters) (s .entry) w t (p .labels) (p .entry) q) (at cs first) (c .words) (e .0) (record { labels = p; entry = tt }) q (e .1) in
       end-labelled c (e .0 .characters) (e .0 .entry) ds (k .labels) (k .entry) (e .2)
 
-  command-labelled : (l : Labelling) (c : LabelCommand) (cs ds : List Labelled) → Labelling·of N count size cs → All Q (c .words) → label·command count l c cs ≡ done ds → Labelling·of N count size ds
+  command-labelled : (l : Labelling) (c : LabelCommand) (cs ds : List Labelled) → Labelling·of N count size cs → All Q (c .words)
+      → label·command count l c cs ≡ done ds → Labelling·of N count size ds
   unfolding label·command
   command-labelled charlabels c cs ds p q h = char-labelled (c .head) (c .words) cs ds p q h
   command-labelled statelabels c cs ds p q h = entries-labelled c cs ds p q h

@@ -92,7 +92,8 @@ record Arranged (N : List ℕ → Type 0) (sh : Shape) (ts : List Taxon) : Type 
   whole : All (Whole (sh .format) (sh .characters)) ts
   counted : length ts ≡ sh .taxa
 
-follows-arranged : (N : List ℕ → Type 0) (sh : Shape) (declared : Option (List (List ℕ))) (taken ts : List Taxon) → Opt (Named N) declared → agrees declared (sh .taxa) ≡ true → Matrix N sh taken → Follows declared taken ts → Arranged N sh ts
+follows-arranged : (N : List ℕ → Type 0) (sh : Shape) (declared : Option (List (List ℕ))) (taken ts : List Taxon) → Opt (Named N) declared
+    → agrees declared (sh .taxa) ≡ true → Matrix N sh taken → Follows declared taken ts → Arranged N sh ts
 unfolding agrees
 follows-arranged N sh none taken ts d a m h = rw h (record { named = m .rowed .named; whole = m .rowed .whole; counted = m .counted })
 follows-arranged N sh (some declared) taken ts d a m h =

@@ -90,7 +90,8 @@ module _ (before : List Command) (s : State) (reached : fold step at·start befo
           let block : Block (come·from before) d = rw at at (k .phase) in
           rw e at (block .ready .taxa)
 
-  following : is (bytes "MATRIX") h ≡ true → (b : ℕ) (d : Data) → s .phase ≡ in·data b d → Opt Good (d .format) → (r : Reading) → matrix d h raw ≡ done r → Following (before ++ (command h raw ∷ [])) r
+  following : is (bytes "MATRIX") h ≡ true → (b : ℕ) (d : Data) → s .phase ≡ in·data b d → Opt Good (d .format) → (r : Reading)
+      → matrix d h raw ≡ done r → Following (before ++ (command h raw ∷ [])) r
   following word b d at formatted r e =
       let p = matrix-parts d h raw r e in
       let good : Good (p .shape .format) = rw (p .shaped .formatted) (default-formatted (d .format) formatted) in
@@ -134,7 +135,8 @@ module _ (before : List Command) (s : State) (reached : fold step at·start befo
         typed = λ r default set f. record { made = f .made; follows = f .follows };
       }
 
-step-later : (before : List Command) (s : State) (c : Command) (t : State) → fold step at·start before ≡ done s → Kept (come·from before) s → step s c ≡ done t → Kept (come·from (before ++ (c ∷ []))) t
+step-later : (before : List Command) (s : State) (c : Command) (t : State) → fold step at·start before ≡ done s → Kept (come·from before) s
+    → step s c ≡ done t → Kept (come·from (before ++ (c ∷ []))) t
 step-later before s c t reached k e =
     step-kept (come·from (before ++ (c ∷ []))) s c t (λ h raw is. rw is (brings before s reached k h raw)) (kept-later before c s k) e
 

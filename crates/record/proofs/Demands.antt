@@ -1,5 +1,5 @@
 -- The promises of specs/Demands.antt, each with its proof. Assumes nothing.
-use Prim.Native.Nat.{ℕ, _≤_}
+use Prim.Native.Nat.{ℕ}
 use Rattle.block.proofs.NamesFromTokens.{names-from-tokens, labels-from-tokens}
 use Rattle.block.proofs.ReadingSmall.{reading-small}
 use Rattle.block.proofs.ReadingSound.{reading-sound}
@@ -15,7 +15,7 @@ use Rattle.record.proofs.FormLexed.{form-lexed, form-utf8}
 use Rattle.record.proofs.FormParsed.{form-parsed}
 use Rattle.record.proofs.SpellLaws.{unspell-spell}
 use Rattle.record.proofs.UnspellLaws.{spell-unspell}
-use Rattle.record.specs.Demands.{Reads, Counted, Agree, Every·reading·is·sound, Taxa·follow·the·declaration, Names·come·from·tokens, Labels·come·from·tokens, Records·are·read·back, Records·are·spelled, Records·of·texts·pass, Some·reading·spells, Not·refused·is·some·reading, Refused·is·no·reading, Forms·are·read·again, Forms·tell·readings·apart, Forms·tell·texts·apart}
+use Rattle.record.specs.Demands.{Reads, Agree, Every·reading·is·sound, Taxa·follow·the·declaration, Names·come·from·tokens, Labels·come·from·tokens, Records·are·read·back, Records·are·spelled, Records·of·texts·pass, Some·reading·spells, Not·refused·is·some·reading, Refused·is·no·reading, Forms·are·read·again, Forms·tell·readings·apart, Forms·tell·texts·apart}
 use Rattle.record.specs.Calls.{bytes·of, refuse, written, write·result, not·found, found, looked·up, lookup·answer}
 use Rattle.record.specs.Form.{form}
 use Rattle.record.specs.Lookup.{Stretch, lookup}
@@ -113,7 +113,9 @@ taxa-agree (s ∷ l) (t ∷ r) n c =
     let one : s ≡ t = λ i. record { name = head-eq-of-cons-eq n i; cells = head-eq-of-cons-eq c i } in
     cc
 
-characters-agree : (l r : List Character) → map (λ (c : Character). c .label) l ≡ map (λ (c : Character). c .label) r → map (λ (c : Character). c .states) l ≡ map (λ (c : Character). c .states) r → map (λ (c : Character). c .ordering) l ≡ map (λ (c : Character). c .ordering) r → l ≡ r
+characters-agree : (l r : List Character) → map (λ (c : Character). c .label) l ≡ map (λ (c : Character). c .label) r
+    → map (λ (c : Character). c .states) l ≡ map (λ (c : Character). c .states) r
+    → map (λ (c : Character). c .ordering) l ≡ map (λ (c : Character). c .ordering) r → l ≡ r
 characters-agree [] [] n s o = refl
 characters-agree [] (c ∷ r) n s o = absurd (nil≢cons n)
 characters-agree (b ∷ l) [] n s o = absurd (cons≢nil n)
