@@ -1,5 +1,5 @@
 // Positions in a text, and a lexer that keeps the text beside its position. The borrow checker covers no function over such a struct, so
-// each of these is proved by hand, is thin, and leaves the work to a function that takes the text and the position apart.
+// each of its methods is proved by hand, is thin, and leaves the work to a function that takes the text and the position apart.
 
 ghost use Prim.Native.Nat.{_<_, _≤_};
 ghost use Rattle.lexer.specs.Places.{place};
@@ -95,68 +95,70 @@ pub fn comment_at(text: &[u8], at: usize, line: usize, column: usize) -> Passed
     }
 }
 
-// A lexer at the front of a text.
-pub fn new<'a>(text: &'a [u8]) -> Lexer<'a>
-    ensures { λ r. ⌜ r ≡ lexer·at (text .entry) start ⌝ }
-{
-    Lexer {
-        text,
-        at: 0,
-        line: 1,
-        column: 1,
+impl<'a> Lexer<'a> {
+    // A lexer at the front of a text.
+    pub fn new(text: &'a [u8]) -> Lexer<'a>
+        ensures { λ r. ⌜ r ≡ lexer·at (text .entry) start ⌝ }
+    {
+        Lexer {
+            text,
+            at: 0,
+            line: 1,
+            column: 1,
+        }
     }
-}
 
-// What stands at its place.
-pub fn peek<'a>(l: Lexer<'a>) -> Ahead
-    ensures { λ r. ⌜ r ≡ ahead (now (l .entry .text)) (l .entry .at) ⌝ }
-{
-    ahead_at(l.text, l.at)
-}
-
-// One byte on.
-pub fn next<'a>(l: Lexer<'a>) -> Lexer<'a>
-    requires { ⌜ (l .line < 2097152) × (l .column < 2097152) ⌝ }
-    ensures { λ r. ⌜ r ≡ lexer·at (l .entry .text) (moved·on (now (l .entry .text)) (l .entry .at) (l .entry .line) (l .entry .column)) ⌝ }
-{
-    let p = moved(l.text, l.at, l.line, l.column);
-    Lexer {
-        text: l.text,
-        at: p.at,
-        line: p.line,
-        column: p.column,
+    // What stands at its place.
+    pub fn peek(self) -> Ahead
+        ensures { λ r. ⌜ r ≡ ahead (now (self .entry .text)) (self .entry .at) ⌝ }
+    {
+        ahead_at(self.text, self.at)
     }
-}
 
-// Behind the comment whose mark is at its place.
-pub fn comment<'a>(l: Lexer<'a>) -> Passed
-    requires { ⌜ (l .at < length (now (l .text))) × Reaches (now (l .text)) (l .at) (l .line) (l .column) (length (now (l .text))) ⌝ }
-    ensures { λ r. ⌜ r ≡ passed·comment (now (l .entry .text)) (l .entry .at) (l .entry .line) (l .entry .column) ⌝ }
-{
-    comment_at(l.text, l.at, l.line, l.column)
-}
-
-// On to the byte `to`.
-pub fn skip_to<'a>(l: Lexer<'a>, to: usize) -> Lexer<'a>
-    requires { ⌜ Reaches (now (l .text)) (l .at) (l .line) (l .column) to ⌝ }
-    ensures { λ r. ⌜ r ≡ lexer·at (l .entry .text) (moved·to (now (l .entry .text)) (l .entry .at) (l .entry .line) (l .entry .column) to) ⌝ }
-{
-    let p = moved_to(l.text, l.at, l.line, l.column, to);
-    Lexer {
-        text: l.text,
-        at: p.at,
-        line: p.line,
-        column: p.column,
+    // One byte on.
+    pub fn next(self) -> Lexer<'a>
+        requires { ⌜ (self .line < 2097152) × (self .column < 2097152) ⌝ }
+        ensures { λ r. ⌜ r ≡ lexer·at (self .entry .text) (moved·on (now (self .entry .text)) (self .entry .at) (self .entry .line) (self .entry .column)) ⌝ }
+    {
+        let p = moved(self.text, self.at, self.line, self.column);
+        Lexer {
+            text: self.text,
+            at: p.at,
+            line: p.line,
+            column: p.column,
+        }
     }
-}
 
-// Its line and column.
-pub fn place_of<'a>(l: Lexer<'a>) -> Place
-    ensures { λ r. ⌜ r ≡ place·of (l .entry) ⌝ }
-{
-    Place {
-        line: l.line,
-        column: l.column,
+    // Behind the comment whose mark is at its place.
+    pub fn comment(self) -> Passed
+        requires { ⌜ (self .at < length (now (self .text))) × Reaches (now (self .text)) (self .at) (self .line) (self .column) (length (now (self .text))) ⌝ }
+        ensures { λ r. ⌜ r ≡ passed·comment (now (self .entry .text)) (self .entry .at) (self .entry .line) (self .entry .column) ⌝ }
+    {
+        comment_at(self.text, self.at, self.line, self.column)
+    }
+
+    // On to the byte `to`.
+    pub fn skip_to(self, to: usize) -> Lexer<'a>
+        requires { ⌜ Reaches (now (self .text)) (self .at) (self .line) (self .column) to ⌝ }
+        ensures { λ r. ⌜ r ≡ lexer·at (self .entry .text) (moved·to (now (self .entry .text)) (self .entry .at) (self .entry .line) (self .entry .column) to) ⌝ }
+    {
+        let p = moved_to(self.text, self.at, self.line, self.column, to);
+        Lexer {
+            text: self.text,
+            at: p.at,
+            line: p.line,
+            column: p.column,
+        }
+    }
+
+    // Its line and column.
+    pub fn place(self) -> Place
+        ensures { λ r. ⌜ r ≡ place·of (self .entry) ⌝ }
+    {
+        Place {
+            line: self.line,
+            column: self.column,
+        }
     }
 }
 
@@ -165,5 +167,5 @@ pub fn place_at(text: &[u8], at: usize) -> Place
     requires { ⌜ (at ≤ length (now text)) × (length (now text) ≤ 1048576) ⌝ }
     ensures { λ r. ⌜ r ≡ place (now (text .entry)) at ⌝ }
 {
-    place_of(skip_to(new(text), at))
+    Lexer::new(text).skip_to(at).place()
 }
