@@ -270,7 +270,7 @@ const CLASSES: [u8; 256] = [
     6,
 ];
 
-// Is the byte a letter, a digit, or one of `-`, `.`, `?` and `_`? Then its class is other.
+// Is the byte a letter, a digit, or one of `-`, `.`, `?` and `_`? Promised is one direction: if it answers true, its class is other.
 pub fn plain(b: u8) -> bool
     ensures { λ r. ⌜ (r ≡ true → class·number (class b) ≡ 5) ⌝ }
 {

@@ -43,7 +43,7 @@ fn count_eight(text: &[u8], i: usize, b: u8) -> u8
 }
 
 // From `from` on, where `depth` more comments are open, over blocks of eight bytes that have no more closing brackets than that: the comment
-// cannot end in them.
+// cannot end in them. Promised is that it ends alike from both places, not how far this goes.
 fn comment_blocks(text: &[u8], from: usize, depth: usize) -> Nesting
     requires { ⌜ (from ≤ length (now text)) × (depth ≤ from) ⌝ }
     ensures { λ r. ⌜ Nested (now (text .entry)) from depth (r .at) (r .depth) ⌝ }
@@ -125,7 +125,7 @@ pub fn string_end(text: &[u8], mark: usize) -> Scan
     Scan::Open(mark)
 }
 
-// Are the eight bytes from `i` on all plain? If so, the word goes on behind them.
+// Are the eight bytes from `i` on all plain? Promised is one direction: if it answers true, the word goes on behind them.
 fn word_eight(text: &[u8], i: usize) -> bool
     requires { ⌜ i + 8 ≤ length (now text) ⌝ }
     ensures { λ r. ⌜ (r ≡ true → word·end 0 0 i (drop i (now (text .entry))) ≡ word·end 0 0 (i + 8) (drop (i + 8) (now (text .entry)))) ⌝ }
@@ -135,7 +135,7 @@ fn word_eight(text: &[u8], i: usize) -> bool
     a & b
 }
 
-// From `from` on, in a word, over blocks of eight plain bytes.
+// From `from` on, in a word, over blocks of eight plain bytes. Promised is that the word ends alike from both places, not how far it goes.
 fn word_blocks(text: &[u8], from: usize) -> usize
     requires { ⌜ from ≤ length (now text) ⌝ }
     ensures { λ r. ⌜ (from ≤ r) × (r ≤ length (now (text .entry))) × (word·end 0 0 r (drop r (now (text .entry))) ≡ word·end 0 0 from (drop from (now (text .entry)))) ⌝ }

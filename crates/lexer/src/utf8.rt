@@ -44,7 +44,7 @@ fn after_lead(b: u8) -> Follow
     follows_by(3, 128, 191)
 }
 
-// Are the eight bytes from `i` on all ASCII? If so, the run of ASCII bytes goes on behind them.
+// Are the eight bytes from `i` on all ASCII? Promised is one direction: if it answers true, the run of ASCII bytes goes on behind them.
 fn ascii_eight(text: &[u8], i: usize) -> bool
     requires { ⌜ i + 8 ≤ length (now text) ⌝ }
     ensures { λ r. ⌜ (r ≡ true → ascii·end i (drop i (now (text .entry))) ≡ ascii·end (i + 8) (drop (i + 8) (now (text .entry)))) ⌝ }
@@ -54,7 +54,7 @@ fn ascii_eight(text: &[u8], i: usize) -> bool
     (a | b) < 128
 }
 
-// From `from` on, over blocks of sixteen ASCII bytes.
+// From `from` on, over blocks of sixteen ASCII bytes. Promised is that the run ends alike from both places, not how far it goes.
 fn ascii_blocks(text: &[u8], from: usize) -> usize
     requires { ⌜ from ≤ length (now text) ⌝ }
     ensures { λ r. ⌜ (r ≤ length (now (text .entry))) × (ascii·end r (drop r (now (text .entry))) ≡ ascii·end from (drop from (now (text .entry)))) ⌝ }
