@@ -1,44 +1,55 @@
--- Runs of ASCII bytes: one byte and eight bytes passed, what the loops that look for a run's end keep, and that UTF-8 goes on behind a run as
--- before it. Assumes nothing.
+-- Runs of ASCII bytes: eight of them by one test, a byte and blocks passed, what the loop that looks for a run's end keeps, and that UTF-8 goes
+-- on behind a run as before it. Assumes nothing.
 use Prim.Native.Nat.{ℕ, suc, _+_, _≤_, _<_}
-use Rattle.lexer.proofs.Basics.{chosen}
-use Rattle.lexer.proofs.ListLaws.{past-eight}
+use Rattle.lexer.proofs.Basics.{by-test, chosen}
+use Rattle.lexer.proofs.ByteBlocks.{all-eight, blocks-ahead, blocks-alike}
 use Rattle.lexer.proofs.Utf8Checking.{Checking, checking-turn, from-ascii}
 use Rattle.lexer.specs.Base.{pick}
+use Rattle.lexer.specs.ByteBlocks.{ascii?, all·first, blocks·end}
 use Rattle.lexer.specs.Utf8.{ascii·end}
-use borrow.Author.Tests.{ltb-true, lt-ltb, le-ltb}
-use lib.Bits.{bitOr, or-add-and, and-le-l, and-le-r}
+use borrow.Author.Tests.{ltb-true, ltb-false, lt-ltb, le-ltb}
+use lib.Bits.{bitOr, or-add-and, or-lt, and-le-l, and-le-r}
 use lib.Dec.{ltb}
 use lib.ListN.{length, drop, getD, drop-of-length-le, length-drop}
 use lib.Seq.{drop-cons}
-use mathlib.Core.Bool.{Bool, true, false, _&&_, not, true≢false}
+use mathlib.Core.Bool.{true, false, _&&_}
 use mathlib.Core.List.{List, [], _∷_}
 use mathlib.Core.Path.{_≡_, refl, sym, ap, _∙_}
 use native.Mathlib.Numerals.{add-one}
 use native.Mathlib.Omega.{arith}
 
--- Both of two numbers are at most their bitwise or.
-or-both-below : (a b n : ℕ) → bitOr a b < n → (a < n) × (b < n)
-or-both-below a b n h = (omega (arith, or-add-and a b, and-le-r a b), omega (arith, or-add-and a b, and-le-l a b))
+-- A bitwise or is ASCII just if both of its numbers are.
+or-ascii : (a b : ℕ) → ascii? (bitOr a b) ≡ ascii? a && ascii? b
+unfolding ascii?
+or-ascii a b = by-test (ltb a 128) (λ p. by-test (ltb b 128) (both p) (second p)) first
+  where
+    both : ltb a 128 ≡ true → ltb b 128 ≡ true → ltb (bitOr a b) 128 ≡ ltb a 128 && ltb b 128
+    both p q = lt-ltb (bitOr a b) 128 (or-lt 7 a b (ltb-true a 128 p) (ltb-true b 128 q)) ∙ sym (rw (p, q))
+
+    second : ltb a 128 ≡ true → ltb b 128 ≡ false → ltb (bitOr a b) 128 ≡ ltb a 128 && ltb b 128
+    second p q = le-ltb (bitOr a b) 128 (omega (arith, or-add-and a b, and-le-l a b, ltb-false b 128 q)) ∙ sym (rw (p, q))
+
+    first : ltb a 128 ≡ false → ltb (bitOr a b) 128 ≡ ltb a 128 && ltb b 128
+    first p = le-ltb (bitOr a b) 128 (omega (arith, or-add-and a b, and-le-r a b, ltb-false a 128 p)) ∙ sym (rw p)
 
 abbrev four : ℕ → ℕ → ℕ → ℕ → ℕ
 four a b c d = bitOr (bitOr (bitOr a b) c) d
 
-four-below : (a b c d n : ℕ) → four a b c d < n → (a < n) × (b < n) × (c < n) × (d < n)
-four-below a b c d n h =
-    let abc = or-both-below (bitOr (bitOr a b) c) d n h in
-    let ab = or-both-below (bitOr a b) c n (abc .0) in
-    let both = or-both-below a b n (ab .0) in
-    (both .0, both .1, ab .1, abc .1)
+four-ascii : (a b c d : ℕ) → ascii? (four a b c d) ≡ ascii? a && ascii? b && ascii? c && ascii? d
+four-ascii a b c d = or-ascii (bitOr (bitOr a b) c) d ∙ ap (λ t. t && ascii? d) (or-ascii (bitOr a b) c ∙ ap (λ t. t && ascii? c) (or-ascii a b))
+
+eight-ascii : (a b c d a' b' c' d' : ℕ) → ascii? (bitOr (four a b c d) (four a' b' c' d'))
+    ≡ (ascii? a && ascii? b && ascii? c && ascii? d) && (ascii? a' && ascii? b' && ascii? c' && ascii? d')
+eight-ascii a b c d a' b' c' d' = or-ascii (four a b c d) (four a' b' c' d') ∙ rw (four-ascii a b c d, four-ascii a' b' c' d')
 
 module _ (text : List ℕ) where
   -- where the ASCII bytes from an index on end
   abbrev pub run·end : ℕ → ℕ
   run·end i = ascii·end i (drop i text)
 
-  pub run-next : (i j : ℕ) → i < length text → j ≡ i + 1 → getD text i 0 < 128 → run·end i ≡ run·end j
+  run-next : (i : ℕ) → i < length text → getD text i 0 < 128 → run·end i ≡ run·end (i + 1)
   unfolding ascii·end pick
-  run-next i j h e small = rw (e, add-one i, drop-cons text i 0, lt-ltb (getD text i 0) 128 small)
+  run-next i h small = rw (add-one i, drop-cons text i 0, lt-ltb (getD text i 0) 128 small)
 
   pub run-stops : (i : ℕ) → i < length text → 128 ≤ getD text i 0 → run·end i ≡ i
   unfolding ascii·end pick
@@ -51,38 +62,33 @@ module _ (text : List ℕ) where
   abbrev byte : ℕ → ℕ
   byte j = getD text j 0
 
-  pub run-eight : (i : ℕ) → i + 8 ≤ length text
-      → ltb (bitOr (four (byte i) (byte (i + 1)) (byte (i + 2)) (byte (i + 3))) (four (byte (i + 4)) (byte (i + 5)) (byte (i + 6)) (byte (i + 7)))) 128 ≡ true
-      → run·end i ≡ run·end (i + 8)
-  run-eight i room h =
-      let both = or-both-below _ _ 128 (ltb-true _ 128 h) in
-      let a = four-below _ _ _ _ 128 (both .0) in
-      let b = four-below _ _ _ _ 128 (both .1) in
-      past-eight (λ b. b < 128) text run·end run-next i room (a .0) (a .1) (a .2) (a .3) (b .0) (b .1) (b .2) (b .3)
+  pub ascii-eight : (i : ℕ) → i + 8 ≤ length text
+      → ascii? (bitOr (four (byte i) (byte (i + 1)) (byte (i + 2)) (byte (i + 3))) (four (byte (i + 4)) (byte (i + 5)) (byte (i + 6)) (byte (i + 7))))
+      ≡ all·first ascii? 8 (drop i text)
+  ascii-eight i room = eight-ascii (byte i) _ _ _ (byte (i + 4)) _ _ _ ∙ all-eight ascii? text i room
+
+  -- behind the blocks of ASCII bytes the run ends as from their first
+  pub run-blocks : (size i : ℕ) → i ≤ length text → run·end (blocks·end ascii? size i (drop i text)) ≡ run·end i
+  unfolding ascii?
+  run-blocks size i h = blocks-alike ascii? text run·end (λ i h small. run-next i h (ltb-true (getD text i 0) 128 small)) size i h
 
 -- What the turns keep: from here the run ends where it ends from the first byte on.
 pub record Running (text : List ℕ) (from i : ℕ) : Type 0 where
   pub within : i ≤ length text
   pub rest : ascii·end i (drop i text) ≡ ascii·end from (drop from text)
 
-pub running-start : (text : List ℕ) (from : ℕ) → from ≤ length text → Running text from from
-running-start text from h = record { within = h; rest = refl }
+pub running-start : (text : List ℕ) (from i : ℕ) → from ≤ length text → i ≡ blocks·end ascii? 16 from (drop from text) → Running text from i
+running-start text from i h e = rw e (record { within = blocks-ahead ascii? text 16 from h .1; rest = run-blocks text 16 from h })
 
 module _ (text : List ℕ) (from i : ℕ) (k : Running text from i) where
   pub running-turn : i < length text → getD text i 0 < 128 → Running text from (i + 1)
-  running-turn h small = record { within = omega arith; rest = sym (run-next text i (i + 1) h refl small) ∙ k .rest }
+  running-turn h small = record { within = omega arith; rest = sym (run-next text i h small) ∙ k .rest }
 
   pub running-stops : i < length text → 128 ≤ getD text i 0 → i ≡ ascii·end from (drop from text)
   running-stops h large = sym (run-stops text i h large) ∙ k .rest
 
   pub running-end : length text ≤ i → i ≡ ascii·end from (drop from text)
   running-end h = sym (run-over text i h) ∙ k .rest
-
-  pub running-sixteen : i + 16 ≤ length text → (a b : Bool) → not (a && b) ≡ false → (a ≡ true → run·end text i ≡ run·end text (i + 8))
-      → (b ≡ true → run·end text (i + 8) ≡ run·end text (i + 8 + 8)) → Running text from (i + 16)
-  running-sixteen room true true h p q = let e : i + 8 + 8 ≡ i + 16 = omega arith in record { within = room; rest = sym (p refl ∙ (rw e at (q refl))) ∙ k .rest }
-  running-sixteen room true false h p q = absurd (true≢false h)
-  running-sixteen room false b h p q = absurd (true≢false h)
 
 pub run-forward : (r : List ℕ) (i : ℕ) → i ≤ ascii·end i r
 unfolding ascii·end

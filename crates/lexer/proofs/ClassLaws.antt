@@ -1,12 +1,17 @@
--- Laws of the bytes that come next in a text, and of a byte's class and symbol by its class's number. Assumes nothing.
+-- Laws of the bytes that come next in a text, and of a byte's class and symbol by its class's number. That a plain byte's class is other is a
+-- computed test of all 256. Assumes nothing.
 use Prim.Native.Nat.{ℕ, zero, suc, _+_, _≤_, _<_}
+use Rattle.lexer.proofs.Basics.{all-under, under-at, implied, by-test, not-both, and-false}
 use Rattle.lexer.proofs.ListLaws.{drop-next}
-use Rattle.lexer.specs.Classes.{class, symbol, symbol·of, next1}
+use Rattle.lexer.specs.Base.{pick, among, bytes}
+use Rattle.lexer.specs.ByteBlocks.{plain?}
+use Rattle.lexer.specs.Classes.{class, symbol, symbol·of, next1, marks}
 use Rattle.lexer.specs.Scanning.{class·number, first·symbol, symbol·at}
 use Rattle.lexer.specs.declared.Class.{Class}
-use lib.Dec.{eqb}
+use borrow.Author.Tests.{eqb-true, ne-eqb, lt-leb, ltb-true, ltb-false}
+use lib.Dec.{eqb, ltb}
 use lib.ListN.{length, getD, drop, drop-of-length-le}
-use mathlib.Core.Bool.{false}
+use mathlib.Core.Bool.{Bool, true, false, _||_, not}
 use mathlib.Core.List.{List}
 use mathlib.Core.Path.{_≡_, refl, sym, ap, _∙_}
 use native.Mathlib.Omega.{arith}
@@ -52,6 +57,31 @@ class-number-bound Class.Comment = omega arith
 class-number-bound Class.Punctuation = omega arith
 class-number-bound Class.Other = omega arith
 class-number-bound Class.Part = omega arith
+
+-- If the byte is plain, is its class other?
+test : ℕ → Bool
+test b = not (plain? b) || eqb (class·number (class b)) 5
+
+all-tested : all-under test 256 ≡ true
+unfolding all-under class·number class pick among bytes marks test plain?
+all-tested = refl
+
+large-not-plain : (b : ℕ) → 256 ≤ b → plain? b ≡ false
+unfolding plain?
+large-not-plain b h =
+    let digit = lt-leb b 57 (omega arith) in
+    let small = lt-leb b 122 (omega arith) in
+    let capital = lt-leb b 90 (omega arith) in
+    let question = ne-eqb b 63 (λ e. omega arith) in
+    let underscore = ne-eqb b 95 (λ e. omega arith) in
+    rw (digit, small, capital, question, underscore) (simp and-false)
+
+pub plain-is-other : (b : ℕ) → plain? b ≡ true → class·number (class b) ≡ 5
+unfolding test
+plain-is-other b t = by-test (ltb b 256) here (λ f. not-both (large-not-plain b (ltb-false b 256 f)) t)
+  where
+    here : ltb b 256 ≡ true → class·number (class b) ≡ 5
+    here h = eqb-true _ 5 (implied (plain? b) (eqb (class·number (class b)) 5) (under-at test 256 b all-tested (ltb-true b 256 h)) t)
 
 -- The symbol of a byte of a text whose class has the number of this one.
 pub symbol-at-class : (text : List ℕ) (i : ℕ) (k : Class) → i < length text → class·number (class (getD text i 0)) ≡ class·number k

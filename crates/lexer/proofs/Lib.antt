@@ -11,6 +11,7 @@ pub mod TokensClean
 -- What the proofs of this crate alone rest on.
 mod AsciiRuns
 mod BlankBytes
+mod ByteBlocks
 mod Cases
 mod ClassLaws
 mod CommentBlocks

@@ -8,6 +8,7 @@ pub mod Places
 pub mod Words
 pub mod Lexing
 pub mod Scanning
+pub mod ByteBlocks
 pub mod Positions
 pub mod Stored
 pub mod Bytes

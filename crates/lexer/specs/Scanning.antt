@@ -1,10 +1,9 @@
 -- Where what a mark opens has ended: the same as the modes say, but from mark to mark, as the code goes.
-use Prim.Native.Nat.{ℕ, zero, suc, _+_, _≤_}
+use Prim.Native.Nat.{ℕ, zero, suc}
 use lib.Dec.{eqb}
-use lib.ListN.{length, drop}
+use lib.ListN.{drop}
 use mathlib.Core.Bool.{Bool, true, false, _||_}
 use mathlib.Core.List.{List, [], _∷_}
-use mathlib.Core.Path.{_≡_}
 use Rattle.lexer.specs.Base.{pick, byte}
 use Rattle.lexer.specs.Classes.{symbol, open?, other?, part?}
 use Rattle.lexer.specs.declared.Class.{Class}
@@ -44,19 +43,6 @@ comment·end mark (suc d) i (b ∷ r) =
     let same = comment·end mark (suc d) (suc i) r in
     let outer = comment·end mark d (suc i) r in
     pick (eqb b (byte "[")) deeper (pick (eqb b (byte "]")) outer same)
-
--- How many of the first so many bytes are this one.
-unfoldable pub count·in : ℕ → ℕ → List ℕ → ℕ
-count·in b zero r = 0
-count·in b (suc n) [] = 0
-count·in b (suc n) (c ∷ r) = let more = count·in b n r in pick (eqb c b) 1 0 + more
-
--- Two places in a comment, with how many more are open at each: from both it ends alike. No more are open than bytes stand before the second.
-pub record Nested (text : List ℕ) (from depth at deep : ℕ) : Type 0 where
-  pub ahead : from ≤ at
-  pub within : at ≤ length text
-  pub low : deep ≤ at
-  pub rest : (mark : ℕ) → comment·end mark deep at (drop at text) ≡ comment·end mark depth from (drop from text)
 
 -- Behind single-quoted text; `closing` says that a quote was passed just now.
 unfoldable pub quote·end : ℕ → Bool → ℕ → List ℕ → Scan

@@ -1,11 +1,11 @@
 // The class of each byte, and its symbol.
 
 ghost use Prim.Native.Nat.{_<_, _≤_, _+_};
+ghost use Rattle.lexer.specs.ByteBlocks.{plain?};
 ghost use Rattle.lexer.specs.Classes.{class, symbol·of, wide·blank};
 ghost use Rattle.lexer.specs.Scanning.{class·number, symbol·at};
 ghost use Rattle.lexer.specs.declared.Class.{Class};
 ghost use lib.ListN.{length, getD, drop};
-ghost use mathlib.Core.Bool.{true};
 ghost use mathlib.Core.List.{[], _∷_};
 ghost use mathlib.Core.Path.{_≡_};
 use super::Symbol;
@@ -270,9 +270,9 @@ const CLASSES: [u8; 256] = [
     6,
 ];
 
-// Is the byte a letter, a digit, or one of `-`, `.`, `?` and `_`? Promised is one direction: if it answers true, its class is other.
+// Is the byte a letter, a digit, or one of `-`, `.`, `?` and `_`? If it is, its class is other.
 pub fn plain(b: u8) -> bool
-    ensures { λ r. ⌜ (r ≡ true → class·number (class b) ≡ 5) ⌝ }
+    ensures { λ r. ⌜ r ≡ plain? b ⌝ }
 {
     let small = (97 <= b) & (b <= 122);
     let capital = (65 <= b) & (b <= 90);

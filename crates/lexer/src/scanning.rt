@@ -2,10 +2,11 @@
 
 ghost use Prim.Native.Nat.{_<_, _≤_, _+_};
 ghost use Rattle.lexer.specs.Base.{pick};
-ghost use Rattle.lexer.specs.Scanning.{comment·end, count·in, Nested, quote·end, string·end, word·end};
+ghost use Rattle.lexer.specs.ByteBlocks.{all·first, blocks·end, comment·blocks, count·in, plain?};
+ghost use Rattle.lexer.specs.Scanning.{comment·end, quote·end, string·end, word·end};
 ghost use lib.Dec.{eqb};
 ghost use lib.ListN.{length, drop};
-ghost use mathlib.Core.Bool.{true, false};
+ghost use mathlib.Core.Bool.{false};
 ghost use mathlib.Core.Path.{_≡_};
 use super::Scan;
 use super::Symbol;
@@ -42,11 +43,11 @@ fn count_eight(text: &[u8], i: usize, b: u8) -> u8
         + one_if(text[i + 7], b)
 }
 
-// From `from` on, where `depth` more comments are open, over blocks of eight bytes that have no more closing brackets than that: the comment
-// cannot end in them. Promised is that it ends alike from both places, not how far this goes.
+// Behind the blocks of eight bytes from `from` on, where `depth` more comments are open, that have no more closing brackets than are open
+// before them: the comment cannot end in them.
 fn comment_blocks(text: &[u8], from: usize, depth: usize) -> Nesting
     requires { ⌜ (from ≤ length (now text)) × (depth ≤ from) ⌝ }
-    ensures { λ r. ⌜ Nested (now (text .entry)) from depth (r .at) (r .depth) ⌝ }
+    ensures { λ r. ⌜ (r .at ≡ comment·blocks depth from (drop from (now (text .entry))) .at) × (r .depth ≡ comment·blocks depth from (drop from (now (text .entry))) .depth) ⌝ }
 {
     let mut deep = depth;
     let mut i = from;
@@ -125,20 +126,20 @@ pub fn string_end(text: &[u8], mark: usize) -> Scan
     Scan::Open(mark)
 }
 
-// Are the eight bytes from `i` on all plain? Promised is one direction: if it answers true, the word goes on behind them.
+// Are the eight bytes from `i` on all plain?
 fn word_eight(text: &[u8], i: usize) -> bool
     requires { ⌜ i + 8 ≤ length (now text) ⌝ }
-    ensures { λ r. ⌜ (r ≡ true → word·end 0 0 i (drop i (now (text .entry))) ≡ word·end 0 0 (i + 8) (drop (i + 8) (now (text .entry)))) ⌝ }
+    ensures { λ r. ⌜ r ≡ all·first plain? 8 (drop i (now (text .entry))) ⌝ }
 {
     let a = plain(text[i]) & plain(text[i + 1]) & plain(text[i + 2]) & plain(text[i + 3]);
     let b = plain(text[i + 4]) & plain(text[i + 5]) & plain(text[i + 6]) & plain(text[i + 7]);
     a & b
 }
 
-// From `from` on, in a word, over blocks of eight plain bytes. Promised is that the word ends alike from both places, not how far it goes.
+// Behind the blocks of eight plain bytes from `from` on.
 fn word_blocks(text: &[u8], from: usize) -> usize
     requires { ⌜ from ≤ length (now text) ⌝ }
-    ensures { λ r. ⌜ (from ≤ r) × (r ≤ length (now (text .entry))) × (word·end 0 0 r (drop r (now (text .entry))) ≡ word·end 0 0 from (drop from (now (text .entry)))) ⌝ }
+    ensures { λ r. ⌜ r ≡ blocks·end plain? 8 from (drop from (now (text .entry))) ⌝ }
 {
     let mut i = from;
     while 8 <= text.len() - i {

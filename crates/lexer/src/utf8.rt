@@ -1,9 +1,9 @@
 // UTF-8, judged as Rust's `from_utf8` does.
 
 ghost use Prim.Native.Nat.{_≤_, _+_};
+ghost use Rattle.lexer.specs.ByteBlocks.{ascii?, all·first, blocks·end};
 ghost use Rattle.lexer.specs.Utf8.{utf8, after·lead, ascii·end};
 ghost use lib.ListN.{length, drop};
-ghost use mathlib.Core.Bool.{true};
 ghost use mathlib.Core.Path.{_≡_};
 
 // What follows a byte: so many bytes of the same character, the next of them from low to high.
@@ -44,20 +44,20 @@ fn after_lead(b: u8) -> Follow
     follows_by(3, 128, 191)
 }
 
-// Are the eight bytes from `i` on all ASCII? Promised is one direction: if it answers true, the run of ASCII bytes goes on behind them.
+// Are the eight bytes from `i` on all ASCII?
 fn ascii_eight(text: &[u8], i: usize) -> bool
     requires { ⌜ i + 8 ≤ length (now text) ⌝ }
-    ensures { λ r. ⌜ (r ≡ true → ascii·end i (drop i (now (text .entry))) ≡ ascii·end (i + 8) (drop (i + 8) (now (text .entry)))) ⌝ }
+    ensures { λ r. ⌜ r ≡ all·first ascii? 8 (drop i (now (text .entry))) ⌝ }
 {
     let a = text[i] | text[i + 1] | text[i + 2] | text[i + 3];
     let b = text[i + 4] | text[i + 5] | text[i + 6] | text[i + 7];
     (a | b) < 128
 }
 
-// From `from` on, over blocks of sixteen ASCII bytes. Promised is that the run ends alike from both places, not how far it goes.
+// Behind the blocks of sixteen ASCII bytes from `from` on.
 fn ascii_blocks(text: &[u8], from: usize) -> usize
     requires { ⌜ from ≤ length (now text) ⌝ }
-    ensures { λ r. ⌜ (r ≤ length (now (text .entry))) × (ascii·end r (drop r (now (text .entry))) ≡ ascii·end from (drop from (now (text .entry)))) ⌝ }
+    ensures { λ r. ⌜ r ≡ blocks·end ascii? 16 from (drop from (now (text .entry))) ⌝ }
 {
     let mut i = from;
     while 16 <= text.len() - i {

@@ -1,7 +1,8 @@
 -- The function `comment_end` meets its contract. A turn passes one bracket or another byte, and behind a closing bracket the blocks that cannot
 -- hold the end; it keeps the end and that the depth is at most the bytes passed. The measure is what is left of the text. Assumes nothing.
 use Prim.Native.Nat.{_-_}
-use Rattle.lexer.proofs.EndTurns.{Commenting, comment-over, comment-closes, comment-opens, comment-goes-on, comment-open}
+use Rattle.lexer.proofs.CommentBlocks.{commenting-start, commenting-closes, commenting-ahead, commenting-blocks}
+use Rattle.lexer.proofs.EndTurns.{Commenting, comment-over, comment-opens, comment-goes-on, comment-open}
 use borrow.Author.Needs.{needs}
 use lib.ListN.{length}
 use mathlib.Core.Path.{sym, _∙_}
@@ -22,7 +23,7 @@ comment-blocks-requires : tie.Need-comment-blocks-requires Inv-loop μ-loop
 comment-blocks-requires c κs = search needs
 
 loop-holds : tie.Need-loop-holds Inv-loop μ-loop
-loop-holds c = let e = c .comment-blocks .ensures in record { within = e .within; deep = e .low; rest = e .rest _ }
+loop-holds c = commenting-blocks _ _ _ _ _ _ (commenting-start _ _ (c .before .before .pre)) (c .comment-blocks .ensures)
 
 shared-slice-read-b : tie.Need-shared-slice-read-b Inv-loop μ-loop
 shared-slice-read-b c = search needs
@@ -40,14 +41,17 @@ comment-blocks-requires-2 : tie.Need-comment-blocks-requires-2 Inv-loop μ-loop
 comment-blocks-requires-2 c κs = search needs
 
 loop-less : tie.Need-loop-less Inv-loop μ-loop
-loop-less c = search needs
+loop-less c =
+    let l = c .before .before .before .before in
+    let behind = commenting-closes _ _ _ _ (l .before .loop .inv) (l .loop-test .taken) (c .before .before .if1 .taken) (c .before .if2 .left) in
+    let ahead = commenting-ahead _ _ _ _ _ _ behind (c .comment-blocks2 .ensures) in
+    omega arith
 
 loop-again : tie.Need-loop-again Inv-loop μ-loop
 loop-again c =
-    let l = c .before .before .before .before .before in
-    let e = c .comment-blocks2 .ensures in
-    let over = comment-closes _ _ _ (c .before .before .before .before .loop-test .taken) (c .before .before .if1 .taken) (l .loop .depth) (c .before .if2 .left) in
-    record { within = e .within; deep = e .low; rest = e .rest _ ∙ (sym over ∙ l .loop .inv .rest) }
+    let l = c .before .before .before .before in
+    let behind = commenting-closes _ _ _ _ (l .before .loop .inv) (l .loop-test .taken) (c .before .before .if1 .taken) (c .before .if2 .left) in
+    commenting-blocks _ _ _ _ _ _ behind (c .comment-blocks2 .ensures)
 
 add-depth : tie.Need-add-depth Inv-loop μ-loop
 add-depth c = search needs

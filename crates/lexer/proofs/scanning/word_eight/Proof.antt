@@ -1,4 +1,4 @@
--- The function word_eight meets its contract: where all eight bytes are plain, the class of each is other. Assumes nothing.
+-- The function word_eight meets its contract: it tests each of the eight bytes, in two halves. Assumes nothing.
 use Rattle.lexer.proofs.WordBlocks.{word-eight}
 use borrow.Author.Needs.{needs}
 use Rattle.lexer.proofs.scanning.word_eight.Statement.{statement}

@@ -2,13 +2,13 @@
 -- keeps the end. The measure is what is left of the text. Assumes nothing.
 use Prim.Native.Nat.{_-_}
 use Rattle.lexer.proofs.SymbolTags.{tags-continue, tags-stop}
-use Rattle.lexer.proofs.WordBlocks.{word-next}
+use Rattle.lexer.proofs.WordBlocks.{word-next, plain-ahead, wording-start, wording-blocks, wording-skips}
 use Rattle.lexer.proofs.WordEnds.{Wording, resumed, word-goes-on, word-over, word-skips, skip-ahead, word-last}
 use Rattle.lexer.proofs.scanning.word_end.Statement.{statement}
 use Rattle.lexer.proofs.scanning.word_end.Tie as tie
 use borrow.Author.Needs.{needs}
 use lib.ListN.{length}
-use mathlib.Core.Path.{refl, sym, ap, _∙_}
+use mathlib.Core.Path.{sym, ap, _∙_}
 use native.Mathlib.Omega.{arith}
 
 abbrev Inv-loop : tie.InvT-loop
@@ -21,7 +21,7 @@ word-blocks-requires : tie.Need-word-blocks-requires Inv-loop μ-loop
 word-blocks-requires c κs = search needs
 
 loop-holds : tie.Need-loop-holds Inv-loop μ-loop
-loop-holds c = let w = c .word-blocks .ensures in record { ahead = w .0; within = w .1; rest = w .2 }
+loop-holds c = let h = c .before .before .pre in wording-blocks _ _ _ h (c .word-blocks .ensures) _ (wording-start _ _ h)
 
 shared-slice-read-plain : tie.Need-shared-slice-read-plain Inv-loop μ-loop
 shared-slice-read-plain c = search needs
@@ -38,7 +38,7 @@ loop-less c = search needs
 loop-again : tie.Need-loop-again Inv-loop μ-loop
 loop-again c =
     let l = c .before .before .before in
-    record { ahead = omega arith; within = omega arith; rest = sym (word-next _ _ _ (l .loop-test .taken) refl (c .before .plain .ensures (c .if1 .taken))) ∙ l .before .loop .inv .rest }
+    record { ahead = omega arith; within = omega arith; rest = sym (word-next _ _ (l .loop-test .taken) (sym (c .before .plain .ensures) ∙ c .if1 .taken)) ∙ l .before .loop .inv .rest }
 
 symbol-at-requires : tie.Need-symbol-at-requires Inv-loop μ-loop
 symbol-at-requires c κs = search needs
@@ -76,6 +76,7 @@ loop-less-3 c =
     let e = c .before .before .before .before in
     let l = e .before .before .before .before .before .before .before in
     let ahead = skip-ahead _ _ (l .loop-test .taken) _ (e .comment-end .ensures) _ (c .before .before .j .given .1) in
+    let further = plain-ahead _ _ _ (ahead .1) (c .word-blocks2 .ensures) in
     omega arith
 
 loop-again-3 : tie.Need-loop-again-3 Inv-loop μ-loop
@@ -85,8 +86,8 @@ loop-again-3 c =
     let l = s .before .before .before .before in
     let ahead = skip-ahead _ _ (l .loop-test .taken) _ (e .comment-end .ensures) _ (c .before .before .j .given .1) in
     let same = word-skips _ _ (l .loop-test .taken) _ (s .symbol-at .ensures) (e .before .enum-told .given .1) _ (e .comment-end .ensures) in
-    let w = c .word-blocks2 .ensures in
-    record { ahead = omega arith; within = w .1; rest = w .2 ∙ sym (same ∙ ap (resumed _) (c .before .before .j .given .1)) ∙ l .before .loop .inv .rest }
+    let behind = wording-skips _ _ _ _ _ (l .before .loop .inv) ahead same (c .before .before .j .given .1) in
+    wording-blocks _ _ _ (ahead .1) (c .word-blocks2 .ensures) _ behind
 
 enum-known-mark : tie.Need-enum-known-mark Inv-loop μ-loop
 enum-known-mark c = search needs

@@ -1,5 +1,6 @@
--- The function ascii_eight meets its contract: where the bitwise or of the eight bytes is below 128, each of them is. Assumes nothing.
-use Rattle.lexer.proofs.AsciiRuns.{run-eight}
+-- The function ascii_eight meets its contract: the bitwise or of the eight bytes is ASCII just if each of them is. Assumes nothing.
+use Rattle.lexer.proofs.AsciiRuns.{ascii-eight}
+use Rattle.lexer.specs.ByteBlocks.{ascii?}
 use borrow.Author.Needs.{needs}
 use Rattle.lexer.proofs.utf8.ascii_eight.Statement.{statement}
 use Rattle.lexer.proofs.utf8.ascii_eight.Tie as tie
@@ -50,7 +51,8 @@ shared-slice-read-b-4 : tie.Need-shared-slice-read-b-4
 shared-slice-read-b-4 c = search needs
 
 returns : tie.Need-returns
-returns c = let s = c .before .before .before .before .before .before .before .before in run-eight _ _ (s .pre)
+unfolding ascii?
+returns c = let s = c .before .before .before .before .before .before .before .before in ascii-eight _ _ (s .pre)
 
 pub ascii-eight-spec : {M : Type 1} → statement M
 ascii-eight-spec =

@@ -1,7 +1,7 @@
 -- The function ascii_run meets its contract. The invariant: from here the run of ASCII bytes ends where it ends from the first byte on. The
 -- measure is what is left of the text. Assumes nothing.
 use Prim.Native.Nat.{_-_}
-use Rattle.lexer.proofs.AsciiRuns.{Running, running-turn, running-stops, running-end}
+use Rattle.lexer.proofs.AsciiRuns.{Running, running-start, running-turn, running-stops, running-end}
 use borrow.Author.Needs.{needs}
 use lib.ListN.{length}
 use Rattle.lexer.proofs.utf8.ascii_run.Statement.{statement}
@@ -17,7 +17,7 @@ ascii-blocks-requires : tie.Need-ascii-blocks-requires Inv-loop μ-loop
 ascii-blocks-requires c κs = search needs
 
 loop-holds : tie.Need-loop-holds Inv-loop μ-loop
-loop-holds c = let e = c .ascii-blocks .ensures in record { within = e .0; rest = e .1 }
+loop-holds c = running-start _ _ _ (c .before .before .pre) (c .ascii-blocks .ensures)
 
 shared-slice-read-if1 : tie.Need-shared-slice-read-if1 Inv-loop μ-loop
 shared-slice-read-if1 c = search needs
