@@ -25,6 +25,12 @@ pub next1-past : (text : List ℕ) (i b : ℕ) → length text ≤ i → next1 b
 unfolding next1
 next1-past text i b h = rw (drop-of-length-le text h)
 
+pub next1-found : (text : List ℕ) (i b : ℕ) → next1 b (drop i text) ≡ true → (i < length text) × (getD text i 0 ≡ b)
+next1-found text i b t = by-test (ltb i (length text)) (λ h. here (ltb-true i (length text) h)) (λ f. not-both (next1-past text i b (ltb-false i (length text) f)) t)
+  where
+    here : i < length text → (i < length text) × (getD text i 0 ≡ b)
+    here h = (h, eqb-true (getD text i 0) b (sym (next1-here text i b h) ∙ t))
+
 -- A class is known by its number.
 numbered : ℕ → Class
 numbered zero = Class.Newline

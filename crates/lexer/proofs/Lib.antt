@@ -3,11 +3,13 @@ pub mod Basics
 pub mod LabelLaws
 pub mod LexedAnswers
 pub mod ListLaws
+pub mod NextBytes
 pub mod StoredLaws
 pub mod TableLaws
 pub mod TextUtf8
 pub mod TokenSizes
 pub mod TokensClean
+pub mod Yielded
 -- What the proofs of this crate alone rest on.
 mod AsciiRuns
 mod BlankBytes
@@ -27,6 +29,7 @@ mod StepSymbols
 mod Storing
 mod SymbolLaws
 mod SymbolTags
+mod TextItems
 mod TextReturns
 mod TextWalks
 mod TokenParts
@@ -34,4 +37,3 @@ mod Utf8Checking
 mod WordBlocks
 mod WordBytes
 mod WordEnds
-mod Yielded

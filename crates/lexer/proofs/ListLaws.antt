@@ -1,14 +1,22 @@
 -- Laws of lists that the walks over a text rest on: what stands from an index on. Assumes nothing.
 use Prim.Native.Nat.{ℕ, suc, _+_, _<_}
-use lib.ListN.{length, getD, drop, length-map, List·getD-map}
+use Rattle.lexer.proofs.Basics.{by-test}
+use borrow.Author.Tests.{ltb-true, ltb-false}
+use lib.Dec.{ltb}
+use lib.ListN.{length, getD, drop, drop-of-length-le, length-map, List·getD-map}
 use lib.Seq.{drop-cons, drop-drop}
-use mathlib.Core.List.{List, _∷_, map}
+use mathlib.Core.List.{List, [], _∷_, map}
 use mathlib.Core.Path.{_≡_, ap, _∙_}
 use native.Mathlib.Numerals.{add-one}
 
 -- From an index below the length on: the byte there, and what stands from the next index on.
 pub drop-next : (l : List ℕ) (i : ℕ) → i < length l → drop i l ≡ getD l i 0 ∷ drop (i + 1) l
 drop-next l i h = rw add-one (drop-cons l i 0 h)
+
+-- What holds of a rest, by whether the text has a byte there.
+pub drop-cases : (P : List ℕ → Type 0) (l : List ℕ) (i : ℕ) → (i < length l → P (getD l i 0 ∷ drop (i + 1) l)) → P [] → P (drop i l)
+drop-cases P l i here past =
+    by-test (ltb i (length l)) (λ t. let h = ltb-true i (length l) t in rw (drop-next l i h) (here h)) (λ f. rw (drop-of-length-le l (ltb-false i (length l) f)) past)
 
 -- What stands behind the first byte of a rest is the rest one place on.
 pub drop-tail : (text : List ℕ) (i b : ℕ) (r : List ℕ) → b ∷ r ≡ drop i text → r ≡ drop (suc i) text

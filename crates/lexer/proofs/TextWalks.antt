@@ -3,8 +3,9 @@
 use Prim.Native.Nat.{ℕ, _+_, _*_, _-_, _≤_, _<_}
 use Rattle.lexer.proofs.BlankBytes.{blank-part}
 use Rattle.lexer.proofs.ListLaws.{drop-next}
+use Rattle.lexer.proofs.Yielded.{Yields·byte}
 use Rattle.lexer.specs.Base.{pick, given, alike, lower, empty?}
-use Rattle.lexer.specs.Bytes.{left, Readable, Yields·byte}
+use Rattle.lexer.specs.Bytes.{left}
 use Rattle.lexer.specs.Classes.{blank}
 use Rattle.lexer.specs.Words.{Numbered, word?, quoted?, label, spaced, digits, largest, unsigned, positive}
 use Rattle.lexer.specs.declared.Cursor.{Cursor}
@@ -19,15 +20,13 @@ use native.Mathlib.Omega.{arith}
 
 -- Is it all White_Space?
 pub record Blanking (text : List ℕ) (c d : Cursor) : Type 0 where
-  pub within : d .at ≤ length text
-  pub readable : Readable (d .mode)
   pub rest : blank (left text d) ≡ blank (left text c)
 
 module _ (text : List ℕ) (c d : Cursor) (k : Blanking text c d) where
-  module _ (b : ℕ) (e : Cursor) (y : Yields·byte text d b e) (p : Bool) (is : p ≡ blank-part b (left text e)) where
+  module _ (b : ℕ) (e : Cursor) (y : Yields·byte text (d .at) (left text d) b e) (p : Bool) (is : p ≡ blank-part b (left text e)) where
     pub blanking-turn : p ≡ true → Blanking text c e
     unfolding blank
-    blanking-turn t = record { within = y .within; readable = y .readable; rest = sym (rw (y .here, ← is, t)) ∙ k .rest }
+    blanking-turn t = record { rest = sym (rw (y .here, ← is, t)) ∙ k .rest }
 
     pub blanking-over : p ≡ false → false ≡ blank (left text c)
     unfolding blank
@@ -56,19 +55,17 @@ alike-none (b ∷ r) = refl
 -- Is it this key?
 pub record Matching (text key : List ℕ) (c d : Cursor) (i : ℕ) : Type 0 where
   pub short : i ≤ length key
-  pub within : d .at ≤ length text
-  pub readable : Readable (d .mode)
   pub rest : alike (drop i key) (left text d) ≡ alike key (left text c)
 
 module _ (text key : List ℕ) (c d : Cursor) (i : ℕ) (k : Matching text key c d i) where
   module _ (h : i < length key) where
-    module _ (b : ℕ) (e : Cursor) (y : Yields·byte text d b e) where
+    module _ (b : ℕ) (e : Cursor) (y : Yields·byte text (d .at) (left text d) b e) where
       byte : alike (drop i key) (left text d) ≡ eqb (lower (getD key i 0)) (lower b) && alike (drop (i + 1) key) (left text e)
       unfolding alike
       byte = rw (drop-next key i h, y .here)
 
       pub matching-turn : lower (getD key i 0) ≡ lower b → Matching text key c e (i + 1)
-      matching-turn s = record { short = omega arith; within = y .within; readable = y .readable; rest = sym (byte ∙ rw (eq-eqb (lower (getD key i 0)) (lower b) s)) ∙ k .rest }
+      matching-turn s = record { short = omega arith; rest = sym (byte ∙ rw (eq-eqb (lower (getD key i 0)) (lower b) s)) ∙ k .rest }
 
       pub matching-over : (lower (getD key i 0) ≡ lower b → ⊥) → false ≡ alike key (left text c)
       matching-over s = sym (byte ∙ rw (ne-eqb (lower (getD key i 0)) (lower b) s)) ∙ k .rest
@@ -82,10 +79,6 @@ module _ (text key : List ℕ) (c d : Cursor) (i : ℕ) (k : Matching text key c
 
 -- Is it the same name as another text?
 pub record Comparing (text : List ℕ) (x y c d : Cursor) : Type 0 where
-  pub within : c .at ≤ length text
-  pub readable : Readable (c .mode)
-  pub within2 : d .at ≤ length text
-  pub readable2 : Readable (d .mode)
   pub rest : alike (spaced (left text c)) (spaced (left text d)) ≡ alike (spaced (left text x)) (spaced (left text y))
 
 -- a byte as names are compared
@@ -98,14 +91,14 @@ empty-spaced [] = refl
 empty-spaced (b ∷ r) = refl
 
 module _ (text : List ℕ) (x y c d : Cursor) (k : Comparing text x y c d) where
-  module _ (a : ℕ) (e : Cursor) (p : Yields·byte text c a e) where
-    module _ (b : ℕ) (f : Cursor) (q : Yields·byte text d b f) where
+  module _ (a : ℕ) (e : Cursor) (p : Yields·byte text (c .at) (left text c) a e) where
+    module _ (b : ℕ) (f : Cursor) (q : Yields·byte text (d .at) (left text d) b f) where
       bytes : alike (spaced (left text c)) (spaced (left text d)) ≡ eqb (folded a) (folded b) && alike (spaced (left text e)) (spaced (left text f))
       unfolding alike spaced
       bytes = rw (p .here, q .here)
 
       pub comparing-turn : folded a ≡ folded b → Comparing text x y e f
-      comparing-turn s = record { within = p .within; readable = p .readable; within2 = q .within; readable2 = q .readable; rest = sym (bytes ∙ rw (eq-eqb (folded a) (folded b) s)) ∙ k .rest }
+      comparing-turn s = record { rest = sym (bytes ∙ rw (eq-eqb (folded a) (folded b) s)) ∙ k .rest }
 
       pub comparing-over : (folded a ≡ folded b → ⊥) → false ≡ alike (spaced (left text x)) (spaced (left text y))
       comparing-over s = sym (bytes ∙ rw (ne-eqb (folded a) (folded b) s)) ∙ k .rest
@@ -123,8 +116,6 @@ abbrev pub bounded : ℕ → ℕ
 bounded n = pick (leb n largest) n 0
 
 pub record Counting (text : List ℕ) (c d : Cursor) (n : ℕ) : Type 0 where
-  pub within : d .at ≤ length text
-  pub readable : Readable (d .mode)
   pub small : n ≤ 18446744073709551615
   pub rest : bounded (digits n (left text d)) ≡ bounded (digits 0 (left text c))
 
@@ -139,7 +130,7 @@ digits-large n (b ∷ r) h = go (leb 48 b && leb b 57) (digits-large (n * 10 + (
     go false e = refl
 
 module _ (text : List ℕ) (c d : Cursor) (n : ℕ) (k : Counting text c d n) where
-  module _ (b : ℕ) (e : Cursor) (y : Yields·byte text d b e) where
+  module _ (b : ℕ) (e : Cursor) (y : Yields·byte text (d .at) (left text d) b e) where
     pub counting-other : (leb 48 b && leb b 57 ≡ false) → 0 ≡ bounded (digits 0 (left text c))
     unfolding digits largest pick
     counting-other f = sym (rw (y .here, f)) ∙ k .rest
@@ -153,7 +144,7 @@ module _ (text : List ℕ) (c d : Cursor) (n : ℕ) (k : Counting text c d n) wh
       counting-large h = sym (digit ∙ digits-large (n * 10 + (b - 48)) (left text e) h) ∙ k .rest
 
       pub counting-turn : n * 10 + (b - 48) ≤ 18446744073709551615 → Counting text c e (n * 10 + (b - 48))
-      counting-turn h = record { within = y .within; readable = y .readable; small = h; rest = sym digit ∙ k .rest }
+      counting-turn h = record { small = h; rest = sym digit ∙ k .rest }
 
   pub counting-end : left text d ≡ [] → n ≡ bounded (digits 0 (left text c))
   unfolding digits largest pick

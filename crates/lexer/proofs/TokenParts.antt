@@ -1,10 +1,10 @@
 -- The kind and the text of the token that begins at a byte, by the byte's symbol. Assumes nothing.
-use Prim.Native.Nat.{ℕ, _+_, _≤_, _<_}
+use Prim.Native.Nat.{ℕ, _+_, _<_}
 use Rattle.lexer.proofs.ListLaws.{drop-next}
 use Rattle.lexer.proofs.Symbol as tags
 use Rattle.lexer.proofs.SymbolTags.{numbered, tag-symbol}
 use Rattle.lexer.specs.Base.{pick}
-use Rattle.lexer.specs.Bytes.{left, rest·of, first, Readable}
+use Rattle.lexer.specs.Bytes.{cursor, front·at, front·of, left, rest·of, first}
 use Rattle.lexer.specs.Classes.{symbol, rank, newline?, single?, double?, open?, other?, part?}
 use Rattle.lexer.specs.Lexing.{token·at, first·token}
 use Rattle.lexer.specs.Scanning.{symbol·at, first·symbol}
@@ -17,17 +17,12 @@ use denote.Enum.Declared.{tagOf}
 use lib.ListN.{length, getD, drop}
 use mathlib.Core.List.{List, [], _∷_}
 use mathlib.Core.Logic.{inl, inr}
-use mathlib.Core.Path.{_≡_, sym, _∙_}
-use native.Mathlib.Omega.{arith}
+use mathlib.Core.Path.{_≡_, refl, sym, _∙_}
 use types.Run.{OneOf}
 
 -- The tags of the symbols at which a punctuation mark begins, if a token does.
 abbrev Marks : Symbol → Type 0
 Marks s = OneOf (1 ∷ 2 ∷ 5 ∷ 6 ∷ 7 ∷ 9 ∷ []) (tagOf tags.the-type s)
-
--- What a cursor at the front of a token's text is.
-abbrev pub Fronts : List ℕ → ℕ → Cursor → Type 0
-Fronts text i r = (left text r ≡ token·at text i .text) × (r .at ≤ length text) × Readable (r .mode)
 
 module _ (text : List ℕ) (i : ℕ) (h : i < length text) (s : Symbol) (is : s ≡ symbol·at text i) where
   here : s ≡ symbol (getD text i 0) (drop (i + 1) text)
@@ -67,31 +62,53 @@ module _ (text : List ℕ) (i : ℕ) (h : i < length text) (s : Symbol) (is : s 
   kind-mark (inr (inr (inr (inr (inl e))))) = sym (kind-symbol ∙ rw (tag-symbol s 7 e))
   kind-mark (inr (inr (inr (inr (inr e))))) = sym (kind-symbol ∙ rw (tag-symbol s 9 e))
 
-  -- The cursor at the front of the token's text
-  pub front-newline : s ≡ Symbol.Newline → Fronts text i (record { at = i; mode = Mode.Comment 0 })
-  unfolding left rest·of text·of newline? rank pick
-  front-newline e = (sym (text-symbol ∙ rw e), omega arith, tt)
+  -- The cursor at the front of the token's text: it is the one defined, by the arm of the match,
+  front-symbol : front·at text i ≡ front·of s i
+  unfolding front·at
+  front-symbol = rw is
 
-  pub front-single : s ≡ Symbol.Single → Fronts text i (record { at = i + 1; mode = Mode.Quoted })
-  unfolding left rest·of text·of newline? single? rank pick
-  front-single e = (sym (text-symbol ∙ rw e), omega arith, tt)
+  pub front-newline : s ≡ Symbol.Newline → cursor (Mode.Comment 0) i ≡ front·at text i
+  unfolding front·of newline? rank pick
+  front-newline e = sym (front-symbol ∙ rw e)
 
-  pub front-double : s ≡ Symbol.Double → Fronts text i (record { at = i + 1; mode = Mode.String })
-  unfolding left rest·of text·of newline? single? double? rank pick
-  front-double e = (sym (text-symbol ∙ rw e), omega arith, tt)
+  pub front-single : s ≡ Symbol.Single → cursor Mode.Quoted (i + 1) ≡ front·at text i
+  unfolding front·of newline? single? rank pick
+  front-single e = sym (front-symbol ∙ rw e)
 
-  pub front-word : s ≡ Symbol.Other → Fronts text i (record { at = i; mode = Mode.Word })
-  unfolding left rest·of text·of newline? single? double? open? other? part? rank pick tail next after·word after·between text·step
-  front-word e = (rw (drop-next text i h, ← here, e) (sym (text-symbol ∙ rw e)), omega arith, tt)
+  pub front-double : s ≡ Symbol.Double → cursor Mode.String (i + 1) ≡ front·at text i
+  unfolding front·of newline? single? double? rank pick
+  front-double e = sym (front-symbol ∙ rw e)
 
-  pub front-mark : Marks s → Fronts text i (record { at = i; mode = Mode.Between })
-  unfolding left rest·of first text·of newline? single? double? other? rank pick numbered
-  front-mark m = (rw (drop-next text i h) (sym (text-symbol ∙ go m)), omega arith, tt)
-    where
-      go : Marks s → text·of s (getD text i 0) (drop (i + 1) text) ≡ getD text i 0 ∷ []
-      go (inl e) = rw (tag-symbol s 1 e)
-      go (inr (inl e)) = rw (tag-symbol s 2 e)
-      go (inr (inr (inl e))) = rw (tag-symbol s 5 e)
-      go (inr (inr (inr (inl e)))) = rw (tag-symbol s 6 e)
-      go (inr (inr (inr (inr (inl e))))) = rw (tag-symbol s 7 e)
-      go (inr (inr (inr (inr (inr e))))) = rw (tag-symbol s 9 e)
+  pub front-word : s ≡ Symbol.Other → cursor Mode.Word i ≡ front·at text i
+  unfolding front·of newline? single? double? other? rank pick
+  front-word e = sym (front-symbol ∙ rw e)
+
+  pub front-mark : Marks s → cursor Mode.Between i ≡ front·at text i
+  unfolding front·of newline? single? double? other? rank pick numbered
+  front-mark (inl e) = sym (front-symbol ∙ rw (tag-symbol s 1 e))
+  front-mark (inr (inl e)) = sym (front-symbol ∙ rw (tag-symbol s 2 e))
+  front-mark (inr (inr (inl e))) = sym (front-symbol ∙ rw (tag-symbol s 5 e))
+  front-mark (inr (inr (inr (inl e)))) = sym (front-symbol ∙ rw (tag-symbol s 6 e))
+  front-mark (inr (inr (inr (inr (inl e))))) = sym (front-symbol ∙ rw (tag-symbol s 7 e))
+  front-mark (inr (inr (inr (inr (inr e))))) = sym (front-symbol ∙ rw (tag-symbol s 9 e))
+
+-- and what is left there is the token's text.
+front-text : (text : List ℕ) (i : ℕ) → i < length text → (s : Symbol) → s ≡ symbol (getD text i 0) (drop (i + 1) text)
+    → left text (front·of s i) ≡ text·of s (getD text i 0) (drop (i + 1) text)
+unfolding front·of left rest·of first text·of newline? single? double? open? other? part? rank pick tail next after·word after·between text·step
+front-text text i h Symbol.Newline e = refl
+front-text text i h Symbol.Return e = rw (drop-next text i h)
+front-text text i h Symbol.Blank e = rw (drop-next text i h)
+front-text text i h Symbol.Single e = refl
+front-text text i h Symbol.Double e = refl
+front-text text i h Symbol.Open e = rw (drop-next text i h)
+front-text text i h Symbol.Close e = rw (drop-next text i h)
+front-text text i h Symbol.Punctuation e = rw (drop-next text i h)
+front-text text i h Symbol.Other e = rw (drop-next text i h, ← e)
+front-text text i h Symbol.Part e = rw (drop-next text i h)
+
+pub front-left : (text : List ℕ) (i : ℕ) (c : Cursor) → i < length text → c ≡ front·at text i → left text c ≡ token·at text i .text
+front-left text i c h e = rw e (go (symbol·at text i) refl)
+  where
+    go : (s : Symbol) → s ≡ symbol·at text i → left text (front·at text i) ≡ token·at text i .text
+    go s is = rw (front-symbol text i h s is, text-symbol text i h s is) (front-text text i h s (here text i h s is))

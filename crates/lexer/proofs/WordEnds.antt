@@ -23,34 +23,57 @@ unfolding word·end
 word-unmarked m n i [] = refl
 word-unmarked m n i (b ∷ r) = rw (word-unmarked m n (suc i) r)
 
+-- What follows a word by depth, place and rest, and in a comment goes by its brackets alone: it comes to what it does behind the comment, by
+-- where the comment has ended.
+module _ {X : Type 0} (text : List ℕ) (follow : ℕ → ℕ → List ℕ → X) (over : ℕ → X) where
+  abbrev pub behind : Scan → X
+  behind (Scan.At j) = follow 0 j (drop j text)
+  behind (Scan.Open m) = over m
+
+  behind-pick : (o e : Bool) (x y z : X) (u v w : Scan) → x ≡ behind u → y ≡ behind v → z ≡ behind w → pick o x (pick e y z) ≡ behind (pick o u (pick e v w))
+  unfolding pick
+  behind-pick true e x y z u v w p q r = p
+  behind-pick false true x y z u v w p q r = q
+  behind-pick false false x y z u v w p q r = r
+
+  module _ (mark : ℕ) (none : (d i : ℕ) → follow (suc d) i [] ≡ over mark)
+      (step : (d i b : ℕ) (r : List ℕ) → follow (suc d) i (b ∷ r)
+      ≡ pick (eqb b 91) (follow (suc (suc d)) (suc i) r) (pick (eqb b 93) (follow d (suc i) r) (follow (suc d) (suc i) r))) where
+    pub comment-passed : (d i : ℕ) (r : List ℕ) → r ≡ drop i text → follow (suc d) i r ≡ behind (comment·end mark d i r)
+    unfolding comment·end
+    comment-passed zero i [] e = none 0 i
+    comment-passed (suc d) i [] e = none (suc d) i
+    comment-passed zero i (b ∷ r) e =
+        let t = drop-tail text i b r e in
+        step 0 i b r
+        ∙ behind-pick (eqb b 91) (eqb b 93) _ _ _ (comment·end mark 1 (suc i) r) (Scan.At (suc i)) (comment·end mark 0 (suc i) r)
+        (comment-passed 1 (suc i) r t)
+        (ap (follow 0 (suc i)) t)
+        (comment-passed 0 (suc i) r t)
+    comment-passed (suc d) i (b ∷ r) e =
+        let t = drop-tail text i b r e in
+        step (suc d) i b r
+        ∙ behind-pick (eqb b 91) (eqb b 93) _ _ _ (comment·end mark (suc (suc d)) (suc i) r) (comment·end mark d (suc i) r) (comment·end mark (suc d) (suc i) r)
+        (comment-passed (suc (suc d)) (suc i) r t)
+        (comment-passed d (suc i) r t)
+        (comment-passed (suc d) (suc i) r t)
+
 -- What a word comes to behind a comment in it, by where the comment has ended.
 abbrev pub resumed : List ℕ → Scan → Scan
 resumed text (Scan.At j) = word·end 0 0 j (drop j text)
 resumed text (Scan.Open mark) = Scan.Open mark
 
-resumed-pick : (text : List ℕ) (o e : Bool) (x y z u v w : Scan) → x ≡ resumed text u → y ≡ resumed text v → z ≡ resumed text w
-    → pick o x (pick e y z) ≡ resumed text (pick o u (pick e v w))
-unfolding pick
-resumed-pick text true e x y z u v w p q r = p
-resumed-pick text false true x y z u v w p q r = q
-resumed-pick text false false x y z u v w p q r = r
-
 -- Inside a comment a word goes on as the comment does, and behind it as a word.
 pub word-comment : (text : List ℕ) (mark d i : ℕ) (r : List ℕ) → r ≡ drop i text → word·end (suc d) mark i r ≡ resumed text (comment·end mark d i r)
-unfolding word·end comment·end
-word-comment text mark d i [] e = refl
-word-comment text mark zero i (b ∷ r) e =
-    let t = drop-tail text i b r e in
-    resumed-pick text (eqb b 91) (eqb b 93) _ _ _ (comment·end mark 1 (suc i) r) (Scan.At (suc i)) (comment·end mark 0 (suc i) r)
-    (word-comment text mark 1 (suc i) r t)
-    (word-unmarked mark 0 (suc i) r ∙ ap (word·end 0 0 (suc i)) t)
-    (word-comment text mark 0 (suc i) r t)
-word-comment text mark (suc d) i (b ∷ r) e =
-    let t = drop-tail text i b r e in
-    resumed-pick text (eqb b 91) (eqb b 93) _ _ _ (comment·end mark (suc (suc d)) (suc i) r) (comment·end mark d (suc i) r) (comment·end mark (suc d) (suc i) r)
-    (word-comment text mark (suc (suc d)) (suc i) r t)
-    (word-comment text mark d (suc i) r t)
-    (word-comment text mark (suc d) (suc i) r t)
+unfolding word·end
+word-comment text mark d i r e = comment-passed text follow Scan.Open mark (λ d i. refl) (λ d i b r. refl) d i r e ∙ unmarked (comment·end mark d i r)
+  where
+    follow : ℕ → ℕ → List ℕ → Scan
+    follow d i r = word·end d mark i r
+
+    unmarked : (s : Scan) → behind text follow Scan.Open s ≡ resumed text s
+    unmarked (Scan.At j) = word-unmarked mark 0 j (drop j text)
+    unmarked (Scan.Open m) = refl
 
 -- What the turns of the loop keep: from here the word ends where it does from its start.
 pub record Wording (text : List ℕ) (from i : ℕ) : Type 0 where

@@ -1,8 +1,8 @@
 // What the token that begins at a byte can be taken for: a keyword, a punctuation mark, a name, a number.
 
-ghost use Prim.Native.Nat.{_<_, _≤_, _+_};
+ghost use Prim.Native.Nat.{_<_, _+_};
 ghost use Rattle.lexer.specs.Base.{pick, lower, alike, given, empty?};
-ghost use Rattle.lexer.specs.Bytes.{left, Readable};
+ghost use Rattle.lexer.specs.Bytes.{left};
 ghost use Rattle.lexer.specs.Classes.{symbol, space?, part?, blank};
 ghost use Rattle.lexer.specs.Lexing.{token·at, word·at};
 ghost use Rattle.lexer.specs.Words.{is, punct, label, spaced, digits, largest, positive};
@@ -32,7 +32,6 @@ fn lower(b: u8) -> u8
 
 // Is nothing left of the text?
 fn ended(text: &[u8], c: Cursor) -> bool
-    requires { ⌜ (c .at ≤ length (now text)) × Readable (c .mode) ⌝ }
     ensures { λ r. ⌜ r ≡ empty? (left (now (text .entry)) c) ⌝ }
 {
     match next_byte(text, c) {
@@ -43,7 +42,6 @@ fn ended(text: &[u8], c: Cursor) -> bool
 
 // Is what is left of the text this key, ASCII case ignored?
 fn text_is(text: &[u8], c: Cursor, key: &[u8]) -> bool
-    requires { ⌜ (c .at ≤ length (now text)) × Readable (c .mode) ⌝ }
     ensures { λ r. ⌜ r ≡ alike (now (key .entry)) (left (now (text .entry)) c) ⌝ }
 {
     let mut d = c;
@@ -90,7 +88,6 @@ pub fn punct_at(text: &[u8], start: usize, b: u8) -> bool
 
 // The next byte that is left of the text, or 0.
 fn byte_ahead(text: &[u8], c: Cursor) -> u8
-    requires { ⌜ (c .at ≤ length (now text)) × Readable (c .mode) ⌝ }
     ensures { λ r. ⌜ r ≡ getD (left (now (text .entry)) c) 0 0 ⌝ }
 {
     match next_byte(text, c) {
@@ -101,7 +98,6 @@ fn byte_ahead(text: &[u8], c: Cursor) -> u8
 
 // The byte behind the next, or 0.
 fn second_ahead(text: &[u8], c: Cursor) -> u8
-    requires { ⌜ (c .at ≤ length (now text)) × Readable (c .mode) ⌝ }
     ensures { λ r. ⌜ r ≡ getD (left (now (text .entry)) c) 1 0 ⌝ }
 {
     match next_byte(text, c) {
@@ -112,7 +108,6 @@ fn second_ahead(text: &[u8], c: Cursor) -> u8
 
 // Is a byte before what is left of the text one of a blank?
 fn blank_byte(text: &[u8], b: u8, c: Cursor) -> bool
-    requires { ⌜ (c .at ≤ length (now text)) × Readable (c .mode) ⌝ }
     ensures { λ r. ⌜ r ≡ (space? (symbol b (left (now (text .entry)) c)) || part? (symbol b (left (now (text .entry)) c))) ⌝ }
 {
     if b < 192 {
@@ -124,7 +119,6 @@ fn blank_byte(text: &[u8], b: u8, c: Cursor) -> bool
 
 // Is what is left of the text all White_Space?
 fn blank_text(text: &[u8], c: Cursor) -> bool
-    requires { ⌜ (c .at ≤ length (now text)) × Readable (c .mode) ⌝ }
     ensures { λ r. ⌜ r ≡ blank (left (now (text .entry)) c) ⌝ }
 {
     let mut d = c;
@@ -166,7 +160,6 @@ fn folded(b: u8) -> u8
 
 // Are two texts the same name?
 fn texts_alike(text: &[u8], x: Cursor, y: Cursor) -> bool
-    requires { ⌜ (x .at ≤ length (now text)) × Readable (x .mode) × (y .at ≤ length (now text)) × Readable (y .mode) ⌝ }
     ensures { λ r. ⌜ r ≡ alike (spaced (left (now (text .entry)) x)) (spaced (left (now (text .entry)) y)) ⌝ }
 {
     let mut c = x;
@@ -202,7 +195,6 @@ pub fn labels_alike(text: &[u8], a: usize, b: usize) -> bool
 
 // The value of the decimal digits that are left of the text; 0 if there is another byte among them, or it takes more than 64 bits.
 fn digits_value(text: &[u8], c: Cursor) -> u64
-    requires { ⌜ (c .at ≤ length (now text)) × Readable (c .mode) ⌝ }
     ensures { λ r. ⌜ r ≡ pick (leb (digits 0 (left (now (text .entry)) c)) largest) (digits 0 (left (now (text .entry)) c)) 0 ⌝ }
 {
     let mut n: u64 = 0;

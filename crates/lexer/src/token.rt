@@ -1,11 +1,9 @@
 // The kind and the text of the token that begins at a byte. A token is known by its start alone.
 
-ghost use Prim.Native.Nat.{_<_, _≤_, _+_};
-ghost use Rattle.lexer.specs.Bytes.{left, Plain, Readable, Yields};
-ghost use Rattle.lexer.specs.declared.Cursor.{Cursor};
-ghost use Rattle.lexer.specs.declared.Mode.{Mode};
+ghost use Prim.Native.Nat.{_<_, _+_};
+ghost use Rattle.lexer.specs.Bytes.{front·at, mark·item, next·item, quoted·item, string·item, text·item, word·item};
 ghost use Rattle.lexer.specs.Lexing.{token·at};
-ghost use lib.ListN.{length, getD};
+ghost use lib.ListN.{length, drop};
 ghost use mathlib.Core.Path.{_≡_};
 use super::Cursor;
 use super::Item;
@@ -33,7 +31,7 @@ pub fn kind_at(text: &[u8], start: usize) -> Kind
 // A cursor at the front of the token's text.
 pub fn text_start(text: &[u8], start: usize) -> Cursor
     requires { ⌜ start < length (now text) ⌝ }
-    ensures { λ r. ⌜ (left (now (text .entry)) r ≡ token·at (now (text .entry)) start .text) × (r .at ≤ length (now (text .entry))) × Readable (r .mode) ⌝ }
+    ensures { λ r. ⌜ r ≡ front·at (now (text .entry)) start ⌝ }
 {
     match symbol_at(text, start) {
         Symbol::Newline => Cursor {
@@ -61,8 +59,7 @@ pub fn text_start(text: &[u8], start: usize) -> Cursor
 
 // The next byte of a word: comments in it are passed over.
 fn word_byte(text: &[u8], from: usize) -> Item
-    requires { ⌜ from ≤ length (now text) ⌝ }
-    ensures { λ r. ⌜ Yields (now (text .entry)) (record { at = from; mode = Mode.Word }) r ⌝ }
+    ensures { λ r. ⌜ r ≡ word·item 0 from (drop from (now (text .entry))) ⌝ }
 {
     let mut i = from;
     while i < text.len() {
@@ -94,8 +91,8 @@ fn word_byte(text: &[u8], from: usize) -> Item
 
 // The byte at i of quoted text, with the cursor behind it: every newline is LF, and the CR of a CR LF is none of its own.
 fn text_byte(text: &[u8], i: usize, mode: Mode) -> Item
-    requires { ⌜ (i < length (now text)) × Plain mode (getD (now text) i 0) ⌝ }
-    ensures { λ r. ⌜ Yields (now (text .entry)) (record { at = i; mode = mode }) r ⌝ }
+    requires { ⌜ i < length (now text) ⌝ }
+    ensures { λ r. ⌜ r ≡ text·item mode i (drop i (now (text .entry))) ⌝ }
 {
     let b = text[i];
     let next = i + 1;
@@ -112,8 +109,7 @@ fn text_byte(text: &[u8], i: usize, mode: Mode) -> Item
 
 // The next byte of single-quoted text: two quotes are one.
 fn quoted_byte(text: &[u8], i: usize) -> Item
-    requires { ⌜ i ≤ length (now text) ⌝ }
-    ensures { λ r. ⌜ Yields (now (text .entry)) (record { at = i; mode = Mode.Quoted }) r ⌝ }
+    ensures { λ r. ⌜ r ≡ quoted·item i (drop i (now (text .entry))) ⌝ }
 {
     if text.len() <= i {
         return Item::End;
@@ -138,8 +134,7 @@ fn quoted_byte(text: &[u8], i: usize) -> Item
 
 // The next byte of double-quoted text.
 fn string_byte(text: &[u8], i: usize) -> Item
-    requires { ⌜ i ≤ length (now text) ⌝ }
-    ensures { λ r. ⌜ Yields (now (text .entry)) (record { at = i; mode = Mode.String }) r ⌝ }
+    ensures { λ r. ⌜ r ≡ string·item i (drop i (now (text .entry))) ⌝ }
 {
     if text.len() <= i {
         return Item::End;
@@ -152,8 +147,7 @@ fn string_byte(text: &[u8], i: usize) -> Item
 
 // The byte of a mark.
 fn mark_byte(text: &[u8], i: usize) -> Item
-    requires { ⌜ i ≤ length (now text) ⌝ }
-    ensures { λ r. ⌜ Yields (now (text .entry)) (record { at = i; mode = Mode.Between }) r ⌝ }
+    ensures { λ r. ⌜ r ≡ mark·item i (drop i (now (text .entry))) ⌝ }
 {
     if i < text.len() {
         return Item::Byte(
@@ -167,10 +161,9 @@ fn mark_byte(text: &[u8], i: usize) -> Item
     Item::End
 }
 
-// The next byte of a token's text. The cursor is one that `text_start` or this function gives.
+// The next byte of a token's text, and the cursor behind it.
 pub fn next_byte(text: &[u8], c: Cursor) -> Item
-    requires { ⌜ (c .at ≤ length (now text)) × Readable (c .mode) ⌝ }
-    ensures { λ r. ⌜ Yields (now (text .entry)) c r ⌝ }
+    ensures { λ r. ⌜ r ≡ next·item (now (text .entry)) c ⌝ }
 {
     let at = c.at;
     let mode = c.mode;

@@ -1,5 +1,6 @@
 -- The function `is_at` meets its contract: only a word is a keyword. Assumes nothing.
 use Rattle.lexer.proofs.KindTags.{tags-other}
+use Rattle.lexer.proofs.TokenParts.{front-left}
 use Rattle.lexer.proofs.label.is_at.Statement.{statement}
 use Rattle.lexer.proofs.label.is_at.Tie as tie
 use Rattle.lexer.specs.Lexing.{word·at}
@@ -20,7 +21,10 @@ text-is-requires c κs = search needs
 
 returns : tie.Need-returns
 unfolding is word·at word?
-returns c = rw (← c .before .before .before .before .kind-at .ensures, c .before .before .enum-told .given .1, ← c .before .text-start .ensures .0) (c .text-is .ensures)
+returns c =
+    let k = c .before .before .before .before in
+    let text = front-left _ _ _ (k .before .before .before .pre) (c .before .text-start .ensures) in
+    rw (← k .kind-at .ensures, c .before .before .enum-told .given .1, ← text) (c .text-is .ensures)
 
 returns-2 : tie.Need-returns-2
 unfolding is word·at

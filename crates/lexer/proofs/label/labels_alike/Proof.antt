@@ -1,4 +1,5 @@
 -- The function `labels_alike` meets its contract. Assumes nothing.
+use Rattle.lexer.proofs.TokenParts.{front-left}
 use Rattle.lexer.proofs.label.labels_alike.Statement.{statement}
 use Rattle.lexer.proofs.label.labels_alike.Tie as tie
 use borrow.Author.Needs.{needs}
@@ -13,7 +14,11 @@ texts-alike-requires : tie.Need-texts-alike-requires
 texts-alike-requires c κs = search needs
 
 returns : tie.Need-returns
-returns c = rw (← c .before .before .text-start .ensures .0, ← c .before .text-start2 .ensures .0) (c .texts-alike .ensures)
+returns c =
+    let s = c .before .before in
+    let first = front-left _ _ _ (s .before .before .pre .0) (s .text-start .ensures) in
+    let second = front-left _ _ _ (s .before .before .pre .1) (c .before .text-start2 .ensures) in
+    rw (← first, ← second) (c .texts-alike .ensures)
 
 pub labels-alike-spec : {M : Type 1} → statement M
 labels-alike-spec =

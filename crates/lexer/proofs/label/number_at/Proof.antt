@@ -1,5 +1,7 @@
 -- The function `number_at` meets its contract: digits, with a `+` in front or without. Assumes nothing.
+use Rattle.lexer.proofs.NextBytes.{yielded}
 use Rattle.lexer.proofs.TextWalks.{positive-plus, positive-plain, positive-none}
+use Rattle.lexer.proofs.TokenParts.{front-left}
 use Rattle.lexer.proofs.label.number_at.Statement.{statement}
 use Rattle.lexer.proofs.label.number_at.Tie as tie
 use borrow.Author.Needs.{needs}
@@ -15,13 +17,14 @@ enum-known-b : tie.Need-enum-known-b
 enum-known-b c = search needs
 
 digits-value-requires : tie.Need-digits-value-requires
-digits-value-requires c κs = let y = c .before .before .before .before .next-byte .ensures .byte _ _ (c .before .before .b .given .1) in (y .within, y .readable)
+digits-value-requires c κs = search needs
 
 returns : tie.Need-returns
 returns c =
     let k = c .before .before in
-    let read = k .before .before .before .next-byte .ensures .byte _ _ (k .before .b .given .1) in
-    c .digits-value .ensures ∙ rw (← k .before .before .before .before .text-start .ensures .0) (positive-plus _ _ _ (read .here) (c .before .if1 .taken))
+    let read = yielded _ _ _ (k .before .before .before .next-byte .ensures) .byte _ _ (k .before .b .given .1) in
+    let s = k .before .before .before .before in
+    c .digits-value .ensures ∙ rw (← front-left _ _ _ (s .before .before .pre) (s .text-start .ensures)) (positive-plus _ _ _ (read .here) (c .before .if1 .taken))
 
 digits-value-requires-2 : tie.Need-digits-value-requires-2
 digits-value-requires-2 c κs = search needs
@@ -32,13 +35,15 @@ enum-told c = search needs
 returns-2 : tie.Need-returns-2
 returns-2 c =
     let k = c .before .before in
-    let read = k .before .before .before .next-byte .ensures .byte _ _ (k .before .b .given .1) in
-    c .digits-value2 .ensures ∙ rw (← k .before .before .before .before .text-start .ensures .0) (positive-plain _ _ _ (read .here) (c .before .if1 .left))
+    let read = yielded _ _ _ (k .before .before .before .next-byte .ensures) .byte _ _ (k .before .b .given .1) in
+    let s = k .before .before .before .before in
+    c .digits-value2 .ensures ∙ rw (← front-left _ _ _ (s .before .before .pre) (s .text-start .ensures)) (positive-plain _ _ _ (read .here) (c .before .if1 .left))
 
 returns-3 : tie.Need-returns-3
 returns-3 c =
     let n = c .before .before in
-    rw (← n .before .text-start .ensures .0) (positive-none _ (n .next-byte .ensures .end (c .enum-told .given .1)))
+    let s = n .before in
+    rw (← front-left _ _ _ (s .before .before .pre) (s .text-start .ensures)) (positive-none _ (yielded _ _ _ (n .next-byte .ensures) .end (c .enum-told .given .1)))
 
 pub number-at-spec : {M : Type 1} → statement M
 number-at-spec =

@@ -1,6 +1,7 @@
 -- The function `text_is` meets its contract. A turn passes one byte of the key and one of the text that are alike, and keeps whether all are. The
 -- measure is what is left of the key. Assumes nothing.
 use Prim.Native.Nat.{_-_}
+use Rattle.lexer.proofs.NextBytes.{yielded}
 use Rattle.lexer.proofs.TextWalks.{Matching, matching-turn, matching-over, matching-short, matching-end}
 use Rattle.lexer.proofs.label.text_is.Statement.{statement}
 use Rattle.lexer.proofs.label.text_is.Tie as tie
@@ -16,10 +17,10 @@ abbrev μ-loop : tie.MeasureT-loop
 μ-loop text key d₀ i₀ d i = length key - i
 
 loop-holds : tie.Need-loop-holds Inv-loop μ-loop
-loop-holds c = record { short = omega arith; within = c .before .before .pre .0; readable = c .before .before .pre .1; rest = refl }
+loop-holds c = record { short = omega arith; rest = refl }
 
 next-byte-requires : tie.Need-next-byte-requires Inv-loop μ-loop
-next-byte-requires c κs = (c .before .loop .inv .within, c .before .loop .inv .readable)
+next-byte-requires c κs = search needs
 
 enum-known-b : tie.Need-enum-known-b Inv-loop μ-loop
 enum-known-b c = search needs
@@ -37,7 +38,7 @@ returns : tie.Need-returns Inv-loop μ-loop
 returns c =
     let k = c .before .before .before .before in
     let l = k .before .before .before .before in
-    let read = k .before .before .before .next-byte .ensures .byte _ _ (k .before .b .given .1) in
+    let read = yielded _ _ _ (k .before .before .before .next-byte .ensures) .byte _ _ (k .before .b .given .1) in
     matching-over _ _ _ _ _ (l .before .loop .inv) (l .loop-test .taken) _ _ read (λ e. c .if1 .taken (c .before .before .lower .ensures ∙ e ∙ sym (c .before .lower2 .ensures)))
 
 add-i : tie.Need-add-i Inv-loop μ-loop
@@ -50,17 +51,17 @@ loop-again : tie.Need-loop-again Inv-loop μ-loop
 loop-again c =
     let k = c .before .before .before .before in
     let l = k .before .before .before .before in
-    let read = k .before .before .before .next-byte .ensures .byte _ _ (k .before .b .given .1) in
+    let read = yielded _ _ _ (k .before .before .before .next-byte .ensures) .byte _ _ (k .before .b .given .1) in
     matching-turn _ _ _ _ _ (l .before .loop .inv) (l .loop-test .taken) _ _ read (sym (c .before .before .lower .ensures) ∙ c .if1 .left ∙ c .before .lower2 .ensures)
 
 enum-told : tie.Need-enum-told Inv-loop μ-loop
 enum-told c = search needs
 
 returns-2 : tie.Need-returns-2 Inv-loop μ-loop
-returns-2 c = let l = c .before .before .before in matching-short _ _ _ _ _ (l .before .loop .inv) (l .loop-test .taken) (c .before .before .next-byte .ensures .end (c .enum-told .given .1))
+returns-2 c = let l = c .before .before .before in matching-short _ _ _ _ _ (l .before .loop .inv) (l .loop-test .taken) (yielded _ _ _ (c .before .before .next-byte .ensures) .end (c .enum-told .given .1))
 
 ended-requires : tie.Need-ended-requires Inv-loop μ-loop
-ended-requires c κs = (c .before .loop .inv .within, c .before .loop .inv .readable)
+ended-requires c κs = search needs
 
 returns-3 : tie.Need-returns-3 Inv-loop μ-loop
 returns-3 c = c .ended .ensures ∙ matching-end _ _ _ _ _ (c .before .before .loop .inv) (c .before .loop-test .left)

@@ -1,5 +1,5 @@
 -- The function `mark_byte` meets its contract. Assumes nothing.
-use Rattle.lexer.proofs.QuotedBytes.{mark-here, mark-past}
+use Rattle.lexer.proofs.TextItems.{mark-here, mark-past}
 use Rattle.lexer.proofs.token.mark_byte.Statement.{statement}
 use Rattle.lexer.proofs.token.mark_byte.Tie as tie
 use borrow.Author.Needs.{needs}

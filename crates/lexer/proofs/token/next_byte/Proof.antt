@@ -1,8 +1,10 @@
 -- The function `next_byte` meets its contract, by the mode of the cursor. Assumes nothing.
-use Rattle.lexer.proofs.Yielded.{yields-mode, yields-over}
+use Rattle.lexer.proofs.TextItems.{next-mode, next-over}
 use Rattle.lexer.proofs.token.next_byte.Statement.{statement}
 use Rattle.lexer.proofs.token.next_byte.Tie as tie
+use Rattle.lexer.specs.Bytes.{item·of}
 use borrow.Author.Needs.{needs}
+use mathlib.Core.Path.{_∙_}
 
 enum-told : tie.Need-enum-told
 enum-told c = search needs
@@ -29,27 +31,23 @@ mark-byte-requires : tie.Need-mark-byte-requires
 mark-byte-requires c κs = search needs
 
 returns : tie.Need-returns
-returns c =
-    let a = c .before .before .before .before .args in
-    yields-mode (a .text .now) (a .c) _ (c .word-byte .result) (c .before .enum-told .given .1) (c .word-byte .ensures)
+unfolding item·of
+returns c = c .word-byte .ensures ∙ next-mode _ _ _ (c .before .enum-told .given .1)
 
 returns-2 : tie.Need-returns-2
-returns-2 c =
-    let a = c .before .before .before .before .args in
-    yields-mode (a .text .now) (a .c) _ (c .quoted-byte .result) (c .before .enum-told2 .given .1) (c .quoted-byte .ensures)
+unfolding item·of
+returns-2 c = c .quoted-byte .ensures ∙ next-mode _ _ _ (c .before .enum-told2 .given .1)
 
 returns-3 : tie.Need-returns-3
-returns-3 c =
-    let a = c .before .before .before .before .args in
-    yields-mode (a .text .now) (a .c) _ (c .string-byte .result) (c .before .enum-told3 .given .1) (c .string-byte .ensures)
+unfolding item·of
+returns-3 c = c .string-byte .ensures ∙ next-mode _ _ _ (c .before .enum-told3 .given .1)
 
 returns-4 : tie.Need-returns-4
-returns-4 c =
-    let a = c .before .before .before .before .args in
-    yields-mode (a .text .now) (a .c) _ (c .mark-byte .result) (c .before .enum-told4 .given .1) (c .mark-byte .ensures)
+unfolding item·of
+returns-4 c = c .mark-byte .ensures ∙ next-mode _ _ _ (c .before .enum-told4 .given .1)
 
 returns-5 : tie.Need-returns-5
-returns-5 c = yields-over _ _ (c .before .before .pre .1) (c .match .keys5)
+returns-5 c = next-over _ _ (c .match .keys5)
 
 pub next-byte-spec : {M : Type 1} → statement M
 next-byte-spec =

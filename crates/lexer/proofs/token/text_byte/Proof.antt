@@ -1,6 +1,6 @@
 -- The function `text_byte` meets its contract: a CR LF, another CR, or a byte as it is. Assumes nothing.
 use Rattle.lexer.proofs.ClassLaws.{next1-here, next1-past}
-use Rattle.lexer.proofs.QuotedBytes.{yields-plain, yields-return, yields-line}
+use Rattle.lexer.proofs.TextItems.{text-line, text-return, text-plain}
 use Rattle.lexer.proofs.token.text_byte.Statement.{statement}
 use Rattle.lexer.proofs.token.text_byte.Tie as tie
 use borrow.Author.Needs.{needs}
@@ -22,20 +22,20 @@ add-t14 c = search needs
 returns : tie.Need-returns
 returns c =
     let a = c .before .before .before .before .before in
-    yields-line _ _ _ (a .pre .0) (a .pre .1) (c .before .before .before .if1 .taken) (c .before .before .if2 .taken) (c .if3 .taken)
+    text-line _ _ (a .pre) _ (c .before .before .before .if1 .taken) (c .before .before .if2 .taken) (c .if3 .taken)
 
 returns-2 : tie.Need-returns-2
 returns-2 c =
     let a = c .before .before .before .before .before in
-    yields-return _ _ _ (a .pre .0) (a .pre .1) (c .before .before .before .if1 .taken) (next1-here _ _ 10 (c .before .before .if2 .taken) ∙ ne-eqb _ 10 (c .if3 .left))
+    text-return _ _ (a .pre) _ (c .before .before .before .if1 .taken) (next1-here _ _ 10 (c .before .before .if2 .taken) ∙ ne-eqb _ 10 (c .if3 .left))
 
 returns-3 : tie.Need-returns-3
 returns-3 c =
     let a = c .before .before .before in
-    yields-return _ _ _ (a .pre .0) (a .pre .1) (c .before .if1 .taken) (next1-past _ _ 10 (c .if2 .left))
+    text-return _ _ (a .pre) _ (c .before .if1 .taken) (next1-past _ _ 10 (c .if2 .left))
 
 returns-4 : tie.Need-returns-4
-returns-4 c = let a = c .before .before in yields-plain _ _ _ (a .pre .0) (a .pre .1) (c .if1 .left)
+returns-4 c = let a = c .before .before in text-plain _ _ (a .pre) _ (c .if1 .left)
 
 pub text-byte-spec : {M : Type 1} → statement M
 text-byte-spec =

@@ -1,24 +1,25 @@
--- The function `word_byte` meets its contract. A turn passes a comment in the word and keeps what is left of it. The measure is what is left of
+-- The function `word_byte` meets its contract. A turn passes a comment in the word and keeps the next byte. The measure is what is left of
 -- the text. Assumes nothing.
 use Prim.Native.Nat.{_-_}
-use Rattle.lexer.proofs.SymbolTags.{tags-stop}
-use Rattle.lexer.proofs.WordBytes.{Spelling, spelling-byte, spelling-over, spelling-turn, spelling-open, spelling-last}
+use Rattle.lexer.proofs.SymbolTags.{tags-continue, tags-stop}
+use Rattle.lexer.proofs.WordBytes.{item-goes-on, item-over, item-skips, item-open, item-last}
 use Rattle.lexer.proofs.WordEnds.{skip-ahead}
 use Rattle.lexer.proofs.token.word_byte.Statement.{statement}
 use Rattle.lexer.proofs.token.word_byte.Tie as tie
+use Rattle.lexer.specs.Bytes.{word·item}
 use borrow.Author.Needs.{needs}
-use lib.ListN.{length}
-use mathlib.Core.Path.{refl}
+use lib.ListN.{length, drop}
+use mathlib.Core.Path.{_≡_, refl, sym, _∙_}
 use native.Mathlib.Omega.{arith}
 
 abbrev Inv-loop : tie.InvT-loop
-Inv-loop text from i₀ i = Spelling text from i
+Inv-loop text from i₀ i = word·item 0 i (drop i text) ≡ word·item 0 from (drop from text)
 
 abbrev μ-loop : tie.MeasureT-loop
 μ-loop text from i₀ i = length text - i
 
 loop-holds : tie.Need-loop-holds Inv-loop μ-loop
-loop-holds c = record { ahead = omega arith; within = omega arith; rest = refl }
+loop-holds c = refl
 
 symbol-at-requires : tie.Need-symbol-at-requires Inv-loop μ-loop
 symbol-at-requires c κs = search needs
@@ -32,7 +33,7 @@ add-t10 c = search needs
 returns : tie.Need-returns Inv-loop μ-loop
 returns c =
     let l = c .before .before .before in
-    spelling-byte _ _ _ (l .before .loop .inv) (l .loop-test .taken) _ (c .before .before .symbol-at .ensures) (c .before .match .keys1)
+    sym (item-goes-on _ _ (l .loop-test .taken) _ (c .before .before .symbol-at .ensures) (tags-continue _ (c .before .match .keys1))) ∙ l .before .loop .inv
 
 enum-told : tie.Need-enum-told Inv-loop μ-loop
 enum-told c = search needs
@@ -54,7 +55,7 @@ loop-again c =
     let e = c .before .before .before in
     let s = e .before .before .before in
     let l = s .before in
-    spelling-turn _ _ _ (l .before .loop .inv) (l .loop-test .taken) _ (s .symbol-at .ensures) (e .before .enum-told .given .1) _ (e .comment-end .ensures) _ (c .before .j .given .1)
+    sym (item-skips _ _ (l .loop-test .taken) _ (s .symbol-at .ensures) (e .before .enum-told .given .1) _ (e .comment-end .ensures) _ (c .before .j .given .1)) ∙ l .before .loop .inv
 
 enum-told-2 : tie.Need-enum-told-2 Inv-loop μ-loop
 enum-told-2 c = search needs
@@ -64,15 +65,15 @@ returns-2 c =
     let e = c .before .before in
     let s = e .before .before .before in
     let l = s .before in
-    spelling-open _ _ _ (l .before .loop .inv) (l .loop-test .taken) _ (s .symbol-at .ensures) (e .before .enum-told .given .1) _ (e .comment-end .ensures) _ (c .enum-told2 .given .1)
+    sym (item-open _ _ (l .loop-test .taken) _ (s .symbol-at .ensures) (e .before .enum-told .given .1) _ (e .comment-end .ensures) _ (c .enum-told2 .given .1)) ∙ l .before .loop .inv
 
 returns-3 : tie.Need-returns-3 Inv-loop μ-loop
 returns-3 c =
     let l = c .before .before in
-    spelling-over _ _ _ (l .before .loop .inv) (l .loop-test .taken) _ (c .before .symbol-at .ensures) (tags-stop _ (c .match .keys3))
+    sym (item-over _ _ (l .loop-test .taken) _ (c .before .symbol-at .ensures) (tags-stop _ (c .match .keys3))) ∙ l .before .loop .inv
 
 returns-4 : tie.Need-returns-4 Inv-loop μ-loop
-returns-4 c = spelling-last _ _ _ (c .before .loop .inv) (c .loop-test .left)
+returns-4 c = sym (item-last _ _ (c .loop-test .left)) ∙ c .before .loop .inv
 
 pub word-byte-spec : {M : Type 1} → statement M
 word-byte-spec =

@@ -1,7 +1,7 @@
--- The function put_text meets its contract. The invariant: the cursor is one of the token's text, and the room stays as it is. The measure is what
+-- The function put_text meets its contract. The invariant: the room stays as it is. The measure is what
 -- is left of the text. Assumes nothing.
-use Prim.Native.Nat.{_≤_, _-_}
-use Rattle.lexer.specs.Bytes.{Readable}
+use Prim.Native.Nat.{_-_}
+use Rattle.lexer.proofs.NextBytes.{yielded}
 use Rattle.tokens.proofs.printing.put_text.Statement.{statement}
 use Rattle.tokens.proofs.printing.put_text.Tie as tie
 use borrow.Author.Needs.{needs}
@@ -10,7 +10,7 @@ use mathlib.Core.Path.{_≡_}
 use native.Mathlib.Omega.{arith}
 
 abbrev Inv-loop : tie.InvT-loop
-Inv-loop text start out₀ n filled₀ c₀ out filled c = (c .at ≤ length text) × Readable (c .mode) × (length out ≡ length out₀)
+Inv-loop text start out₀ n filled₀ c₀ out filled c = length out ≡ length out₀
 
 abbrev μ-loop : tie.MeasureT-loop
 μ-loop text start out₀ n filled₀ c₀ out filled c = length text - c .at
@@ -33,14 +33,11 @@ put-hex-requires c κs = search needs
 loop-less : tie.Need-loop-less Inv-loop μ-loop
 loop-less c =
     let b = c .before .before .before .before .before in
-    let read = b .before .before .next-byte .ensures .byte _ _ (b .b .given .1) in
+    let read = yielded _ _ _ (b .before .before .next-byte .ensures) .byte _ _ (b .b .given .1) in
     omega arith
 
 loop-again : tie.Need-loop-again Inv-loop μ-loop
-loop-again c =
-    let b = c .before .before .before .before .before in
-    let read = b .before .before .next-byte .ensures .byte _ _ (b .b .given .1) in
-    (read .within, read .readable, search needs)
+loop-again c = search needs
 
 enum-told : tie.Need-enum-told Inv-loop μ-loop
 enum-told c = search needs
