@@ -6,7 +6,7 @@ use Rattle.lexer.specs.Base.{pick}
 use Rattle.lexer.specs.Classes.{symbol}
 use Rattle.lexer.specs.Lexing.{longest, work·needed, counted, lexed}
 use Rattle.lexer.specs.Places.{place, nowhere, opens, opened·from, first·byte, opened}
-use Rattle.lexer.specs.Stored.{Stored, Open, Closed, Walked}
+use Rattle.lexer.specs.Stored.{Stored, walk·of, walked}
 use Rattle.lexer.specs.Tokens.{next, tokens, left·open, unmarked}
 use Rattle.lexer.specs.Utf8.{utf8}
 use Rattle.lexer.specs.declared.Lexed.{Lexed}
@@ -38,12 +38,24 @@ opened-within text =
     let p = opened-from-within (unmarked text) Mode.Between 0 (first·byte text) (omega arith) in
     omega (arith, p, unmarked-length text)
 
-pub open-within : (text : List ℕ) (r : Refusal) (mark : ℕ) → Open text r mark → mark ≤ length text
-open-within text r mark o = rw (o .at) at (opened-within text)
+walk-mark : (text : List ℕ) (o : Option Refusal) (r : Refusal) (mark : ℕ) → Walk.Open r mark ≡ walk·of text o → opened text ≡ mark
+unfolding walk·of
+walk-mark text none r mark e = cc
+walk-mark text (some n) r mark e = cc
 
--- What a walk comes to, once it is known which.
-pub walked-as : (text work : List ℕ) (w v : Walk) → Walked text work w → w ≡ v → Walked text work v
-walked-as text work w v h e = subst (λ v. Walked text work v) e h
+pub open-within : (text : List ℕ) (r : Refusal) (mark : ℕ) → Walk.Open r mark ≡ walked text → mark ≤ length text
+unfolding walked
+open-within text r mark e = rw (walk-mark text (left·open (tokens text)) r mark e) at (opened-within text)
+
+-- The answer that a walk over a text comes to: what `counted` says.
+abbrev walk·answer : List ℕ → Walk → Lexed
+walk·answer text (Walk.Done n) = Lexed.Tokens n
+walk·answer text (Walk.Open r mark) = Lexed.Refused r (place text mark)
+
+walk-counted : (text : List ℕ) (o : Option Refusal) → walk·answer text (walk·of text o) ≡ counted text o
+unfolding counted walk·of
+walk-counted text none = refl
+walk-counted text (some r) = refl
 
 -- A count of tokens is no refusal.
 never : {X : Type 0} (n : ℕ) (r : Refusal) (p : Place) → Lexed.Tokens n ≡ Lexed.Refused r p → X
@@ -76,14 +88,15 @@ module _ (text work : List ℕ) (k : ℕ) where
         unfolding lexed longest work·needed pick
         answer-valid = rw (le-leb (length text) 1048576 fits, le-leb (4 * length text + 64) k room, valid)
 
-        pub answer-tokens : (n : ℕ) → Closed text work n → Answered text work k (Lexed.Tokens n)
-        unfolding counted
-        answer-tokens n c =
-            (ap Lexed.Tokens (c .stored .count) ∙ sym (rw (c .closed)) ∙ answer-valid, λ m h. let e : n ≡ m = cc in subst (λ m. Stored text work m) e (c .stored))
+        answer-walk : (w : Walk) → w ≡ walked text → walk·answer text w ≡ lexed text k
+        unfolding walked
+        answer-walk w e = ap (walk·answer text) e ∙ walk-counted text (left·open (tokens text)) ∙ answer-valid
 
-        pub answer-open : (r : Refusal) (mark : ℕ) (p : Place) → Open text r mark → p ≡ place text mark → Answered text work k (Lexed.Refused r p)
-        unfolding counted
-        answer-open r mark p o e = refused text work k r p (place text mark) e (ap (λ m. Lexed.Refused r (place text m)) (sym (o .at)) ∙ ap (counted text) (sym (o .what)) ∙ answer-valid)
+        pub answer-tokens : (n : ℕ) → Walk.Done n ≡ walked text → Stored text work n → Answered text work k (Lexed.Tokens n)
+        answer-tokens n w s = (answer-walk (Walk.Done n) w, λ m h. let e : n ≡ m = cc in subst (λ m. Stored text work m) e s)
+
+        pub answer-open : (r : Refusal) (mark : ℕ) (p : Place) → Walk.Open r mark ≡ walked text → p ≡ place text mark → Answered text work k (Lexed.Refused r p)
+        answer-open r mark p w e = refused text work k r p (place text mark) e (answer-walk (Walk.Open r mark) w)
 
 -- A text that is answered with a count is short and UTF-8, has work memory enough, and leaves nothing open.
 pub record Lexes (text : List ℕ) (k : ℕ) : Type 0 where

@@ -5,15 +5,17 @@ use Rattle.lexer.proofs.StepLaws.{Skipped, Taken, Unended, open-past}
 use Rattle.lexer.specs.Base.{pick}
 use Rattle.lexer.specs.Lexing.{token·at, first·token}
 use Rattle.lexer.specs.Places.{starts·from, opened·from, first·byte, starts, opened}
-use Rattle.lexer.specs.Stored.{Open, Closed}
+use Rattle.lexer.specs.Stored.{Stored, walk·of, walked}
 use Rattle.lexer.specs.Tokens.{tokens·from, tokens, left·open, unclosed}
 use Rattle.lexer.specs.declared.Mode.{Mode}
+use Rattle.lexer.specs.declared.Walk.{Walk}
 use Rattle.lexer.specs.declared.refusal.Refusal.{Refusal}
 use lib.ListN.{length, getD, take, drop, set, length-set, drop-of-length-le}
 use lib.Seq.{drop-cons, length-take-le, take-suc-set}
 use mathlib.Core.Bool.{true}
 use mathlib.Core.List.{List, [], _∷_, _++_, append-assoc, append-nil}
-use mathlib.Core.Path.{_≡_, refl, sym, ap, _∙_}
+use mathlib.Core.Option.{none, some}
+use mathlib.Core.Path.{_≡_, refl, sym, ap, subst, _∙_}
 use native.Mathlib.Numerals.{add-one}
 use native.Mathlib.Omega.{arith}
 
@@ -41,6 +43,10 @@ storing-start text work h =
       since = 0;
       mark = rw (drop-first text);
     }
+
+-- What the walk answers, and what that says of work memory.
+abbrev pub Finished : List ℕ → List ℕ → Walk → Type 0
+Finished text work r = (r ≡ walked text) × ((n : ℕ) → r ≡ Walk.Done n → Stored text work n)
 
 module _ (text before work : List ℕ) (i n : ℕ) (s : Storing text before work i n) where
   pub storing-skip : (j : ℕ) → Skipped text i j → Storing text before work j n
@@ -78,15 +84,19 @@ module _ (text before work : List ℕ) (i n : ℕ) (s : Storing text before work
         mark = sym (o .1) ∙ s .mark;
       }
 
-  pub storing-end : length text ≤ i → Closed text work n
-  unfolding tokens·from starts·from left·open unclosed
+  pub storing-end : length text ≤ i → Finished text work (Walk.Done n)
+  unfolding tokens·from starts·from left·open unclosed walk·of walked
   storing-end h =
       let done = drop-of-length-le text h in
+      let closed : left·open (tokens text) ≡ none = sym (s .left) ∙ rw done in
       let held : take n work ≡ starts text = sym (append-nil (take n work)) ∙ rw done at (s .stored) in
-      record {
-        closed = sym (s .left) ∙ rw done;
-        stored = record { count = sym (length-take-le n work (omega arith)) ∙ ap length held; held = held };
-      }
+      let count : n ≡ length (starts text) = sym (length-take-le n work (omega arith)) ∙ ap length held in
+      let stored : Stored text work n = record { count = count; held = held } in
+      (rw closed (ap Walk.Done count), λ m h. let e : n ≡ m = cc in subst (λ m. Stored text work m) e stored)
 
-  pub storing-open : (r : Refusal) (mark : ℕ) → Unended text i r mark → Open text r mark
-  storing-open r mark u = record { what = sym (s .left) ∙ u .what; at = sym (s .mark) ∙ u .opened (s .since) }
+  pub storing-open : (r : Refusal) (mark : ℕ) → Unended text i r mark → Finished text work (Walk.Open r mark)
+  unfolding walk·of walked
+  storing-open r mark u =
+      let what : left·open (tokens text) ≡ some r = sym (s .left) ∙ u .what in
+      let at : opened text ≡ mark = sym (s .mark) ∙ u .opened (s .since) in
+      (rw what (ap (Walk.Open r) (sym at)), λ m h. absurd (let z : _≡_ {A = ℕ} 0 1 = cc in omega arith))

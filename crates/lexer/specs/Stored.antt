@@ -1,8 +1,8 @@
--- What work memory holds after lexing: where each token begins.
+-- What work memory holds after lexing, where each token begins, and what the walk that stores it comes to.
 use Prim.Native.Nat.{ℕ}
 use lib.ListN.{length, take}
 use mathlib.Core.List.{List}
-use mathlib.Core.Option.{none, some}
+use mathlib.Core.Option.{Option, none, some}
 use mathlib.Core.Path.{_≡_}
 use Rattle.lexer.specs.Places.{starts, opened}
 use Rattle.lexer.specs.Tokens.{tokens, left·open}
@@ -14,18 +14,11 @@ pub record Stored (text work : List ℕ) (n : ℕ) : Type 0 where
   pub count : n ≡ length (starts text)
   pub held : take n work ≡ starts text
 
--- The text leaves a quote or a comment open, whose opening mark is this byte.
-pub record Open (text : List ℕ) (n : Refusal) (mark : ℕ) : Type 0 where
-  pub what : left·open (tokens text) ≡ some n
-  pub at : opened text ≡ mark
-
--- The text leaves nothing open, and the starts of its tokens are stored.
-pub record Closed (text work : List ℕ) (n : ℕ) : Type 0 where
-  pub closed : left·open (tokens text) ≡ none
-  pub stored : Stored text work n
+-- The count of a text's tokens; or this refusal, at the mark that opens what stays open.
+unfoldable pub walk·of : List ℕ → Option Refusal → Walk
+walk·of text none = Walk.Done (length (starts text))
+walk·of text (some n) = Walk.Open n (opened text)
 
 -- What a walk over a text to its end comes to.
-abbrev pub Walked : List ℕ → List ℕ → Walk → Type 0
-Walked text work (Walk.Done n) = Closed text work n
-Walked text work (Walk.Quote mark) = Open text Refusal.OpenQuote mark
-Walked text work (Walk.Comment mark) = Open text Refusal.OpenComment mark
+unfoldable pub walked : List ℕ → Walk
+walked text = walk·of text (left·open (tokens text))

@@ -4,7 +4,7 @@ ghost use Prim.Native.Nat.{ℕ, _<_, _≤_, _+_, _*_};
 ghost use Rattle.lexer.specs.Lexing.{lexed};
 ghost use Rattle.lexer.specs.Places.{first·byte};
 ghost use Rattle.lexer.specs.Scanning.{comment·end, quote·end, string·end, word·end, skipped, quoted, worded, token·step};
-ghost use Rattle.lexer.specs.Stored.{Stored, Walked};
+ghost use Rattle.lexer.specs.Stored.{Stored, walked};
 ghost use lib.ListN.{length, drop};
 ghost use mathlib.Core.Bool.{false};
 ghost use mathlib.Core.Path.{_≡_};
@@ -95,10 +95,11 @@ fn first_byte(text: &[u8]) -> usize
     0
 }
 
-// Stores where each token begins. Answers their count, or the mark of what stays open.
+// Stores where each token begins. Answers their count, or the refusal of what stays open, with its opening mark.
 fn store_starts(text: &[u8], work: &mut [u32]) -> Walk
     requires { ⌜ (length (now text) ≤ 1048576) × (length (now text) ≤ length (now work)) ⌝ }
-    ensures { λ r. ⌜ Walked (now (text .entry)) (now (work .exit)) r ⌝ }
+    ensures answer { λ r. ⌜ r ≡ walked (now (text .entry)) ⌝ }
+    ensures stored { λ r. ⌜ ((n : ℕ) → r ≡ Walk.Done n → Stored (now (text .entry)) (now (work .exit)) n) ⌝ }
 {
     let mut i = first_byte(text);
     let mut n: usize = 0;
@@ -113,10 +114,10 @@ fn store_starts(text: &[u8], work: &mut [u32]) -> Walk
                 i = j;
             }
             Step::Quote(mark) => {
-                return Walk::Quote(mark);
+                return Walk::Open(Refusal::OpenQuote, mark);
             }
             Step::Comment(mark) => {
-                return Walk::Comment(mark);
+                return Walk::Open(Refusal::OpenComment, mark);
             }
         }
     }
@@ -140,7 +141,6 @@ pub fn lex(text: &[u8], work: &mut [u32]) -> Lexed
     }
     match store_starts(text, work) {
         Walk::Done(count) => Lexed::Tokens(count),
-        Walk::Quote(mark) => Lexed::Refused(Refusal::OpenQuote, place_at(text, mark)),
-        Walk::Comment(mark) => Lexed::Refused(Refusal::OpenComment, place_at(text, mark)),
+        Walk::Open(refusal, mark) => Lexed::Refused(refusal, place_at(text, mark)),
     }
 }

@@ -96,11 +96,10 @@ pub enum Step {
     Comment(usize),
 }
 
-// What storing the starts of a text's tokens comes to: their count, or the mark of what stays open.
+// What storing the starts of a text's tokens comes to: their count, or the refusal of what stays open, with its opening mark.
 pub enum Walk {
     Done(usize),
-    Quote(usize),
-    Comment(usize),
+    Open(Refusal, usize),
 }
 
 // A place in the text of a token, and the mode of its kind: between for a mark, a comment behind its end.

@@ -1,5 +1,5 @@
 -- The function `lex` meets its contract: its refusals in order, then the walk over the text. Assumes nothing.
-use Rattle.lexer.proofs.LexedAnswers.{walked-as, open-within, answer-long, answer-short, answer-invalid, answer-tokens, answer-open}
+use Rattle.lexer.proofs.LexedAnswers.{open-within, answer-long, answer-short, answer-invalid, answer-tokens, answer-open}
 use Rattle.lexer.proofs.lexing.lex.Statement.{statement}
 use Rattle.lexer.proofs.lexing.lex.Tie as tie
 use borrow.Author.Needs.{needs}
@@ -41,21 +41,13 @@ store-starts-requires c κs = search needs
 enum-known-count : tie.Need-enum-known-count
 enum-known-count c = search needs
 
-enum-known-mark : tie.Need-enum-known-mark
-enum-known-mark c = search needs
+enum-known-refusal : tie.Need-enum-known-refusal
+enum-known-refusal c = search needs
 
 place-at-requires : tie.Need-place-at-requires
 place-at-requires c κs =
     let w = c .before .before .before .before .before in
-    (open-within _ _ _ (walked-as _ _ _ _ (w .store-starts .ensures) (c .before .mark .given .1)), w .before .before .before .before .before .if1 .left)
-
-enum-known-mark-2 : tie.Need-enum-known-mark-2
-enum-known-mark-2 c = search needs
-
-place-at-requires-2 : tie.Need-place-at-requires-2
-place-at-requires-2 c κs =
-    let w = c .before .before .before .before .before in
-    (open-within _ _ _ (walked-as _ _ _ _ (w .store-starts .ensures) (c .before .mark2 .given .1)), w .before .before .before .before .before .if1 .left)
+    (open-within _ _ _ (sym (c .before .refusal .given .1) ∙ w .store-starts .ensures .0), w .before .before .before .before .before .if1 .left)
 
 same-length : tie.Need-same-length
 same-length c = search needs
@@ -65,7 +57,8 @@ returns-4 c =
     let w = c .before .before .before .before .before in
     let u = w .before .before .before in
     let valid = sym (u .is-utf8 .ensures) ∙ not-false _ (w .before .before .if3 .left) in
-    answer-tokens _ _ _ (u .before .before .if1 .left) (u .before .if2 .left) valid _ (walked-as _ _ _ _ (w .store-starts .ensures) (c .before .count .given .1))
+    let count = c .before .count .given .1 in
+    answer-tokens _ _ _ (u .before .before .if1 .left) (u .before .if2 .left) valid _ (sym count ∙ w .store-starts .ensures .0) (w .store-starts .ensures .1 _ count)
 
 same-length-2 : tie.Need-same-length-2
 same-length-2 c = search needs
@@ -75,17 +68,7 @@ returns-5 c =
     let w = c .before .before .before .before .before .before in
     let u = w .before .before .before in
     let valid = sym (u .is-utf8 .ensures) ∙ not-false _ (w .before .before .if3 .left) in
-    answer-open _ _ _ (u .before .before .if1 .left) (u .before .if2 .left) valid _ _ _ (walked-as _ _ _ _ (w .store-starts .ensures) (c .before .before .mark .given .1)) (c .place-at .ensures)
-
-same-length-3 : tie.Need-same-length-3
-same-length-3 c = search needs
-
-returns-6 : tie.Need-returns-6
-returns-6 c =
-    let w = c .before .before .before .before .before .before in
-    let u = w .before .before .before in
-    let valid = sym (u .is-utf8 .ensures) ∙ not-false _ (w .before .before .if3 .left) in
-    answer-open _ _ _ (u .before .before .if1 .left) (u .before .if2 .left) valid _ _ _ (walked-as _ _ _ _ (w .store-starts .ensures) (c .before .before .mark2 .given .1)) (c .place-at2 .ensures)
+    answer-open _ _ _ (u .before .before .if1 .left) (u .before .if2 .left) valid _ _ _ (sym (c .before .before .refusal .given .1) ∙ w .store-starts .ensures .0) (c .place-at .ensures)
 
 pub lex-spec : {M : Type 1} → statement M
 lex-spec =
@@ -102,13 +85,9 @@ lex-spec =
     returns-3
     store-starts-requires
     enum-known-count
-    enum-known-mark
+    enum-known-refusal
     place-at-requires
-    enum-known-mark-2
-    place-at-requires-2
     same-length
     returns-4
     same-length-2
-    returns-5
-    same-length-3
-    returns-6)
+    returns-5)
