@@ -1,17 +1,47 @@
--- The next byte behind a cursor is the first of what is left of the text, and the cursor behind it stands further on; where there is none, nothing
--- is left. Assumes nothing.
-use Prim.Native.Nat.{ℕ}
+-- A token's text by its cursors: at the front all of it is left; the next byte is the first of what is left, and the cursor behind it stands further
+-- on; where there is no next byte, nothing is left. Assumes nothing.
+use Prim.Native.Nat.{ℕ, _+_, _<_}
+use Rattle.lexer.proofs.ListLaws.{drop-next}
 use Rattle.lexer.proofs.QuotedBytes.{quoted-yields, string-yields, mark-yields}
+use Rattle.lexer.proofs.TokenParts.{here, text-symbol, front-symbol}
 use Rattle.lexer.proofs.WordBytes.{word-yields}
 use Rattle.lexer.proofs.Yielded.{Yields, yields-end}
-use Rattle.lexer.specs.Bytes.{next·item, item·of, left, rest·of}
+use Rattle.lexer.specs.Base.{pick}
+use Rattle.lexer.specs.Bytes.{front·at, front·of, next·item, item·of, left, rest·of, first}
+use Rattle.lexer.specs.Classes.{symbol, rank, newline?, single?, double?, open?, other?, part?}
+use Rattle.lexer.specs.Lexing.{token·at}
+use Rattle.lexer.specs.Scanning.{symbol·at}
+use Rattle.lexer.specs.Tokens.{text·of, tail, next, after·word, after·between, text·step}
 use Rattle.lexer.specs.declared.Cursor.{Cursor}
 use Rattle.lexer.specs.declared.Item.{Item}
 use Rattle.lexer.specs.declared.Mode.{Mode}
-use lib.ListN.{drop}
+use Rattle.lexer.specs.declared.Symbol.{Symbol}
+use lib.ListN.{length, getD, drop}
 use mathlib.Core.List.{List}
 use mathlib.Core.Path.{_≡_, refl}
 
+-- At the front
+front-text : (text : List ℕ) (i : ℕ) → i < length text → (s : Symbol) → s ≡ symbol (getD text i 0) (drop (i + 1) text)
+    → left text (front·of s i) ≡ text·of s (getD text i 0) (drop (i + 1) text)
+unfolding front·of left rest·of first text·of newline? single? double? open? other? part? rank pick tail next after·word after·between text·step
+front-text text i h Symbol.Newline e = refl
+front-text text i h Symbol.Return e = rw (drop-next text i h)
+front-text text i h Symbol.Blank e = rw (drop-next text i h)
+front-text text i h Symbol.Single e = refl
+front-text text i h Symbol.Double e = refl
+front-text text i h Symbol.Open e = rw (drop-next text i h)
+front-text text i h Symbol.Close e = rw (drop-next text i h)
+front-text text i h Symbol.Punctuation e = rw (drop-next text i h)
+front-text text i h Symbol.Other e = rw (drop-next text i h, ← e)
+front-text text i h Symbol.Part e = rw (drop-next text i h)
+
+pub front-left : (text : List ℕ) (i : ℕ) (c : Cursor) → i < length text → c ≡ front·at text i → left text c ≡ token·at text i .text
+front-left text i c h e = rw e (go (symbol·at text i) refl)
+  where
+    go : (s : Symbol) → s ≡ symbol·at text i → left text (front·at text i) ≡ token·at text i .text
+    go s is = rw (front-symbol text i h s is, text-symbol text i h s is) (front-text text i h s (here text i h s is))
+
+-- The next byte
 pub yielded : (text : List ℕ) (c : Cursor) (r : Item) → r ≡ next·item text c → Yields text (c .at) (left text c) r
 unfolding next·item item·of left rest·of
 yielded text c r e = rw e (go (c .mode) (c .at))

@@ -4,12 +4,11 @@ use Rattle.lexer.proofs.ListLaws.{drop-next}
 use Rattle.lexer.proofs.Symbol as tags
 use Rattle.lexer.proofs.SymbolTags.{numbered, tag-symbol}
 use Rattle.lexer.specs.Base.{pick}
-use Rattle.lexer.specs.Bytes.{cursor, front·at, front·of, left, rest·of, first}
-use Rattle.lexer.specs.Classes.{symbol, rank, newline?, single?, double?, open?, other?, part?}
+use Rattle.lexer.specs.Bytes.{cursor, front·at, front·of}
+use Rattle.lexer.specs.Classes.{symbol, rank, newline?, single?, double?, other?}
 use Rattle.lexer.specs.Lexing.{token·at, first·token}
 use Rattle.lexer.specs.Scanning.{symbol·at, first·symbol}
-use Rattle.lexer.specs.Tokens.{token, kind·of, text·of, tail, next, after·word, after·between, text·step}
-use Rattle.lexer.specs.declared.Cursor.{Cursor}
+use Rattle.lexer.specs.Tokens.{token, kind·of, text·of}
 use Rattle.lexer.specs.declared.Kind.{Kind}
 use Rattle.lexer.specs.declared.Mode.{Mode}
 use Rattle.lexer.specs.declared.Symbol.{Symbol}
@@ -17,7 +16,7 @@ use denote.Enum.Declared.{tagOf}
 use lib.ListN.{length, getD, drop}
 use mathlib.Core.List.{List, [], _∷_}
 use mathlib.Core.Logic.{inl, inr}
-use mathlib.Core.Path.{_≡_, refl, sym, _∙_}
+use mathlib.Core.Path.{_≡_, sym, _∙_}
 use types.Run.{OneOf}
 
 -- The tags of the symbols at which a punctuation mark begins, if a token does.
@@ -25,7 +24,7 @@ abbrev Marks : Symbol → Type 0
 Marks s = OneOf (1 ∷ 2 ∷ 5 ∷ 6 ∷ 7 ∷ 9 ∷ []) (tagOf tags.the-type s)
 
 module _ (text : List ℕ) (i : ℕ) (h : i < length text) (s : Symbol) (is : s ≡ symbol·at text i) where
-  here : s ≡ symbol (getD text i 0) (drop (i + 1) text)
+  pub here : s ≡ symbol (getD text i 0) (drop (i + 1) text)
   unfolding symbol·at first·symbol
   here = is ∙ rw (drop-next text i h)
 
@@ -33,7 +32,7 @@ module _ (text : List ℕ) (i : ℕ) (h : i < length text) (s : Symbol) (is : s 
   unfolding token·at first·token token
   kind-symbol = rw (drop-next text i h, here)
 
-  text-symbol : token·at text i .text ≡ text·of s (getD text i 0) (drop (i + 1) text)
+  pub text-symbol : token·at text i .text ≡ text·of s (getD text i 0) (drop (i + 1) text)
   unfolding token·at first·token token
   text-symbol = rw (drop-next text i h, here)
 
@@ -62,8 +61,8 @@ module _ (text : List ℕ) (i : ℕ) (h : i < length text) (s : Symbol) (is : s 
   kind-mark (inr (inr (inr (inr (inl e))))) = sym (kind-symbol ∙ rw (tag-symbol s 7 e))
   kind-mark (inr (inr (inr (inr (inr e))))) = sym (kind-symbol ∙ rw (tag-symbol s 9 e))
 
-  -- The cursor at the front of the token's text: it is the one defined, by the arm of the match,
-  front-symbol : front·at text i ≡ front·of s i
+  -- The cursor at the front of the token's text
+  pub front-symbol : front·at text i ≡ front·of s i
   unfolding front·at
   front-symbol = rw is
 
@@ -91,24 +90,3 @@ module _ (text : List ℕ) (i : ℕ) (h : i < length text) (s : Symbol) (is : s 
   front-mark (inr (inr (inr (inl e)))) = sym (front-symbol ∙ rw (tag-symbol s 6 e))
   front-mark (inr (inr (inr (inr (inl e))))) = sym (front-symbol ∙ rw (tag-symbol s 7 e))
   front-mark (inr (inr (inr (inr (inr e))))) = sym (front-symbol ∙ rw (tag-symbol s 9 e))
-
--- and what is left there is the token's text.
-front-text : (text : List ℕ) (i : ℕ) → i < length text → (s : Symbol) → s ≡ symbol (getD text i 0) (drop (i + 1) text)
-    → left text (front·of s i) ≡ text·of s (getD text i 0) (drop (i + 1) text)
-unfolding front·of left rest·of first text·of newline? single? double? open? other? part? rank pick tail next after·word after·between text·step
-front-text text i h Symbol.Newline e = refl
-front-text text i h Symbol.Return e = rw (drop-next text i h)
-front-text text i h Symbol.Blank e = rw (drop-next text i h)
-front-text text i h Symbol.Single e = refl
-front-text text i h Symbol.Double e = refl
-front-text text i h Symbol.Open e = rw (drop-next text i h)
-front-text text i h Symbol.Close e = rw (drop-next text i h)
-front-text text i h Symbol.Punctuation e = rw (drop-next text i h)
-front-text text i h Symbol.Other e = rw (drop-next text i h, ← e)
-front-text text i h Symbol.Part e = rw (drop-next text i h)
-
-pub front-left : (text : List ℕ) (i : ℕ) (c : Cursor) → i < length text → c ≡ front·at text i → left text c ≡ token·at text i .text
-front-left text i c h e = rw e (go (symbol·at text i) refl)
-  where
-    go : (s : Symbol) → s ≡ symbol·at text i → left text (front·at text i) ≡ token·at text i .text
-    go s is = rw (front-symbol text i h s is, text-symbol text i h s is) (front-text text i h s (here text i h s is))

@@ -1,6 +1,6 @@
 -- The function `is_at` meets its contract: only a word is a keyword. Assumes nothing.
 use Rattle.lexer.proofs.KindTags.{tags-other}
-use Rattle.lexer.proofs.TokenParts.{front-left}
+use Rattle.lexer.proofs.NextBytes.{front-left}
 use Rattle.lexer.proofs.label.is_at.Statement.{statement}
 use Rattle.lexer.proofs.label.is_at.Tie as tie
 use Rattle.lexer.specs.Lexing.{word·at}

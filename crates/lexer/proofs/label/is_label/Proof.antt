@@ -1,7 +1,7 @@
 -- The function `is_label` meets its contract: a word or single-quoted text that is not all blank. Assumes nothing.
 use Rattle.lexer.proofs.KindTags.{tags-named, tags-nameless}
+use Rattle.lexer.proofs.NextBytes.{front-left}
 use Rattle.lexer.proofs.TextWalks.{label-given}
-use Rattle.lexer.proofs.TokenParts.{front-left}
 use Rattle.lexer.proofs.label.is_label.Statement.{statement}
 use Rattle.lexer.proofs.label.is_label.Tie as tie
 use Rattle.lexer.specs.Lexing.{word·at}

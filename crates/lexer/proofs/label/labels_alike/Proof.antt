@@ -1,5 +1,5 @@
 -- The function `labels_alike` meets its contract. Assumes nothing.
-use Rattle.lexer.proofs.TokenParts.{front-left}
+use Rattle.lexer.proofs.NextBytes.{front-left}
 use Rattle.lexer.proofs.label.labels_alike.Statement.{statement}
 use Rattle.lexer.proofs.label.labels_alike.Tie as tie
 use borrow.Author.Needs.{needs}

@@ -1,7 +1,6 @@
 -- The function `number_at` meets its contract: digits, with a `+` in front or without. Assumes nothing.
-use Rattle.lexer.proofs.NextBytes.{yielded}
+use Rattle.lexer.proofs.NextBytes.{front-left, yielded}
 use Rattle.lexer.proofs.TextWalks.{positive-plus, positive-plain, positive-none}
-use Rattle.lexer.proofs.TokenParts.{front-left}
 use Rattle.lexer.proofs.label.number_at.Statement.{statement}
 use Rattle.lexer.proofs.label.number_at.Tie as tie
 use borrow.Author.Needs.{needs}
