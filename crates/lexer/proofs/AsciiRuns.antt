@@ -44,18 +44,18 @@ eight-ascii a b c d a' b' c' d' = or-ascii (four a b c d) (four a' b' c' d') ∙
 
 module _ (text : List ℕ) where
   -- where the ASCII bytes from an index on end
-  abbrev pub run·end : ℕ → ℕ
+  abbrev run·end : ℕ → ℕ
   run·end i = ascii·end i (drop i text)
 
   run-next : (i : ℕ) → i < length text → getD text i 0 < 128 → run·end i ≡ run·end (i + 1)
   unfolding ascii·end pick
   run-next i h small = rw (add-one i, drop-cons text i 0, lt-ltb (getD text i 0) 128 small)
 
-  pub run-stops : (i : ℕ) → i < length text → 128 ≤ getD text i 0 → run·end i ≡ i
+  run-stops : (i : ℕ) → i < length text → 128 ≤ getD text i 0 → run·end i ≡ i
   unfolding ascii·end pick
   run-stops i h large = rw (drop-cons text i 0, le-ltb (getD text i 0) 128 large)
 
-  pub run-over : (i : ℕ) → length text ≤ i → run·end i ≡ i
+  run-over : (i : ℕ) → length text ≤ i → run·end i ≡ i
   unfolding ascii·end
   run-over i h = rw (drop-of-length-le text h)
 
@@ -68,7 +68,7 @@ module _ (text : List ℕ) where
   ascii-eight i room = eight-ascii (byte i) _ _ _ (byte (i + 4)) _ _ _ ∙ all-eight ascii? text i room
 
   -- behind the blocks of ASCII bytes the run ends as from their first
-  pub run-blocks : (size i : ℕ) → i ≤ length text → run·end (blocks·end ascii? size i (drop i text)) ≡ run·end i
+  run-blocks : (size i : ℕ) → i ≤ length text → run·end (blocks·end ascii? size i (drop i text)) ≡ run·end i
   unfolding ascii?
   run-blocks size i h = blocks-alike ascii? text run·end (λ i h small. run-next i h (ltb-true (getD text i 0) 128 small)) size i h
 
@@ -96,7 +96,7 @@ run-forward [] i = omega arith
 run-forward (b ∷ r) i = chosen (λ j. i ≤ j) (ltb b 128) (λ t. let more = run-forward r (suc i) in omega arith) (λ f. omega arith)
 
 -- Behind the ASCII bytes the rest is well-formed just if it was before them.
-pub checking-run : (text : List ℕ) (low high i : ℕ) → Checking text 0 low high i → Checking text 0 low high (ascii·end i (drop i text))
+checking-run : (text : List ℕ) (low high i : ℕ) → Checking text 0 low high i → Checking text 0 low high (ascii·end i (drop i text))
 unfolding ascii·end
 checking-run text low high i k = go (drop i text) i refl k
   where

@@ -23,7 +23,7 @@ no-block size n h = div-eq-of-lt h
 
 module _ (p : ℕ → Bool) where
   -- so many bytes and so many behind them
-  pub all-add : (m n : ℕ) (r : List ℕ) → all·first p (m + n) r ≡ all·first p m r && all·first p n (drop m r)
+  all-add : (m n : ℕ) (r : List ℕ) → all·first p (m + n) r ≡ all·first p m r && all·first p n (drop m r)
   unfolding all·first
   all-add zero n r = rw (zero-add n)
   all-add (suc m) n [] = rw (suc-add m n)
@@ -61,12 +61,12 @@ module _ (p : ℕ → Bool) where
     all-sixteen i a b e e' = rw (e, e', ← drop-drop 8 i text) (sym (all-add 8 8 (drop i text)))
 
     -- so many bytes from an index on are within the text
-    pub all-room : (n i : ℕ) → i ≤ length text → all·first p n (drop i text) ≡ true → i + n ≤ length text
+    all-room : (n i : ℕ) → i ≤ length text → all·first p n (drop i text) ≡ true → i + n ≤ length text
     all-room n i h t = omega (arith, all-within n (drop i text) t, length-drop i text)
 
     -- Behind the blocks of a size, from an index on.
     module _ (size : ℕ) (some : 0 < size) where
-      abbrev pub end·at : ℕ → ℕ
+      abbrev end·at : ℕ → ℕ
       end·at i = blocks·end p size i (drop i text)
 
       left : (i : ℕ) → i + size ≤ length text → length (drop i text) ≡ length (drop (i + size) text) + size
@@ -76,15 +76,15 @@ module _ (p : ℕ → Bool) where
       unfolding blocks·end blocks·behind
       block-first i room = rw (whole-block size (length (drop i text)) (length (drop (i + size) text)) some (left i room), drop-drop size i text)
 
-      pub block-passed : (i : ℕ) → i + size ≤ length text → all·first p size (drop i text) ≡ true → end·at i ≡ end·at (i + size)
+      block-passed : (i : ℕ) → i + size ≤ length text → all·first p size (drop i text) ≡ true → end·at i ≡ end·at (i + size)
       unfolding pick
       block-passed i room t = block-first i room ∙ rw t
 
-      pub block-stops : (i : ℕ) → i + size ≤ length text → all·first p size (drop i text) ≡ false → end·at i ≡ i
+      block-stops : (i : ℕ) → i + size ≤ length text → all·first p size (drop i text) ≡ false → end·at i ≡ i
       unfolding pick
       block-stops i room f = block-first i room ∙ rw f
 
-      pub blocks-over : (i : ℕ) → length text < i + size → end·at i ≡ i
+      blocks-over : (i : ℕ) → length text < i + size → end·at i ≡ i
       unfolding blocks·end blocks·behind
       blocks-over i h = rw (no-block size (length (drop i text)) (omega (arith, length-drop i text)))
 

@@ -51,7 +51,7 @@ numbered-number Class.Punctuation = refl
 numbered-number Class.Other = refl
 numbered-number Class.Part = refl
 
-pub class-number-injective : (k l : Class) → class·number k ≡ class·number l → k ≡ l
+class-number-injective : (k l : Class) → class·number k ≡ class·number l → k ≡ l
 class-number-injective k l e = sym (numbered-number k) ∙ ap numbered e ∙ numbered-number l
 
 pub class-number-bound : (k : Class) → class·number k ≤ 6

@@ -20,10 +20,10 @@ use native.Mathlib.Omega.{arith}
 
 module _ (text : List ℕ) where
   -- how many of so many bytes from an index on are this one
-  abbrev pub count·at : ℕ → ℕ → ℕ → ℕ
+  abbrev count·at : ℕ → ℕ → ℕ → ℕ
   count·at b n i = count·in b n (drop i text)
 
-  pub count-next : (b n i j : ℕ) → i < length text → j ≡ i + 1 → count·at b (suc n) i ≡ pick (eqb (getD text i 0) b) 1 0 + count·at b n j
+  count-next : (b n i j : ℕ) → i < length text → j ≡ i + 1 → count·at b (suc n) i ≡ pick (eqb (getD text i 0) b) 1 0 + count·at b n j
   unfolding count·in
   count-next b n i j h e = rw (e, add-one i, drop-cons text i 0)
 
@@ -112,20 +112,20 @@ module _ (text : List ℕ) where
 
   -- What the loop asks of a block, with the counts by other names.
   module _ (d i closing : ℕ) (c : closing ≡ count·at 93 8 i) (room : i + 8 ≤ length text) where
-    pub block-passed : (opening : ℕ) → opening ≡ count·at 91 8 i → closing ≤ d → blocks·at d i ≡ blocks·at (d - closing + opening) (i + 8)
+    block-passed : (opening : ℕ) → opening ≡ count·at 91 8 i → closing ≤ d → blocks·at d i ≡ blocks·at (d - closing + opening) (i + 8)
     unfolding pick
     block-passed opening o few = block-first d i room ∙ rw (← c, ← o, le-ltb d closing few)
 
-    pub block-stops : d < closing → blocks·at d i ≡ nested d i
+    block-stops : d < closing → blocks·at d i ≡ nested d i
     unfolding pick
     block-stops many = block-first d i room ∙ rw (← c, lt-ltb d closing many)
 
-  pub blocks-over : (d i : ℕ) → length text < i + 8 → blocks·at d i ≡ nested d i
+  blocks-over : (d i : ℕ) → length text < i + 8 → blocks·at d i ≡ nested d i
   unfolding comment·blocks comment·behind
   blocks-over d i h = rw (no-block 8 (length (drop i text)) (omega (arith, length-drop i text)))
 
 -- A place in a comment with so many open, and one further on: from both the comment ends alike. No more are open than bytes stand before it.
-pub record Alike (text : List ℕ) (depth from : ℕ) (n : Nested) : Type 0 where
+record Alike (text : List ℕ) (depth from : ℕ) (n : Nested) : Type 0 where
   pub ahead : from ≤ n .at
   pub within : n .at ≤ length text
   pub low : n .depth ≤ n .at
@@ -157,7 +157,7 @@ module _ (text : List ℕ) where
       (λ f. alike-behind d i _ (omega arith) low (ltb-false d (count·at text 93 8 i) f) (λ less. rw (drop-drop 8 i text) (alike-from n _ (i + 8) (omega arith) less)))
 
   -- where the blocks end, the comment ends as from their first
-  pub blocks-alike : (d i : ℕ) → i ≤ length text → d ≤ i → Alike text d i (comment·blocks d i (drop i text))
+  blocks-alike : (d i : ℕ) → i ≤ length text → d ≤ i → Alike text d i (comment·blocks d i (drop i text))
   unfolding comment·blocks
   blocks-alike d i h low = alike-from (length (drop i text) / 8) d i (omega (arith, div-mul-le-self (length (drop i text)) 8, length-drop i text)) low
 

@@ -112,7 +112,7 @@ module _ (text : List ℕ) (x y c d : Cursor) (k : Comparing text x y c d) where
   comparing-end n = sym (rw n (alike-none (spaced (left text d)) ∙ empty-spaced (left text d))) ∙ k .rest
 
 -- The number that digits spell, as far as it has 64 bits.
-abbrev pub bounded : ℕ → ℕ
+abbrev bounded : ℕ → ℕ
 bounded n = pick (leb n largest) n 0
 
 pub record Counting (text : List ℕ) (c d : Cursor) (n : ℕ) : Type 0 where

@@ -28,7 +28,7 @@ module _ (text : List ℕ) (i : ℕ) (h : i < length text) (s : Symbol) (is : s 
   unfolding symbol·at first·symbol
   here = is ∙ rw (drop-next text i h)
 
-  pub kind-symbol : token·at text i .kind ≡ kind·of s (getD text i 0)
+  kind-symbol : token·at text i .kind ≡ kind·of s (getD text i 0)
   unfolding token·at first·token token
   kind-symbol = rw (drop-next text i h, here)
 

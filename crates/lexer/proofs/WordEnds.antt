@@ -18,7 +18,7 @@ use native.Mathlib.Numerals.{add-one}
 use native.Mathlib.Omega.{arith}
 
 -- Outside a comment the mark does not matter.
-pub word-unmarked : (m n i : ℕ) (r : List ℕ) → word·end 0 m i r ≡ word·end 0 n i r
+word-unmarked : (m n i : ℕ) (r : List ℕ) → word·end 0 m i r ≡ word·end 0 n i r
 unfolding word·end
 word-unmarked m n i [] = refl
 word-unmarked m n i (b ∷ r) = rw (word-unmarked m n (suc i) r)
@@ -64,7 +64,7 @@ resumed text (Scan.At j) = word·end 0 0 j (drop j text)
 resumed text (Scan.Open mark) = Scan.Open mark
 
 -- Inside a comment a word goes on as the comment does, and behind it as a word.
-pub word-comment : (text : List ℕ) (mark d i : ℕ) (r : List ℕ) → r ≡ drop i text → word·end (suc d) mark i r ≡ resumed text (comment·end mark d i r)
+word-comment : (text : List ℕ) (mark d i : ℕ) (r : List ℕ) → r ≡ drop i text → word·end (suc d) mark i r ≡ resumed text (comment·end mark d i r)
 unfolding word·end
 word-comment text mark d i r e = comment-passed text follow Scan.Open mark (λ d i. refl) (λ d i b r. refl) d i r e ∙ unmarked (comment·end mark d i r)
   where

@@ -1,5 +1,5 @@
--- Bytes a block at a time: how far the code goes over ASCII bytes, words and comments before it looks at single bytes. By the laws that carry
--- each of these names, what ends behind the blocks ends there too if it is followed byte by byte.
+-- Bytes a block at a time: how far the code goes over ASCII bytes, words and comments before it looks at single bytes. That the ASCII bytes, the
+-- word or the comment end alike from behind the blocks is shown in proofs/ByteBlocks.antt and CommentBlocks.antt.
 use Prim.Native.Nat.{ℕ, zero, suc, _+_, _-_, _/_}
 use lib.Dec.{leb, ltb, eqb}
 use lib.ListN.{length, drop}
