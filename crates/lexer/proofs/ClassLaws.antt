@@ -1,5 +1,5 @@
--- Laws of the bytes that come next in a text, and of a byte's class and symbol by its class's number. That a plain byte's class is other is a
--- computed test of all 256. Assumes nothing.
+-- Laws of the bytes that come next in a text, and of a byte's class and symbol by its class's number. The classes of kinds of bytes are computed
+-- tests of all 256. Assumes nothing.
 use Prim.Native.Nat.{ℕ, zero, suc, _+_, _≤_, _<_}
 use Rattle.lexer.proofs.Basics.{all-under, under-at, implied, by-test, not-both, and-false}
 use Rattle.lexer.proofs.ListLaws.{drop-next}
@@ -8,8 +8,8 @@ use Rattle.lexer.specs.ByteBlocks.{plain?}
 use Rattle.lexer.specs.Classes.{class, symbol, symbol·of, next1, marks}
 use Rattle.lexer.specs.Scanning.{class·number, first·symbol, symbol·at}
 use Rattle.lexer.specs.declared.Class.{Class}
-use borrow.Author.Tests.{eqb-true, ne-eqb, lt-leb, ltb-true, ltb-false}
-use lib.Dec.{eqb, ltb}
+use borrow.Author.Tests.{eqb-true, ne-eqb, le-leb, lt-leb, ltb-true, ltb-false}
+use lib.Dec.{eqb, leb, ltb}
 use lib.ListN.{length, getD, drop, drop-of-length-le}
 use mathlib.Core.Bool.{Bool, true, false, _||_, not}
 use mathlib.Core.List.{List}
@@ -64,13 +64,21 @@ class-number-bound Class.Punctuation = omega arith
 class-number-bound Class.Other = omega arith
 class-number-bound Class.Part = omega arith
 
--- If the byte is plain, is its class other?
-test : ℕ → Bool
-test b = not (plain? b) || eqb (class·number (class b)) 5
+-- The bytes of a kind all have the class of this number, by a computed test of all 256.
+abbrev classed : (ℕ → Bool) → ℕ → ℕ → Bool
+classed kind n b = not (kind b) || eqb (class·number (class b)) n
 
-all-tested : all-under test 256 ≡ true
-unfolding all-under class·number class pick among bytes marks test plain?
-all-tested = refl
+kind-classed : (kind : ℕ → Bool) (n b : ℕ) → all-under (classed kind n) 256 ≡ true → b < 256 → kind b ≡ true → class·number (class b) ≡ n
+kind-classed kind n b all h t = eqb-true _ n (implied (kind b) (eqb (class·number (class b)) n) (under-at (classed kind n) 256 b all h) t)
+
+-- A byte that is not ASCII is part of a character, and the class of a plain byte is other.
+pub high-is-part : (b : ℕ) → b < 256 → 128 ≤ b → class·number (class b) ≡ 6
+unfolding all-under class·number class pick among bytes marks
+high-is-part b h high = kind-classed (leb 128) 6 b refl h (le-leb 128 b high)
+
+plain-classed : all-under (classed plain? 5) 256 ≡ true
+unfolding all-under class·number class pick among bytes marks plain?
+plain-classed = refl
 
 large-not-plain : (b : ℕ) → 256 ≤ b → plain? b ≡ false
 unfolding plain?
@@ -83,11 +91,7 @@ large-not-plain b h =
     rw (digit, small, capital, question, underscore) (simp and-false)
 
 pub plain-is-other : (b : ℕ) → plain? b ≡ true → class·number (class b) ≡ 5
-unfolding test
-plain-is-other b t = by-test (ltb b 256) here (λ f. not-both (large-not-plain b (ltb-false b 256 f)) t)
-  where
-    here : ltb b 256 ≡ true → class·number (class b) ≡ 5
-    here h = eqb-true _ 5 (implied (plain? b) (eqb (class·number (class b)) 5) (under-at test 256 b all-tested (ltb-true b 256 h)) t)
+plain-is-other b t = by-test (ltb b 256) (λ h. kind-classed plain? 5 b plain-classed (ltb-true b 256 h) t) (λ f. not-both (large-not-plain b (ltb-false b 256 f)) t)
 
 -- The symbol of a byte of a text whose class has the number of this one.
 pub symbol-at-class : (text : List ℕ) (i : ℕ) (k : Class) → i < length text → class·number (class (getD text i 0)) ≡ class·number k

@@ -1,7 +1,7 @@
--- The function class_number meets its contract: the table computes to the list of what the rule gives for each of the 256 bytes, and a plain
--- byte's class is other. Assumes nothing.
+-- The function class_number meets its contract: the table computes to the list of what the rule gives for each of the 256 bytes, and for the bytes
+-- that are told without it the rule computes. Assumes nothing.
 use Prim.Native.Nat.{ℕ}
-use Rattle.lexer.proofs.ClassLaws.{plain-is-other}
+use Rattle.lexer.proofs.ClassLaws.{plain-is-other, high-is-part}
 use Rattle.lexer.proofs.TableLaws.{tabulated, tabulated-at}
 use Rattle.lexer.proofs.classes.class_number.Statement.{statement}
 use Rattle.lexer.proofs.classes.class_number.Tie as tie
@@ -20,12 +20,37 @@ plain-requires c κs = search needs
 returns : tie.Need-returns
 returns c = sym (plain-is-other _ (sym (c .before .plain .ensures) ∙ c .if1 .taken))
 
+returns-2 : tie.Need-returns-2
+returns-2 c = sym (high-is-part _ (search needs) (c .if2 .taken))
+
+returns-3 : tie.Need-returns-3
+unfolding class·number class pick
+returns-3 c = rw (c .if3 .taken)
+
+returns-4 : tie.Need-returns-4
+unfolding class·number class pick
+returns-4 c = rw (c .if4 .taken)
+
+returns-5 : tie.Need-returns-5
+unfolding class·number class pick
+returns-5 c = rw (c .if5 .taken)
+
+returns-6 : tie.Need-returns-6
+unfolding class·number class pick
+returns-6 c = rw (c .if6 .taken)
+
+returns-7 : tie.Need-returns-7
+unfolding class·number class pick
+returns-7 c = rw (c .if7 .taken)
+
 array-read-result : tie.Need-array-read-result
 array-read-result c = search needs
 
-returns-2 : tie.Need-returns-2
+returns-8 : tie.Need-returns-8
 unfolding tabulated class·number class pick among bytes marks number
-returns-2 c = tabulated-at number 256 (c .before .before .args .b) (search needs)
+returns-8 c = tabulated-at number 256 (c .before .before .before .before .before .before .before .before .args .b) (search needs)
 
 pub class-number-spec : {M : Type 1} → statement M
-class-number-spec = tie.close (tie.spec plain-requires returns array-read-result returns-2)
+class-number-spec =
+    tie.close
+    (tie.spec plain-requires returns returns-2 returns-3 returns-4 returns-5 returns-6 returns-7 array-read-result returns-8)
