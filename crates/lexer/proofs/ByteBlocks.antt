@@ -18,9 +18,6 @@ use native.Mathlib.Omega.{arith}
 pub whole-block : (size m n : ℕ) → 0 < size → m ≡ n + size → m / size ≡ suc (n / size)
 whole-block size m n some e = rw e (add-div-right n some) ∙ add-one (n / size)
 
-pub no-block : (size n : ℕ) → n < size → n / size ≡ 0
-no-block size n h = div-eq-of-lt h
-
 module _ (p : ℕ → Bool) where
   -- so many bytes and so many behind them
   all-add : (m n : ℕ) (r : List ℕ) → all·first p (m + n) r ≡ all·first p m r && all·first p n (drop m r)
@@ -86,7 +83,7 @@ module _ (p : ℕ → Bool) where
 
       blocks-over : (i : ℕ) → length text < i + size → end·at i ≡ i
       unfolding blocks·end blocks·behind
-      blocks-over i h = rw (no-block size (length (drop i text)) (omega (arith, length-drop i text)))
+      blocks-over i h = let few : length (drop i text) < size = omega (arith, length-drop i text) in rw (div-eq-of-lt few)
 
     -- behind the blocks is ahead, within the text
     ahead-from : (size n i : ℕ) → i ≤ length text → (i ≤ blocks·behind p size n i (drop i text)) × (blocks·behind p size n i (drop i text) ≤ length text)

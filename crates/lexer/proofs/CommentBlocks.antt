@@ -2,7 +2,7 @@
 -- the count of the brackets matters. Assumes nothing.
 use Prim.Native.Nat.{ℕ, zero, suc, _+_, _-_, _*_, _/_, _≤_, _<_}
 use Rattle.lexer.proofs.Basics.{by-test, chosen}
-use Rattle.lexer.proofs.ByteBlocks.{whole-block, no-block}
+use Rattle.lexer.proofs.ByteBlocks.{whole-block}
 use Rattle.lexer.proofs.EndTurns.{Commenting, comment-closes, comment-opens, comment-goes-on}
 use Rattle.lexer.specs.Base.{pick}
 use Rattle.lexer.specs.ByteBlocks.{Nested, nested, comment·behind, comment·blocks, count·in}
@@ -14,7 +14,7 @@ use lib.Seq.{drop-cons, drop-drop}
 use mathlib.Core.Bool.{true, false}
 use mathlib.Core.List.{List, [], _∷_}
 use mathlib.Core.Path.{_≡_, refl, sym, ap, _∙_}
-use native.Mathlib.Nat.{div-mul-le-self}
+use native.Mathlib.Nat.{div-eq-of-lt, div-mul-le-self}
 use native.Mathlib.Numerals.{add-one}
 use native.Mathlib.Omega.{arith}
 
@@ -122,7 +122,7 @@ module _ (text : List ℕ) where
 
   blocks-over : (d i : ℕ) → length text < i + 8 → blocks·at d i ≡ nested d i
   unfolding comment·blocks comment·behind
-  blocks-over d i h = rw (no-block 8 (length (drop i text)) (omega (arith, length-drop i text)))
+  blocks-over d i h = let few : length (drop i text) < 8 = omega (arith, length-drop i text) in rw (div-eq-of-lt few)
 
 -- A place in a comment with so many open, and one further on: from both the comment ends alike. No more are open than bytes stand before it.
 record Alike (text : List ℕ) (depth from : ℕ) (n : Nested) : Type 0 where
