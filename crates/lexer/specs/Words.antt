@@ -108,3 +108,7 @@ unsigned (b ∷ r) =
 -- The positive number that a text spells, as the Rust's `parse::<usize>` reads it: that, where it has at most 64 bits; else 0.
 unfoldable pub positive : List ℕ → ℕ
 positive text = let n = unsigned text in pick (leb n largest) n 0
+
+-- The positive number that a token spells, whatever its kind; 0 if it spells none. Every number of a text is read by this.
+unfoldable pub number : Numbered → ℕ
+number w = positive (w .token .text)
