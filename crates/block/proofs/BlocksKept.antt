@@ -2,16 +2,18 @@
 -- label commands and of the matrix. Assumes nothing.
 use Prim.Native.Nat.{ℕ, zero, suc}
 use Rattle.block.proofs.OutcomeLaws.{then-done, pick-else, pick-when, pick-either, pick-test, refused-done, done-inj, All, all-one, all-map, Opt, opt-map}
-use Rattle.block.specs.Blocks.{Data, Phase, outside, in·taxa, in·data, in·assumptions, in·trees, State, at·start, in·phase, begin·assumptions, no·data, begin·block, begin·words, taxa·count, taxa·step, matrix, labelling, labelled·by, with·dimensions, with·format, with·taxa, with·matrix, label·step, data·command, data·step, options, assumption·step, with·types, taxa·end, data·end, end·block, inner·step, ends, block·step, outside?, step}
+use Rattle.block.specs.Blocks.{Data, Phase, outside, in·taxa, in·data, in·assumptions, in·trees, State, at·start, in·phase, begin·assumptions, no·data, begin·block, begin·words, taxa·count, taxa·step, matrix, labelling, labelled·by, with·dimensions, with·format, with·taxa, with·matrix, label·step, data·command, data·step, options, characters·in, assumption·step, with·types, matrix·typed, taxa·end, data·end, end·block, inner·step, ends, block·step, outside?, step}
 use Rattle.block.specs.Commands.{Command, command, empty, unended, words}
-use Rattle.block.specs.Dimensions.{Dimensions, dimensions}
+use Rattle.block.specs.Dimensions.{dimensions}
 use Rattle.block.specs.Format.{Format, format}
-use Rattle.block.specs.Labels.{Labelling, LabelCommand}
+use Rattle.block.specs.Labels.{LabelCommand}
 use Rattle.block.specs.Names.{unique·names}
 use Rattle.block.specs.Outcome.{done, refused, then}
 use Rattle.block.specs.Reading.{Reading}
 use Rattle.block.specs.TaxonOrder.{declaring?}
 use Rattle.block.specs.Typeset.{Types, typeset, Typeset}
+use Rattle.block.specs.declared.dimension.Dimensions.{Dimensions}
+use Rattle.block.specs.declared.labels.Labelling.{Labelling}
 use Rattle.block.specs.declared.model.CharacterOrdering.{CharacterOrdering}
 use Rattle.lexer.specs.Base.{pick, empty?, given, bytes}
 use Rattle.lexer.specs.Words.{Numbered, is}
@@ -47,7 +49,7 @@ abbrev pub Inside : Claims → Phase → Type 0
 Inside m outside = Unit {0}
 Inside m (in·taxa b count names) = Opt (m .names) names
 Inside m (in·data b d) = Block m d
-Inside m (in·assumptions b r default set) = m .reading r
+Inside m (in·assumptions b default set) = Unit {0}
 Inside m (in·trees b) = Unit {0}
 
 -- Of the state after a command: the invariant of the fold.
@@ -63,7 +65,7 @@ pub record Brings (m : Claims) (s : State) (h : Numbered) (raw : List Numbered) 
   pub formatted : (f : Format) → format (h .index) (words raw) ≡ done f → m .format f
   pub labelled : (l : Labelling) → m .labels (record { what = l; head = h .index; words = words raw })
   pub read : is (bytes "MATRIX") h ≡ true → (b : ℕ) (d : Data) → s .phase ≡ in·data b d → Ready m d → (r : Reading) → matrix d h raw ≡ done r → m .reading r
-  pub typed : (r : Reading) (default : Option CharacterOrdering) (set : Option Types) → m .reading r → m .reading (with·types r default set)
+  pub typed : (r : Reading) (default : Option CharacterOrdering) (set : Option Types) → m .reading r → m .reading (with·types default set r)
 
 module _ (m : Claims) (s : State) (h : Numbered) (raw : List Numbered) (u : Brings m s h raw) where
   -- The outcome of a step that opens or leaves a block.
@@ -76,11 +78,11 @@ module _ (m : Claims) (s : State) (h : Numbered) (raw : List Numbered) (u : Brin
   inside p q i e = rw (← done-inj e) i
 
   -- BEGIN
-  assumptions-kept : (b : ℕ) (seen : Bool) (x : Option Reading) (t : State) → Kept m s → Opt (m .reading) x → begin·assumptions s b seen x ≡ done t → Kept m t
+  assumptions-kept : (b : ℕ) (seen : Bool) (x : Option Reading) (t : State) → Kept m s → begin·assumptions s b seen x ≡ done t → Kept m t
   unfolding begin·assumptions
-  assumptions-kept b true x t k r e = refused-done Refusal.Block b t e
-  assumptions-kept b false none t k r e = refused-done Refusal.Block b t e
-  assumptions-kept b false (some x) t k r e = phased (in·assumptions b x none none) t r k e
+  assumptions-kept b true x t k e = refused-done Refusal.Block b t e
+  assumptions-kept b false none t k e = refused-done Refusal.Block b t e
+  assumptions-kept b false (some x) t k e = phased (in·assumptions b none none) t tt k e
 
   block-begins : (taxa : Option (List (List ℕ))) → Opt (m .names) taxa → Block m (no·data taxa)
   unfolding no·data
@@ -93,7 +95,7 @@ module _ (m : Claims) (s : State) (h : Numbered) (raw : List Numbered) (u : Brin
       let misplaced : refused Refusal.Block i ≡ done t → Kept m t = refused-done Refusal.Block i t in
       pick-either (is (bytes "TAXA") b) _ _ t (pick-either (given (s .taxa) || given (s .matrix)) _ _ t misplaced (phased (in·taxa i 0 none) t tt k))
       (pick-either (is (bytes "DATA") b || is (bytes "CHARACTERS") b) _ _ t (pick-either (given (s .matrix)) _ _ t misplaced (phased (in·data i (no·data (s .taxa))) t (block-begins (s .taxa) (k .taxa)) k))
-      (pick-either (is (bytes "ASSUMPTIONS") b) _ _ t (assumptions-kept i (s .assumptions) (s .matrix) t k (k .matrix))
+      (pick-either (is (bytes "ASSUMPTIONS") b) _ _ t (assumptions-kept i (s .assumptions) (s .matrix) t k)
       (pick-either (is (bytes "TREES") b) _ _ t (phased (in·trees i) t tt k)
       misplaced))) e
 
@@ -110,7 +112,7 @@ module _ (m : Claims) (s : State) (h : Numbered) (raw : List Numbered) (u : Brin
   taxa-kept b zero none q at e =
       let k = pick-when (is (bytes "DIMENSIONS") h) Refusal.Command (h .index) _ q e in
       let d = then-done (dimensions (words raw)) (taxa·count h b) q (k .1) in
-      let one = pick-else (not (eqb (d .0 .characters) 0) || d .0 .new·taxa) Refusal.Dimension (h .index) _ q (d .2) in
+      let one = pick-else (not (eqb (d .0 .characters) 0) || d .0 .«new_taxa») Refusal.Dimension (h .index) _ q (d .2) in
       let two = pick-else (eqb (d .0 .taxa) 0) Refusal.Absent (h .index) _ q (one .1) in
       inside (in·taxa b (d .0 .taxa) none) q tt (two .1)
   taxa-kept b (suc n) none q at e =
@@ -157,25 +159,25 @@ module _ (m : Claims) (s : State) (h : Numbered) (raw : List Numbered) (u : Brin
           rw (← done-inj (x .2)) (unfold with·matrix in record { ready = record { dimensions = b .ready .dimensions; format = b .ready .format; taxa = b .ready .taxa; labels = b .ready .labels }; matrix = u .read t i d at (b .ready) (x .0) (x .1) })
 
   -- ASSUMPTIONS: the matrix stays as it is until the block ends.
-  assumption-kept : (ws : List Numbered) (b : ℕ) (r : Reading) (default : Option CharacterOrdering) (set : Option Types) (q : Phase) → m .reading r
-      → assumption·step h ws b r default set ≡ done q → Inside m q
+  assumption-kept : (ws : List Numbered) (b : ℕ) (default : Option CharacterOrdering) (set : Option Types) (q : Phase)
+      → assumption·step s h ws b default set ≡ done q → Inside m q
   unfolding assumption·step
-  assumption-kept ws b r default set q x e =
+  assumption-kept ws b default set q e =
       pick-either (is (bytes "OPTIONS") h && not (given default)) _ _ q typed
       (pick-either (is (bytes "TYPESET") h && not (given set)) _ _ q sets (refused-done Refusal.Command (h .index) q)) e
     where
-      typed : then (options h ws) (λ o. done (in·assumptions b r (some o) set)) ≡ done q → Inside m q
+      typed : then (options h ws) (λ o. done (in·assumptions b (some o) set)) ≡ done q → Inside m q
       typed p =
-          let o = then-done (options h ws) (λ o. done (in·assumptions b r (some o) set)) q p in
-          inside (in·assumptions b r (some (o .0)) set) q x (o .2)
+          let o = then-done (options h ws) (λ o. done (in·assumptions b (some o) set)) q p in
+          inside (in·assumptions b (some (o .0)) set) q tt (o .2)
 
       head : Typeset
-      head = record { characters = length (r .characters); head = h .index }
+      head = record { characters = characters·in (s .matrix); head = h .index }
 
-      sets : then (typeset head ws) (λ ts. done (in·assumptions b r default (some ts))) ≡ done q → Inside m q
+      sets : then (typeset head ws) (λ ts. done (in·assumptions b default (some ts))) ≡ done q → Inside m q
       sets p =
-          let ts = then-done (typeset head ws) (λ ts. done (in·assumptions b r default (some ts))) q p in
-          inside (in·assumptions b r default (some (ts .0))) q x (ts .2)
+          let ts = then-done (typeset head ws) (λ ts. done (in·assumptions b default (some ts))) q p in
+          inside (in·assumptions b default (some (ts .0))) q tt (ts .2)
 
   -- END: what a block leaves behind.
   taxa-end-kept : (b count : ℕ) (names : Option (List (List ℕ))) (t : State) → Kept m s → Opt (m .names) names → taxa·end s b count names ≡ done t → Kept m t
@@ -189,16 +191,21 @@ module _ (m : Claims) (s : State) (h : Numbered) (raw : List Numbered) (u : Brin
   data-end-kept b none t k r e = refused-done Refusal.Absent b t e
   data-end-kept b (some x) t k r e = rw (← done-inj e) (record { phase = tt; taxa = k .taxa; matrix = r })
 
+  typed-kept : (default : Option CharacterOrdering) (set : Option Types) (x : Option Reading) → Opt (m .reading) x → Opt (m .reading) (matrix·typed default set x)
+  unfolding matrix·typed
+  typed-kept default set none r = tt
+  typed-kept default set (some x) r = u .typed x default set r
+
   end-kept : (p : Phase) (t : State) → Kept m s → Inside m p → end·block s p ≡ done t → Kept m t
   unfolding end·block
   end-kept outside t k i e = rw (← done-inj e) k
   end-kept (in·taxa b count names) t k i e = taxa-end-kept b count names t k i e
   end-kept (in·data b d) t k i e = data-end-kept b (d .matrix) t k (i .matrix) e
-  end-kept (in·assumptions b r default set) t k i e =
-      rw (← done-inj e) (record { phase = tt; taxa = k .taxa; matrix = u .typed r default set i })
+  end-kept (in·assumptions b default set) t k i e =
+      rw (← done-inj e) (record { phase = tt; taxa = k .taxa; matrix = typed-kept default set (s .matrix) (k .matrix) })
   end-kept (in·trees b) t k i e = phased outside t tt k e
 
-  inner-kept : (p q : Phase) → s .phase ≡ p → Inside m p → inner·step h raw p ≡ done q → Inside m q
+  inner-kept : (p q : Phase) → s .phase ≡ p → Inside m p → inner·step s h raw p ≡ done q → Inside m q
   unfolding inner·step data·step
   inner-kept outside q at i e = inside outside q tt e
   inner-kept (in·taxa b count names) q at i e = taxa-kept b count names q at e
@@ -206,7 +213,7 @@ module _ (m : Claims) (s : State) (h : Numbered) (raw : List Numbered) (u : Brin
       let k = pick-else (given (d .matrix)) Refusal.Command (h .index) _ q e in
       let x = then-done (data·command d h raw) (λ x. done (in·data b x)) q (k .1) in
       inside (in·data b (x .0)) q (data-kept b d (x .0) at i (x .1)) (x .2)
-  inner-kept (in·assumptions b r default set) q at i e = assumption-kept (words raw) b r default set q i e
+  inner-kept (in·assumptions b default set) q at i e = assumption-kept (words raw) b default set q e
   inner-kept (in·trees b) q at i e = inside (in·trees b) q tt e
 
   block-kept : (t : State) → Kept m s → block·step s h raw ≡ done t → Kept m t
@@ -216,9 +223,9 @@ module _ (m : Claims) (s : State) (h : Numbered) (raw : List Numbered) (u : Brin
       over : pick (empty? (words raw)) (end·block s (s .phase)) (refused Refusal.WordsAfterEnd (h .index)) ≡ done t → Kept m t
       over p = end-kept (s .phase) t k (k .phase) (pick-when (empty? (words raw)) Refusal.WordsAfterEnd (h .index) (end·block s (s .phase)) t p .1)
 
-      inner : then (inner·step h raw (s .phase)) (λ q. done (in·phase q s)) ≡ done t → Kept m t
+      inner : then (inner·step s h raw (s .phase)) (λ q. done (in·phase q s)) ≡ done t → Kept m t
       inner p =
-          let q = then-done (inner·step h raw (s .phase)) (λ q. done (in·phase q s)) t p in
+          let q = then-done (inner·step s h raw (s .phase)) (λ q. done (in·phase q s)) t p in
           phased (q .0) t (inner-kept (s .phase) (q .0) refl (k .phase) (q .1)) k (q .2)
 
   command-kept : (t : State) → Kept m s → step s (command h raw) ≡ done t → Kept m t
@@ -263,7 +270,7 @@ module _ (m n : Claims) (w : Weaker m n) where
   inside-map outside i = tt
   inside-map (in·taxa b count names) i = opt-map (m .names) (n .names) (w .names) names i
   inside-map (in·data b d) i = block-map d i
-  inside-map (in·assumptions b r default set) i = w .reading r i
+  inside-map (in·assumptions b default set) i = tt
   inside-map (in·trees b) i = tt
 
   pub kept-map : (s : State) → Kept m s → Kept n s

@@ -4,12 +4,13 @@ use Rattle.block.proofs.FormatSound.{Good}
 use Rattle.block.proofs.OutcomeLaws.{then-done, need-done, pick-when, pick-either, refused-done, done-inj, All, all-append, all-one}
 use Rattle.block.proofs.RisingLaws.{rising-cons, rising-head, rising-rest}
 use Rattle.block.specs.Cell.{Cell, state, uncertain, polymorphic, missing, gap, insert, insert·all}
-use Rattle.block.specs.Chunk.{find·symbol, state·of, state·cell, state·or·code, gap·or, cell, before, cells·of, symbols, with·state, only·states, Bracket, brace, parenthesis, closer, set·cell, Row, plain, within, closed, into·set, chunk, row·end}
+use Rattle.block.specs.Chunk.{find·symbol, state·of, state·cell, state·or·code, gap·or, cell, before, cells·of, symbols, with·state, only·states, closer, set·cell, Row, plain, within, closed, into·set, chunk, row·end}
 use Rattle.block.specs.Dna.{acgt, dna·letter, dna·cell}
 use Rattle.block.specs.Format.{Format, equal}
 use Rattle.block.specs.Outcome.{done, then, need}
 use Rattle.block.specs.Sound.{rising, sound·set, sound·cell, gap?}
 use Rattle.block.specs.declared.data.DataType.{DataType}
+use Rattle.block.specs.declared.matrix.Bracket.{Bracket}
 use Rattle.lexer.proofs.Basics.{by-test}
 use Rattle.lexer.specs.Base.{pick, given, bytes, lower, empty?}
 use Rattle.lexer.specs.Words.{Numbered, punct, word?}
@@ -101,7 +102,7 @@ module _ (f : Format) (good : Good f) where
   cell-fine : (b : ℕ) (d : Cell) → cell f b ≡ some d → Fine f d
   unfolding cell sound·cell gap?
   cell-fine b d h =
-      pick-some (equal f b (f .missing)) (some missing) (gap·or f (f .gap) b) d
+      pick-some (equal f (f .missing) b) (some missing) (gap·or f (f .gap) b) d
       (λ p. rw (← some-inj p) (record { sound = refl; gap·sign = λ q. absurd (false≢true q) }))
       (gap-fine (f .gap) b d refl) h
 
@@ -174,8 +175,8 @@ module _ (f : Format) (good : Good f) where
 
   set-fine : (k : Bracket) (i : ℕ) (r : List ℕ) → rising (length (f .symbols)) (i ∷ r) ≡ true → Fine f (set·cell k (i ∷ r))
   unfolding set·cell sound·cell sound·set empty? gap?
-  set-fine brace i r h = record { sound = h; gap·sign = λ e. absurd (false≢true e) }
-  set-fine parenthesis i r h = record { sound = h; gap·sign = λ e. absurd (false≢true e) }
+  set-fine Bracket.Brace i r h = record { sound = h; gap·sign = λ e. absurd (false≢true e) }
+  set-fine Bracket.Parenthesis i r h = record { sound = h; gap·sign = λ e. absurd (false≢true e) }
 
   closed-fine : (cells : List Cell) (k : Bracket) (i : ℕ) (set : List ℕ) (row : Row) → RowFine f (within cells k i set) → closed cells k i set ≡ done row → RowFine f row
   unfolding closed
@@ -197,8 +198,8 @@ module _ (f : Format) (good : Good f) where
   pub chunk-fine : (s : Row) (w : Numbered) (row : Row) → RowFine f s → chunk f s w ≡ done row → RowFine f row
   unfolding chunk
   chunk-fine (plain cells) w row p h =
-      pick-either (punct 123 w) _ _ row (done-fine (within cells brace (w .index) []) row (p, none-rises))
-      (pick-either (punct 40 w) _ _ row (done-fine (within cells parenthesis (w .index) []) row (p, none-rises)) more) h
+      pick-either (punct 123 w) _ _ row (done-fine (within cells Bracket.Brace (w .index) []) row (p, none-rises))
+      (pick-either (punct 40 w) _ _ row (done-fine (within cells Bracket.Parenthesis (w .index) []) row (p, none-rises)) more) h
     where
       none-rises : rising (length (f .symbols)) [] ≡ true
       none-rises = unfold rising in refl

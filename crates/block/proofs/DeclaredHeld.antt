@@ -2,16 +2,16 @@
 use Prim.Native.Nat.{ℕ, zero, suc}
 use Rattle.block.proofs.ChunkSound.{none-some}
 use Rattle.block.proofs.OutcomeLaws.{then-done, pick-else, pick-when, pick-either, refused-done, done-inj, fold-history}
-use Rattle.block.specs.Blocks.{Data, Phase, outside, in·taxa, in·data, in·assumptions, in·trees, State, at·start, in·phase, begin·assumptions, no·data, begin·block, begin·words, taxa·step, matrix, labelling, labelled·by, with·dimensions, with·format, with·taxa, with·matrix, label·step, data·command, data·step, options, assumption·step, taxa·end, data·end, end·block, inner·step, ends, block·step, outside?, step}
+use Rattle.block.specs.Blocks.{Data, Phase, outside, in·taxa, in·data, in·assumptions, in·trees, State, at·start, in·phase, begin·assumptions, no·data, begin·block, begin·words, taxa·step, matrix, labelling, labelled·by, with·dimensions, with·format, with·taxa, with·matrix, label·step, data·command, data·step, options, characters·in, assumption·step, matrix·typed, taxa·end, data·end, end·block, inner·step, ends, block·step, outside?, step}
 use Rattle.block.specs.Commands.{Command, command, empty, unended, words}
 use Rattle.block.specs.Dimensions.{dimensions}
 use Rattle.block.specs.Format.{format}
-use Rattle.block.specs.Labels.{Labelling}
 use Rattle.block.specs.Names.{unique·names}
 use Rattle.block.specs.Outcome.{done, refused, then, fold}
 use Rattle.block.specs.Reading.{Reading}
 use Rattle.block.specs.TaxonOrder.{declaring?, Declares}
 use Rattle.block.specs.Typeset.{Types, typeset}
+use Rattle.block.specs.declared.labels.Labelling.{Labelling}
 use Rattle.block.specs.declared.model.CharacterOrdering.{CharacterOrdering}
 use Rattle.lexer.proofs.Basics.{and-right, or-both, or-left, or-right, by-test, alike-both}
 use Rattle.lexer.specs.Base.{pick, empty?, given, bytes, alike, lower}
@@ -21,7 +21,7 @@ use lib.Dec.{eqb}
 use lib.ListN.{length}
 use mathlib.Core.Bool.{Bool, true, false, _&&_, _||_, not, true≢false}
 use mathlib.Core.List.{List, [], _∷_, _++_, nil≢cons, head-eq-of-cons-eq, tail-eq-of-cons-eq}
-use mathlib.Core.Logic.{_⊎_, inl, inr, ⊎-elim}
+use mathlib.Core.Logic.{_⊎_, inl, inr, ⊎-elim, ⊎-map}
 use mathlib.Core.Option.{Option, none, some}
 use mathlib.Core.Path.{_≡_, refl, sym, ap, _∙_}
 
@@ -40,7 +40,7 @@ abbrev Holding : State → List (List ℕ) → Phase → Type 0
 Holding s ns outside = Left s ns
 Holding s ns (in·taxa b count names) = names ≡ some ns
 Holding s ns (in·data b d) = d .taxa ≡ some ns
-Holding s ns (in·assumptions b r default set) = Unit {0}
+Holding s ns (in·assumptions b default set) = Left s ns
 Holding s ns (in·trees b) = Left s ns
 
 abbrev pub Holds : State → List (List ℕ) → Type 0
@@ -57,14 +57,14 @@ module _ (s : State) (h : Numbered) (raw : List Numbered) (ns : List (List ℕ))
   opened outside t i e = rw (← done-inj e) i
   opened (in·taxa b count names) t i e = rw (← done-inj e) i
   opened (in·data b d) t i e = rw (← done-inj e) i
-  opened (in·assumptions b r default set) t i e = rw (← done-inj e) tt
+  opened (in·assumptions b default set) t i e = rw (← done-inj e) i
   opened (in·trees b) t i e = rw (← done-inj e) i
 
-  assumptions-hold : (b : ℕ) (seen : Bool) (x : Option Reading) (t : State) → begin·assumptions s b seen x ≡ done t → Holds t ns
+  assumptions-hold : (b : ℕ) (seen : Bool) (x : Option Reading) (t : State) → Left s ns → begin·assumptions s b seen x ≡ done t → Holds t ns
   unfolding begin·assumptions
-  assumptions-hold b true x t e = refused-done Refusal.Block b t e
-  assumptions-hold b false none t e = refused-done Refusal.Block b t e
-  assumptions-hold b false (some x) t e = opened (in·assumptions b x none none) t tt e
+  assumptions-hold b true x t k e = refused-done Refusal.Block b t e
+  assumptions-hold b false none t k e = refused-done Refusal.Block b t e
+  assumptions-hold b false (some x) t k e = opened (in·assumptions b none none) t k e
 
   begin-holds : (b : Numbered) (t : State) → Left s ns → begin·block s b ≡ done t → Holds t ns
   unfolding begin·block given no·data
@@ -73,7 +73,7 @@ module _ (s : State) (h : Numbered) (raw : List Numbered) (ns : List (List ℕ))
       let misplaced : refused Refusal.Block i ≡ done t → Holds t ns = refused-done Refusal.Block i t in
       pick-either (is (bytes "TAXA") b) _ _ t taxa
       (pick-either (is (bytes "DATA") b || is (bytes "CHARACTERS") b) _ _ t block
-      (pick-either (is (bytes "ASSUMPTIONS") b) _ _ t (assumptions-hold i (s .assumptions) (s .matrix) t)
+      (pick-either (is (bytes "ASSUMPTIONS") b) _ _ t (assumptions-hold i (s .assumptions) (s .matrix) t k)
       (pick-either (is (bytes "TREES") b) _ _ t (opened (in·trees i) t k)
       misplaced))) e
     where
@@ -117,17 +117,22 @@ module _ (s : State) (h : Numbered) (raw : List Numbered) (ns : List (List ℕ))
       labels none p = refused-done Refusal.Command (h .index) x p
       labels (some l) p = rw (← done-inj (pick-else (labelled·by l (d .labels)) Refusal.Command (h .index) _ x p .1)) k
 
-  assumption-holds : (ws : List Numbered) (b : ℕ) (r : Reading) (default : Option CharacterOrdering) (set : Option Types) (q : Phase)
-      → assumption·step h ws b r default set ≡ done q → Holding s ns q
+  assumption-holds : (ws : List Numbered) (b : ℕ) (default : Option CharacterOrdering) (set : Option Types) (q : Phase) → Left s ns
+      → assumption·step s h ws b default set ≡ done q → Holding s ns q
   unfolding assumption·step
-  assumption-holds ws b r default set q e =
+  assumption-holds ws b default set q k e =
       pick-either (is (bytes "OPTIONS") h && not (given default)) _ _ q
-      (λ p. let o = then-done (options h ws) (λ o. done (in·assumptions b r (some o) set)) q p in rw (← done-inj (o .2)) tt)
+      (λ p. let o = then-done (options h ws) (λ o. done (in·assumptions b (some o) set)) q p in rw (← done-inj (o .2)) k)
       (pick-either (is (bytes "TYPESET") h && not (given set)) _ _ q
-      (λ p. let o = then-done (typeset (record { characters = length (r .characters); head = h .index }) ws) (λ ts. done (in·assumptions b r default (some ts))) q p in rw (← done-inj (o .2)) tt)
+      (λ p. let o = then-done (typeset (record { characters = characters·in (s .matrix); head = h .index }) ws) (λ ts. done (in·assumptions b default (some ts))) q p in rw (← done-inj (o .2)) k)
       (refused-done Refusal.Command (h .index) q)) e
 
   -- END, and the commands inside a block
+  typed-given : (default : Option CharacterOrdering) (set : Option Types) (x : Option Reading) → given (matrix·typed default set x) ≡ given x
+  unfolding matrix·typed given
+  typed-given default set none = refl
+  typed-given default set (some r) = refl
+
   end-holds : (p : Phase) (t : State) → Holding s ns p → end·block s p ≡ done t → outside? p ≡ false → Holds t ns
   unfolding end·block taxa·end data·end in·phase outside? given
   end-holds outside t k e o = absurd (true≢false o)
@@ -138,10 +143,10 @@ module _ (s : State) (h : Numbered) (raw : List Numbered) (ns : List (List ℕ))
       go : (m : Option Reading) → data·end s b m ≡ done t → Holds t ns
       go none p = refused-done Refusal.Absent b t p
       go (some r) p = rw (← done-inj p) (inr refl)
-  end-holds (in·assumptions b r default set) t k e o = rw (← done-inj e) (inr refl)
+  end-holds (in·assumptions b default set) t k e o = rw (← done-inj e) (⊎-map (λ n. n) (λ m. typed-given default set (s .matrix) ∙ m) k)
   end-holds (in·trees b) t k e o = rw (← done-inj e) k
 
-  inner-holds : (p q : Phase) → Holding s ns p → inner·step h raw p ≡ done q → outside? p ≡ false → Holding s ns q
+  inner-holds : (p q : Phase) → Holding s ns p → inner·step s h raw p ≡ done q → outside? p ≡ false → Holding s ns q
   unfolding inner·step data·step taxa·step outside?
   inner-holds outside q k e o = absurd (true≢false o)
   inner-holds (in·taxa b count none) q k e o = none-some ns k
@@ -149,7 +154,7 @@ module _ (s : State) (h : Numbered) (raw : List Numbered) (ns : List (List ℕ))
   inner-holds (in·data b d) q k e o =
       let x = then-done (data·command d h raw) (λ x. done (in·data b x)) q (pick-else (given (d .matrix)) Refusal.Command (h .index) _ q e .1) in
       rw (← done-inj (x .2)) (data-holds d (x .0) k (x .1))
-  inner-holds (in·assumptions b r default set) q k e o = assumption-holds (words raw) b r default set q e
+  inner-holds (in·assumptions b default set) q k e o = assumption-holds (words raw) b default set q k e
   inner-holds (in·trees b) q k e o = rw (← done-inj e) k
 
   block-holds : (t : State) → outside? (s .phase) ≡ false → Holds s ns → block·step s h raw ≡ done t → Holds t ns
@@ -159,9 +164,9 @@ module _ (s : State) (h : Numbered) (raw : List Numbered) (ns : List (List ℕ))
       over : pick (empty? (words raw)) (end·block s (s .phase)) (refused Refusal.WordsAfterEnd (h .index)) ≡ done t → Holds t ns
       over p = end-holds (s .phase) t k (pick-when (empty? (words raw)) Refusal.WordsAfterEnd (h .index) (end·block s (s .phase)) t p .1) o
 
-      inner : then (inner·step h raw (s .phase)) (λ q. done (in·phase q s)) ≡ done t → Holds t ns
+      inner : then (inner·step s h raw (s .phase)) (λ q. done (in·phase q s)) ≡ done t → Holds t ns
       inner p =
-          let q = then-done (inner·step h raw (s .phase)) (λ q. done (in·phase q s)) t p in
+          let q = then-done (inner·step s h raw (s .phase)) (λ q. done (in·phase q s)) t p in
           opened (q .0) t (inner-holds (s .phase) (q .0) k (q .1) o) (q .2)
 
   command-holds : (t : State) → Holds s ns → step s (command h raw) ≡ done t → Holds t ns
@@ -173,7 +178,7 @@ module _ (s : State) (h : Numbered) (raw : List Numbered) (ns : List (List ℕ))
       left outside o k = k
       left (in·taxa b count names) o k = absurd (true≢false (sym o))
       left (in·data b d) o k = absurd (true≢false (sym o))
-      left (in·assumptions b r default set) o k = absurd (true≢false (sym o))
+      left (in·assumptions b default set) o k = absurd (true≢false (sym o))
       left (in·trees b) o k = absurd (true≢false (sym o))
 
   -- TAXLABELS in a block that takes it
@@ -202,14 +207,14 @@ module _ (s : State) (h : Numbered) (raw : List Numbered) (ns : List (List ℕ))
         (λ p. by-test (is (bytes "FORMAT") h) (not·this (bytes "FORMAT") refl)
         (λ q. rw (← taken (with·taxa d) x (pick-else (given (d .taxa)) Refusal.Command (h .index) _ x (rw (p, q, word) at e) .1)) refl))
 
-    inner-taken : (p q : Phase) → declaring? p ≡ true → inner·step h raw p ≡ done q → Holding s ns q
+    inner-taken : (p q : Phase) → declaring? p ≡ true → inner·step s h raw p ≡ done q → Holding s ns q
     unfolding declaring? inner·step data·step
     inner-taken outside q o e = absurd (true≢false (sym o))
     inner-taken (in·taxa b count names) q o e = taxa-taken b count names q e
     inner-taken (in·data b d) q o e =
         let x = then-done (data·command d h raw) (λ x. done (in·data b x)) q (pick-else (given (d .matrix)) Refusal.Command (h .index) _ q e .1) in
         rw (← done-inj (x .2)) (data-taken d (x .0) (x .1))
-    inner-taken (in·assumptions b r default set) q o e = absurd (true≢false (sym o))
+    inner-taken (in·assumptions b default set) q o e = absurd (true≢false (sym o))
     inner-taken (in·trees b) q o e = absurd (true≢false (sym o))
 
     in·block : (p : Phase) → declaring? p ≡ true → outside? p ≡ false
@@ -217,7 +222,7 @@ module _ (s : State) (h : Numbered) (raw : List Numbered) (ns : List (List ℕ))
     in·block outside o = sym o
     in·block (in·taxa b count names) o = refl
     in·block (in·data b d) o = refl
-    in·block (in·assumptions b r default set) o = refl
+    in·block (in·assumptions b default set) o = refl
     in·block (in·trees b) o = refl
 
     goes·on : ends h ≡ false
@@ -229,7 +234,7 @@ module _ (s : State) (h : Numbered) (raw : List Numbered) (ns : List (List ℕ))
     declared-holds : (t : State) → declaring? (s .phase) ≡ true → step s (command h raw) ≡ done t → Holds t ns
     unfolding step block·step pick
     declared-holds t o e =
-        let q = then-done (inner·step h raw (s .phase)) (λ q. done (in·phase q s)) t (rw (in·block (s .phase) o, goes·on) at e) in
+        let q = then-done (inner·step s h raw (s .phase)) (λ q. done (in·phase q s)) t (rw (in·block (s .phase) o, goes·on) at e) in
         opened (q .0) t (inner-taken (s .phase) (q .0) o (q .1)) (q .2)
 
 -- A command among these and one more is among these, or is that one.

@@ -1,10 +1,13 @@
 -- The counts that DIMENSIONS declares have 64 bits. Assumes nothing.
 use Prim.Native.Nat.{ℕ, zero, suc, _≤_}
 use Rattle.block.proofs.OutcomeLaws.{then-done, pick-either, pick-when, refused-done, done-inj, Any, all-any, fold-keeps}
-use Rattle.block.specs.Dimensions.{Dimensions, Count, ntax, nchar, Dimensioning, option, equals, value, no·dimensions, with·count, count·option, dimension·option, dimension·value, dimension·turn, dimension·end, dimensions}
+use Rattle.block.specs.Dimensions.{dimensions·of, no·dimensions, with·count, count·option, dimension·option, dimension·value, dimension·turn, dimension·end, dimensions}
 use Rattle.block.specs.Outcome.{done, fold}
+use Rattle.block.specs.declared.dimension.Count.{Count}
+use Rattle.block.specs.declared.dimension.Dimensioning.{Dimensioning}
+use Rattle.block.specs.declared.dimension.Dimensions.{Dimensions}
 use Rattle.lexer.specs.Base.{pick, bytes, byte}
-use Rattle.lexer.specs.Words.{Numbered, is, punct, unsigned, positive, largest}
+use Rattle.lexer.specs.Words.{Numbered, is, punct, unsigned, positive, number, largest}
 use Rattle.lexer.specs.declared.refusal.Refusal.{Refusal}
 use borrow.Author.Tests.{leb-true}
 use lib.Dec.{leb}
@@ -19,9 +22,9 @@ pub record Few (d : Dimensions) : Type 0 where
 
 -- The invariant: the counts declared so far are few, wherever the command is.
 abbrev Declared : Dimensioning → Type 0
-Declared (option d) = Few d
-Declared (equals d c i) = Few d
-Declared (value d c i) = Few d
+Declared (Dimensioning.Option d) = Few d
+Declared (Dimensioning.Equals d c i) = Few d
+Declared (Dimensioning.Value d c i) = Few d
 
 positive-few : (text : List ℕ) → positive text ≤ largest
 unfolding positive pick
@@ -31,10 +34,14 @@ positive-few text = go (unsigned text) (leb (unsigned text) largest) refl
     go n true e = leb-true n largest e
     go n false e = omega arith
 
+number-few : (w : Numbered) → number w ≤ largest
+unfolding number
+number-few w = positive-few (w .token .text)
+
 count-few : (c : Count) (n : ℕ) (d : Dimensions) → n ≤ largest → Few d → Few (with·count c n d)
-unfolding with·count
-count-few ntax n d h f = record { taxa = h; characters = f .characters }
-count-few nchar n d h f = record { taxa = f .taxa; characters = h }
+unfolding with·count dimensions·of
+count-few Count.Taxa n d h f = record { taxa = h; characters = f .characters }
+count-few Count.Characters n d h f = record { taxa = f .taxa; characters = h }
 
 module _ (d : Dimensions) (w : Numbered) (t : Dimensioning) (f : Few d) where
   done-few : (s : Dimensioning) → Declared s → done s ≡ done t → Declared t
@@ -42,37 +49,37 @@ module _ (d : Dimensions) (w : Numbered) (t : Dimensioning) (f : Few d) where
 
   once-few : (c : Count) (n : ℕ) → count·option d w c n ≡ done t → Declared t
   unfolding count·option
-  once-few c zero e = done-few (equals d c (w .index)) f e
+  once-few c zero e = done-few (Dimensioning.Equals d c (w .index)) f e
   once-few c (suc n) e = refused-done Refusal.Dimension (w .index) t e
 
   option-few : dimension·option d w ≡ done t → Declared t
-  unfolding dimension·option
+  unfolding dimension·option dimensions·of
   option-few e =
-      pick-either (is (bytes "NEWTAXA") w && not (d .new·taxa)) _ _ t (done-few (option (record { taxa = d .taxa; characters = d .characters; new·taxa = true })) (record { taxa = f .taxa; characters = f .characters }))
-      (pick-either (is (bytes "NTAX") w) _ _ t (once-few ntax (d .taxa))
-      (pick-either (is (bytes "NCHAR") w) _ _ t (once-few nchar (d .characters))
+      pick-either (is (bytes "NEWTAXA") w && not (d .«new_taxa»)) _ _ t (done-few (Dimensioning.Option (dimensions·of (d .taxa) (d .characters) true)) (record { taxa = f .taxa; characters = f .characters }))
+      (pick-either (is (bytes "NTAX") w) _ _ t (once-few Count.Taxa (d .taxa))
+      (pick-either (is (bytes "NCHAR") w) _ _ t (once-few Count.Characters (d .characters))
       (refused-done Refusal.Dimension (w .index) t))) e
 
   value-few : (c : Count) (n : ℕ) → n ≤ largest → dimension·value d c w n ≡ done t → Declared t
   unfolding dimension·value
   value-few c zero h e = refused-done Refusal.Dimension (w .index) t e
-  value-few c (suc n) h e = done-few (option (with·count c (suc n) d)) (count-few c (suc n) d h f) e
+  value-few c (suc n) h e = done-few (Dimensioning.Option (with·count c (suc n) d)) (count-few c (suc n) d h f) e
 
 turn-few : (s : Dimensioning) (w : Numbered) (t : Dimensioning) → Declared s → Any w → dimension·turn s w ≡ done t → Declared t
 unfolding dimension·turn
-turn-few (option d) w t f q e = option-few d w t f e
-turn-few (equals d c i) w t f q e = rw (← done-inj (pick-when (punct (byte "=") w) Refusal.NoValue i _ t e .1)) f
-turn-few (value d c i) w t f q e = value-few d w t f c (positive (w .token .text)) (positive-few (w .token .text)) e
+turn-few (Dimensioning.Option d) w t f q e = option-few d w t f e
+turn-few (Dimensioning.Equals d c i) w t f q e = rw (← done-inj (pick-when (punct (byte "=") w) Refusal.NoValue i _ t e .1)) f
+turn-few (Dimensioning.Value d c i) w t f q e = value-few d w t f c (number w) (number-few w) e
 
 end-few : (s : Dimensioning) (d : Dimensions) → Declared s → dimension·end s ≡ done d → Few d
 unfolding dimension·end
-end-few (option x) d f e = rw (← done-inj e) f
-end-few (equals x c i) d f e = refused-done Refusal.NoValue i d e
-end-few (value x c i) d f e = refused-done Refusal.NoValue i d e
+end-few (Dimensioning.Option x) d f e = rw (← done-inj e) f
+end-few (Dimensioning.Equals x c i) d f e = refused-done Refusal.NoValue i d e
+end-few (Dimensioning.Value x c i) d f e = refused-done Refusal.NoValue i d e
 
 pub dimensions-few : (ws : List Numbered) (d : Dimensions) → dimensions ws ≡ done d → Few d
-unfolding dimensions no·dimensions
+unfolding dimensions no·dimensions dimensions·of
 dimensions-few ws d h =
-    let s = then-done (fold dimension·turn (option no·dimensions) ws) dimension·end d h in
+    let s = then-done (fold dimension·turn (Dimensioning.Option no·dimensions) ws) dimension·end d h in
     let none : Few no·dimensions = record { taxa = omega arith; characters = omega arith } in
-    end-few (s .0) d (fold-keeps Declared Any dimension·turn turn-few (option no·dimensions) ws (s .0) none (all-any ws) (s .1)) (s .2)
+    end-few (s .0) d (fold-keeps Declared Any dimension·turn turn-few (Dimensioning.Option no·dimensions) ws (s .0) none (all-any ws) (s .1)) (s .2)

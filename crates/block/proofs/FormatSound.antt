@@ -3,11 +3,13 @@ use Prim.Native.Nat.{ℕ, _≤_}
 use Rattle.block.proofs.OutcomeLaws.{then-done, pick-else, pick-when, pick-either, refused-done, done-inj, Any, all-any, fold-keeps}
 use Rattle.block.proofs.Pigeonhole.{pigeonhole}
 use Rattle.block.specs.Dna.{acgt}
-use Rattle.block.specs.Format.{Format, Options, Formatting, option, perhaps, equals, value, Key, datatype-key, symbols-key, missing-key, gap-key, interleave-key, equal, valid·symbol, valid·symbols, options, no·options, with·type, with·symbols, with·missing, with·gap, with·interleave, with·case, with·labels, with·no·tokens, once, format·option, unspaced, single·symbol, symbol·value, format·value, format·turn, format·end, settled, format·of, dna·options, all·valid, clashes, all·differ, signs, good·symbols, judged, format, default·format}
+use Rattle.block.specs.Format.{Format, Options, Formatting, option, perhaps, equals, value, equal, valid·symbol, valid·symbols, options, no·options, with·type, with·symbols, with·missing, with·gap, with·interleave, with·case, with·labels, with·no·tokens, once, key, key·option, format·option, unspaced, single·symbol, symbol·value, format·value, format·turn, format·end, settled, format·of, dna·options, all·valid, clashes, all·differ, signs, good·symbols, judged, format, default·format}
 use Rattle.block.specs.Outcome.{done, then, fold}
 use Rattle.block.specs.Run.{run·text}
 use Rattle.block.specs.Sound.{distinct, most·symbols, sound·symbols}
 use Rattle.block.specs.declared.data.DataType.{DataType}
+use Rattle.block.specs.declared.formats.Key.{Key}
+use Rattle.block.specs.declared.formats.Valued.{Valued}
 use Rattle.lexer.proofs.Basics.{and-left, and-right, and-both, or-left, or-right, or-both, by-test, same-refl, all-under, under-at, picked, picked-value}
 use Rattle.lexer.specs.Base.{among, lower, given, bytes}
 use Rattle.lexer.specs.Words.{Numbered, is, punct, string?}
@@ -46,18 +48,21 @@ once-signed seen w next t p h = rw (← once-done seen w next t h) p
 done-signed : (s t : Formatting) → SignedAt s → done s ≡ done t → SignedAt t
 done-signed s t p h = rw (← done-inj h) p
 
+key-signed : (o : Options) (w : Numbered) (k : Key) (t : Formatting) → Signed o → key·option o w k ≡ done t → SignedAt t
+unfolding key·option with·case with·labels with·no·tokens with·interleave options
+key-signed o w Key.DataType t p h = once-signed _ w (equals o Valued.DataType (w .index)) t p h
+key-signed o w Key.RespectCase t p h = once-signed _ w (option (with·case o)) t (record { missing = p .missing; gap = p .gap }) h
+key-signed o w Key.Labels t p h = once-signed _ w (option (with·labels o)) t (record { missing = p .missing; gap = p .gap }) h
+key-signed o w Key.NoTokens t p h = once-signed _ w (option (with·no·tokens o)) t (record { missing = p .missing; gap = p .gap }) h
+key-signed o w Key.Interleave t p h = once-signed _ w (perhaps (with·interleave true o) (w .index)) t (record { missing = p .missing; gap = p .gap }) h
+key-signed o w Key.Symbols t p h = once-signed _ w (equals o Valued.Symbols (w .index)) t p h
+key-signed o w Key.Missing t p h = once-signed _ w (equals o Valued.Missing (w .index)) t p h
+key-signed o w Key.Gap t p h = once-signed _ w (equals o Valued.Gap (w .index)) t p h
+key-signed o w Key.Unknown t p h = refused-done Refusal.FormatOption (w .index) t h
+
 option-signed : (o : Options) (w : Numbered) (t : Formatting) → Signed o → format·option o w ≡ done t → SignedAt t
-unfolding format·option with·case with·labels with·no·tokens with·interleave options
-option-signed o w t p h =
-    pick-either (is (bytes "DATATYPE") w) _ _ t (once-signed _ w (equals o datatype-key (w .index)) t p)
-    (pick-either (is (bytes "RESPECTCASE") w) _ _ t (once-signed _ w (option (with·case o)) t (record { missing = p .missing; gap = p .gap }))
-    (pick-either (is (bytes "LABELS") w) _ _ t (once-signed _ w (option (with·labels o)) t (record { missing = p .missing; gap = p .gap }))
-    (pick-either (is (bytes "NOTOKENS") w) _ _ t (once-signed _ w (option (with·no·tokens o)) t (record { missing = p .missing; gap = p .gap }))
-    (pick-either (is (bytes "INTERLEAVE") w) _ _ t (once-signed _ w (perhaps (with·interleave true o) (w .index)) t (record { missing = p .missing; gap = p .gap }))
-    (pick-either (is (bytes "SYMBOLS") w) _ _ t (once-signed _ w (equals o symbols-key (w .index)) t p)
-    (pick-either (is (bytes "MISSING") w) _ _ t (once-signed _ w (equals o missing-key (w .index)) t p)
-    (pick-either (is (bytes "GAP") w) _ _ t (once-signed _ w (equals o gap-key (w .index)) t p)
-    (refused-done Refusal.FormatOption (w .index) t)))))))) h
+unfolding format·option
+option-signed o w t p h = key-signed o w (key w) t p h
 
 single-valid : (text : List ℕ) (b : ℕ) → single·symbol text ≡ some b → valid·symbol b ≡ true
 unfolding single·symbol
@@ -70,20 +75,20 @@ unfolding symbol·value
 sign-signed none f i t p h = refused-done Refusal.FormatOption i t h
 sign-signed (some b) f i t p h = rw (← done-inj h) (p b refl)
 
-value-signed : (o : Options) (k : Key) (i : ℕ) (w : Numbered) (t : Formatting) → Signed o → format·value o k i w ≡ done t → SignedAt t
+value-signed : (o : Options) (k : Valued) (i : ℕ) (w : Numbered) (t : Formatting) → Signed o → format·value o k i w ≡ done t → SignedAt t
 unfolding format·value with·type with·symbols with·missing with·gap with·interleave options
-value-signed o datatype-key i w t p h =
+value-signed o Valued.DataType i w t p h =
     pick-either (is (bytes "STANDARD") w) _ _ t (done-signed (option (with·type DataType.Standard o)) t (record { missing = p .missing; gap = p .gap }))
     (pick-either (is (bytes "DNA") w) _ _ t (done-signed (option (with·type DataType.Dna o)) t (record { missing = p .missing; gap = p .gap }))
     (refused-done Refusal.FormatOption i t)) h
-value-signed o symbols-key i w t p h =
+value-signed o Valued.Symbols i w t p h =
     let q = pick-when (string? (w .token .kind)) Refusal.FormatOption (w .index) (done (option (with·symbols (unspaced (w .token .text)) o))) t h in
     rw (← done-inj (q .1)) (record { missing = p .missing; gap = p .gap })
-value-signed o missing-key i w t p h =
+value-signed o Valued.Missing i w t p h =
     sign-signed (single·symbol (w .token .text)) (λ b. with·missing b o) (w .index) t (λ b e. record { missing = single-valid (w .token .text) b e; gap = p .gap }) h
-value-signed o gap-key i w t p h =
+value-signed o Valued.Gap i w t p h =
     sign-signed (single·symbol (w .token .text)) (λ b. with·gap b o) (w .index) t (λ b e. record { missing = p .missing; gap = single-valid (w .token .text) b e }) h
-value-signed o interleave-key i w t p h =
+value-signed o Valued.Interleave i w t p h =
     pick-either (is (bytes "YES") w) _ _ t (done-signed (option (with·interleave true o)) t (record { missing = p .missing; gap = p .gap }))
     (pick-either (is (bytes "NO") w) _ _ t (done-signed (option (with·interleave false o)) t (record { missing = p .missing; gap = p .gap }))
     (refused-done Refusal.FormatOption (w .index) t)) h
@@ -91,7 +96,7 @@ value-signed o interleave-key i w t p h =
 turn-signed : (s : Formatting) (w : Numbered) (t : Formatting) → SignedAt s → Any w → format·turn s w ≡ done t → SignedAt t
 unfolding format·turn
 turn-signed (option o) w t p q h = option-signed o w t p h
-turn-signed (perhaps o i) w t p q h = pick-either (punct 61 w) _ _ t (done-signed (value o interleave-key i) t p) (option-signed o w t p) h
+turn-signed (perhaps o i) w t p q h = pick-either (punct 61 w) _ _ t (done-signed (value o Valued.Interleave i) t p) (option-signed o w t p) h
 turn-signed (equals o k i) w t p q h = rw (← done-inj (pick-when (punct 61 w) Refusal.NoValue i (done (value o k i)) t h .1)) p
 turn-signed (value o k i) w t p q h = value-signed o k i w t p h
 

@@ -2,31 +2,33 @@
 use Prim.Native.Nat.{ℕ, suc, _-_, _≤_}
 use Rattle.block.proofs.NamesSound.{Names, need-named}
 use Rattle.block.proofs.OutcomeLaws.{then-done, pick-else, pick-when, pick-either, refused-done, done-inj, All, all-one, all-set, all-at, all-replicate, Opt, fold-keeps}
-use Rattle.block.specs.Labels.{Labelled, unlabelled, Labelling, charlabels, statelabels, charstatelabels, LabelCommand, label·each, char·labels, Entry, first, next, numbered, labelled, states, Entries, at, character, with·label, with·states, begin·states, entry·number, entry·begins, entry·label, entry·states, state·label, entry·turn, entry·end, label·entries, label·command, apply·labels}
+use Rattle.block.specs.Labels.{Labelled, unlabelled, LabelCommand, label·each, char·labels, Entry, first, next, numbered, labelled, states, Entries, at, character, with·label, with·states, begin·states, entry·number, entry·begins, entry·label, entry·states, state·label, entry·turn, entry·end, label·entries, label·command, apply·labels}
 use Rattle.block.specs.Outcome.{Outcome, done, then, fold, need}
-use Rattle.lexer.specs.Base.{empty?, given}
-use Rattle.lexer.specs.Words.{Numbered, punct, label, positive}
+use Rattle.block.specs.declared.labels.Labelling.{Labelling}
+use Rattle.lexer.specs.Base.{given}
+use Rattle.lexer.specs.Words.{Numbered, punct, label, number}
 use Rattle.lexer.specs.declared.refusal.Refusal.{Refusal}
 use borrow.Author.Tests.{ltb-false}
 use lib.Dec.{eqb, ltb, leb}
 use lib.ListN.{length, getD, replicate, length-set, length-replicate}
-use mathlib.Core.Bool.{false, _&&_, false≢true}
+use mathlib.Core.Bool.{_&&_}
 use mathlib.Core.List.{List, [], _∷_, _++_}
-use mathlib.Core.Path.{_≡_, refl, sym, ap, _∙_}
+use mathlib.Core.Option.{some}
+use mathlib.Core.Path.{_≡_, refl, ap, _∙_}
 
 -- State labels, of each of which something holds, and at most so many.
 pub record States (N : List ℕ → Type 0) (count : ℕ) (s : List (List ℕ)) : Type 0 where
   pub each : All N s
   pub few : length s ≤ count
 
--- What is labelled of a character: something holds of its label, unless that is empty, and of its state labels.
+-- What is labelled of a character: something holds of its label and of its state labels, if there are any.
 pub record Labels (N : List ℕ → Type 0) (count : ℕ) (c : Labelled) : Type 0 where
-  pub label : empty? (c .label) ≡ false → N (c .label)
+  pub label : Opt N (c .label)
   pub states : Opt (States N count) (c .states)
 
 none-labels : (N : List ℕ → Type 0) (count : ℕ) → Labels N count unlabelled
-unfolding unlabelled empty?
-none-labels N count = record { label = λ e. absurd (false≢true (sym e)); states = tt }
+unfolding unlabelled
+none-labels N count = record { label = tt; states = tt }
 
 -- So many characters, each labelled so.
 pub record Labelling·of (N : List ℕ → Type 0) (count size : ℕ) (cs : List Labelled) : Type 0 where
@@ -39,8 +41,8 @@ Of·words Q c = All Q (c .words)
 
 -- What holds of the names of the words holds of the labels.
 module _ (N : List ℕ → Type 0) (Q : Numbered → Type 0) (name : Names Q N) (count size : ℕ) where
-  label-one : (c : Labelled) (n : List ℕ) → Labels N count c → N n → Labels N count (record { label = n; states = c .states })
-  label-one c n p s = record { label = λ e. s; states = p .states }
+  label-one : (c : Labelled) (n : List ℕ) → Labels N count c → N n → Labels N count (record { label = some n; states = c .states })
+  label-one c n p s = record { label = s; states = p .states }
 
   each-labels : (cs : List Labelled) (ws : List Numbered) (ds : List Labelled) → All (Labels N count) cs → All Q ws → label·each cs ws ≡ done ds
       → All (Labels N count) ds × (length ds ≡ length cs)
@@ -48,7 +50,7 @@ module _ (N : List ℕ → Type 0) (Q : Numbered → Type 0) (name : Names Q N) 
   each-labels [] ws ds p c h = rw (← done-inj h) (tt, refl)
   each-labels (x ∷ cs) [] ds p c h = rw (← done-inj h) (p, refl)
   each-labels (x ∷ cs) (w ∷ ws) ds p c h =
-      let e = pick-when (empty? (x .label)) Refusal.LabelEntry (w .index) _ ds h in
+      let e = pick-else (given (x .label)) Refusal.LabelEntry (w .index) _ ds h in
       let n = then-done (need (label w) Refusal.NotName (w .index)) _ ds (e .1) in
       let m = then-done (label·each cs ws) _ ds (n .2) in
       let k = each-labels cs ws (m .0) (p .1) (c .1) (m .1) in
@@ -101,21 +103,21 @@ module _ (N : List ℕ → Type 0) (Q : Numbered → Type 0) (name : Names Q N) 
 
   number-entered : (l : Labelling) (cs : List Labelled) (w : Numbered) (k : ℕ) (t : Entries) → Labelling·of N count size cs → entry·number l cs w k ≡ done t → Entered t
   unfolding entry·number
-  number-entered charlabels cs w k t p h = entered cs (numbered k (w .index)) t p tt h
-  number-entered charstatelabels cs w k t p h = entered cs (numbered k (w .index)) t p tt h
-  number-entered statelabels cs w k t p h = begin-entered cs k (w .index) t p h
+  number-entered Labelling.CharLabels cs w k t p h = entered cs (numbered k (w .index)) t p tt h
+  number-entered Labelling.CharStateLabels cs w k t p h = entered cs (numbered k (w .index)) t p tt h
+  number-entered Labelling.StateLabels cs w k t p h = begin-entered cs k (w .index) t p h
 
   begins-entered : (c : LabelCommand) (cs : List Labelled) (w : Numbered) (t : Entries) → Labelling·of N count size cs → entry·begins c cs w ≡ done t → Entered t
   unfolding entry·begins
   begins-entered c cs w t p h =
-      let k = positive (w .token .text) in
+      let k = number w in
       let a = pick-else (punct 44 w) Refusal.LabelEntry (c .head) _ t h in
       number-entered (c .what) cs w k t p (pick-when (leb 1 k && leb k (length cs)) Refusal.LabelEntry (w .index) (entry·number (c .what) cs w k) t (a .1) .1)
 
   label-entered : (cs : List Labelled) (k i : ℕ) (w : Numbered) (t : Entries) → Labelling·of N count size cs → Q w → entry·label cs k i w ≡ done t → Entered t
   unfolding entry·label
   label-entered cs k i w t p c h =
-      let e = pick-when (empty? (character k cs .label)) Refusal.LabelEntry i _ t h in
+      let e = pick-else (given (character k cs .label)) Refusal.LabelEntry i _ t h in
       let n = then-done (need (label w) Refusal.NotName (w .index)) _ t (e .1) in
       entered (with·label k (n .0) cs) (labelled k i) t (with-label-labelled k (n .0) cs p (need-named N Q name w (w .index) (n .0) c (n .1))) tt (n .2)
 
@@ -170,9 +172,9 @@ module _ (N : List ℕ → Type 0) (Q : Numbered → Type 0) (name : Names Q N) 
   command-labelled : (l : Labelling) (c : LabelCommand) (cs ds : List Labelled) → Labelling·of N count size cs → All Q (c .words)
       → label·command count l c cs ≡ done ds → Labelling·of N count size ds
   unfolding label·command
-  command-labelled charlabels c cs ds p q h = char-labelled (c .head) (c .words) cs ds p q h
-  command-labelled statelabels c cs ds p q h = entries-labelled c cs ds p q h
-  command-labelled charstatelabels c cs ds p q h = entries-labelled c cs ds p q h
+  command-labelled Labelling.CharLabels c cs ds p q h = char-labelled (c .head) (c .words) cs ds p q h
+  command-labelled Labelling.StateLabels c cs ds p q h = entries-labelled c cs ds p q h
+  command-labelled Labelling.CharStateLabels c cs ds p q h = entries-labelled c cs ds p q h
 
   pub labels-labelled : (commands : List LabelCommand) (cs : List Labelled) → All (Of·words Q) commands → apply·labels count size commands ≡ done cs → Labelling·of N count size cs
   unfolding apply·labels

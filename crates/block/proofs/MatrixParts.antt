@@ -3,13 +3,13 @@ use Prim.Native.Nat.{ℕ}
 use Rattle.block.proofs.ChunkSound.{none-some, some-inj, pick-some}
 use Rattle.block.proofs.OutcomeLaws.{then-done, need-done, pick-else, done-inj, All}
 use Rattle.block.specs.Blocks.{Data, declared·count, agrees, row·of, arranged, in·order, unordered, rows, matrix·reading, matrix·shape, matrix}
-use Rattle.block.specs.Dimensions.{Dimensions}
 use Rattle.block.specs.Format.{default·format}
 use Rattle.block.specs.Labels.{Labelled, apply·labels}
 use Rattle.block.specs.Outcome.{done, need}
 use Rattle.block.specs.Reading.{Taxon, Reading}
 use Rattle.block.specs.Sequential.{Shape, names}
 use Rattle.block.specs.TaxonOrder.{all·rows, Follows}
+use Rattle.block.specs.declared.dimension.Dimensions.{Dimensions}
 use Rattle.lexer.proofs.Basics.{or-left, or-right}
 use Rattle.lexer.specs.Base.{alike}
 use Rattle.lexer.specs.Words.{Numbered}
@@ -79,7 +79,7 @@ matrix-shaped d dims head sh e =
     let n = declared·count (d .taxa) (dims .taxa) in
     let counts = pick-else (eqb (dims .characters) 0 || eqb n 0) Refusal.Absent head _ sh e in
     let same = pick-else (not (agrees (d .taxa) n)) Refusal.Count head _ sh (counts .1) in
-    let new = pick-else (dims .new·taxa && eqb (dims .taxa) 0) Refusal.Absent head _ sh (same .1) in
+    let new = pick-else (dims .«new_taxa» && eqb (dims .taxa) 0) Refusal.Absent head _ sh (same .1) in
     rw (← done-inj (new .1))
     (record {
       counted = refl;

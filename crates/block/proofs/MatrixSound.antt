@@ -30,7 +30,7 @@ use borrow.Author.Tests.{eqb-true, eqb-false, eq-eqb, leb-true, le-leb}
 use lib.Dec.{leb, eqb}
 use lib.ListN.{length}
 use mathlib.Core.Bool.{true, false, false≢true}
-use mathlib.Core.List.{List, [], _∷_}
+use mathlib.Core.List.{List, [], _∷_, _++_}
 use mathlib.Core.Option.{Option, none, some, Option·getD}
 use mathlib.Core.Path.{_≡_, refl, sym, ap, _∙_}
 use native.Mathlib.Omega.{arith}
@@ -109,13 +109,19 @@ module _ (N : List ℕ → Type 0) (count : ℕ) where
   default-states none g = record { each = tt; few = omega arith }
   default-states (some s) g = g
 
+  default-label : (l : Option (List ℕ)) (more : List (List ℕ)) → Opt N l → All N more → All N (pick (empty? (Option·getD l [])) more (Option·getD l [] ∷ more))
+  unfolding pick empty?
+  default-label none more p q = q
+  default-label (some []) more p q = q
+  default-label (some (b ∷ l)) more p q = (p, q)
+
   unordered-labels : (cs : List Labelled) → All (Labels N count) cs → All N (label·texts (unordered cs))
   unfolding unordered label·texts pick
   unordered-labels [] p = tt
   unordered-labels (c ∷ r) p =
       let s = Option·getD (c .states) [] in
       let more = all-append N s (label·texts (unordered r)) (default-states (c .states) (p .0 .states) .each) (unordered-labels r (p .1)) in
-      by-test (empty? (c .label)) (λ e. rw e more) (λ e. rw e (p .0 .label e, more))
+      default-label (c .label) (s ++ label·texts (unordered r)) (p .0 .label) more
 
   unordered-few : (cs : List Labelled) → All (Labels N count) cs → few·states count (unordered cs) ≡ true
   unfolding unordered few·states

@@ -44,7 +44,7 @@ unfolding finish·in
 finish-final header s outside r e = matrix-final header s (s .matrix) r refl e
 finish-final header s (in·taxa b count names) r e = refused-done Refusal.UnendedBlock b r e
 finish-final header s (in·data b d) r e = refused-done Refusal.UnendedBlock b r e
-finish-final header s (in·assumptions b m default set) r e = refused-done Refusal.UnendedBlock b r e
+finish-final header s (in·assumptions b default set) r e = refused-done Refusal.UnendedBlock b r e
 finish-final header s (in·trees b) r e = refused-done Refusal.UnendedBlock b r e
 
 behind-leads : (header : ℕ) (ws : List Numbered) (r : Reading) → parse·behind header ws ≡ done r → Leads ws r

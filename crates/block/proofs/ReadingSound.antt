@@ -55,7 +55,7 @@ module _ (o : CharacterOrdering) where
   retyped-few count [] (c ∷ cs) = ap (λ b. leb (length (c .states)) count && b) (retyped-few count [] cs)
   retyped-few count (t ∷ ts) (c ∷ cs) = ap (λ b. leb (length (c .states)) count && b) (retyped-few count ts cs)
 
-types-untyped : (N : List ℕ → Type 0) (r : Reading) (default : Option CharacterOrdering) (set : Option Types) → Untyped N r → Untyped N (with·types r default set)
+types-untyped : (N : List ℕ → Type 0) (r : Reading) (default : Option CharacterOrdering) (set : Option Types) → Untyped N r → Untyped N (with·types default set r)
 unfolding with·types
 types-untyped N r default set u =
     let o = Option·getD default CharacterOrdering.Unordered in

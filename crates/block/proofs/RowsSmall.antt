@@ -4,12 +4,13 @@ use Rattle.block.proofs.ChunkSound.{none-some, some-inj}
 use Rattle.block.proofs.OutcomeLaws.{then-done, need-done, pick-else, pick-when, pick-either, refused-done, done-inj}
 use Rattle.block.proofs.Weights.{total, total-append, done-light, fold-grows, weight, weights}
 use Rattle.block.specs.Cell.{Cell, state, uncertain, polymorphic, missing, gap, insert, insert·all}
-use Rattle.block.specs.Chunk.{cell, before, cells·of, symbols, with·state, only·states, Bracket, brace, parenthesis, closer, Row, plain, within, closed, into·set, chunk, row·end}
+use Rattle.block.specs.Chunk.{cell, before, cells·of, symbols, with·state, only·states, closer, Row, plain, within, closed, into·set, chunk, row·end}
 use Rattle.block.specs.Format.{Format}
 use Rattle.block.specs.Names.{known}
 use Rattle.block.specs.Outcome.{done, then, fold, need}
 use Rattle.block.specs.Reading.{Taxon}
 use Rattle.block.specs.Sequential.{Shape, names, Sequence, between, inside, row·begins, row·grown, sequential·turn, row·open, sequential·end, sequential}
+use Rattle.block.specs.declared.matrix.Bracket.{Bracket}
 use Rattle.lexer.proofs.Basics.{and-right, by-test, picked}
 use Rattle.lexer.specs.Base.{pick}
 use Rattle.lexer.specs.Classes.{blank}
@@ -98,8 +99,8 @@ module _ (f : Format) where
   pub chunk-grows : (s : Row) (w : Numbered) (row : Row) → chunk f s w ≡ done row → row-load row ≤ row-load s + weight w
   unfolding chunk
   chunk-grows (plain cells) w row h =
-      pick-either (punct 123 w) _ _ row (done-light row-load (within cells brace (w .index) []) row (length cells + weight w) (omega arith))
-      (pick-either (punct 40 w) _ _ row (done-light row-load (within cells parenthesis (w .index) []) row (length cells + weight w) (omega arith)) more) h
+      pick-either (punct 123 w) _ _ row (done-light row-load (within cells Bracket.Brace (w .index) []) row (length cells + weight w) (omega arith))
+      (pick-either (punct 40 w) _ _ row (done-light row-load (within cells Bracket.Parenthesis (w .index) []) row (length cells + weight w) (omega arith)) more) h
     where
       more : then (symbols f w) (λ new. done (plain (cells ++ new))) ≡ done row → row-load row ≤ length cells + weight w
       more e =

@@ -9,16 +9,18 @@ use Rattle.lexer.specs.Base.{pick, bytes, alike, empty?, given, byte}
 use Rattle.lexer.specs.Words.{Numbered, is, punct, largest}
 use Rattle.lexer.specs.declared.refusal.Refusal.{Refusal}
 use Rattle.block.specs.Commands.{Command, command, empty, unended, words}
-use Rattle.block.specs.Dimensions.{Dimensions, dimensions}
+use Rattle.block.specs.Dimensions.{dimensions}
 use Rattle.block.specs.Format.{Format, format, default·format}
 use Rattle.block.specs.Interleaved.{interleaved}
-use Rattle.block.specs.Labels.{Labelled, Labelling, charlabels, statelabels, charstatelabels, LabelCommand, apply·labels}
+use Rattle.block.specs.Labels.{Labelled, LabelCommand, apply·labels}
 use Rattle.block.specs.Names.{unique·names}
 use Rattle.block.specs.Outcome.{Outcome, done, refused, then, need}
 use Rattle.block.specs.Reading.{Taxon, Character, Reading}
 use Rattle.block.specs.Sequential.{Shape, sequential}
 use Rattle.block.specs.Typeset.{Types, ordering, typeset}
 use Rattle.block.specs.declared.data.DataType.{DataType}
+use Rattle.block.specs.declared.dimension.Dimensions.{Dimensions}
+use Rattle.block.specs.declared.labels.Labelling.{Labelling}
 use Rattle.block.specs.declared.model.CharacterOrdering.{CharacterOrdering}
 
 -- A data block so far: what was declared in it, the taxa declared in it or before, its label commands, and the matrix.
@@ -30,12 +32,12 @@ pub record Data : Type 0 where
   pub matrix : Option Reading
 
 -- Which block is open, with the index of its name: none; TAXA, with its NTAX (0 if not given) and its names; DATA or CHARACTERS; ASSUMPTIONS,
--- with the default type and the set's types; TREES.
+-- with the default type and the set's types for the characters of the matrix; TREES.
 pub data Phase : Type 0 where
   outside : Phase
   in·taxa : ℕ → ℕ → Option (List (List ℕ)) → Phase
   in·data : ℕ → Data → Phase
-  in·assumptions : ℕ → Reading → Option CharacterOrdering → Option Types → Phase
+  in·assumptions : ℕ → Option CharacterOrdering → Option Types → Phase
   in·trees : ℕ → Phase
 
 -- The state after a command: the open block, the taxa of the TAXA block, the matrix, and whether ASSUMPTIONS was read.
@@ -55,7 +57,7 @@ in·phase p s = record { phase = p; taxa = s .taxa; matrix = s .matrix; assumpti
 unfoldable pub begin·assumptions : State → ℕ → Bool → Option Reading → Outcome State
 begin·assumptions s b true matrix = refused Refusal.Block b
 begin·assumptions s b false none = refused Refusal.Block b
-begin·assumptions s b false (some r) = done (in·phase (in·assumptions b r none none) s)
+begin·assumptions s b false (some r) = done (in·phase (in·assumptions b none none) s)
 
 unfoldable pub no·data : Option (List (List ℕ)) → Data
 no·data taxa = record { dimensions = none; format = none; taxa = taxa; labels = []; matrix = none }
@@ -81,7 +83,7 @@ begin·words s h (b ∷ c ∷ r) = refused Refusal.NotBegin (h .index)
 -- TAXA: DIMENSIONS with NTAX alone, then TAXLABELS.
 unfoldable pub taxa·count : Numbered → ℕ → Dimensions → Outcome Phase
 taxa·count h b d =
-    pick (not (eqb (d .characters) 0) || d .new·taxa) (refused Refusal.Dimension (h .index))
+    pick (not (eqb (d .characters) 0) || d .«new_taxa») (refused Refusal.Dimension (h .index))
     (pick (eqb (d .taxa) 0) (refused Refusal.Absent (h .index))
     (done (in·taxa b (d .taxa) none)))
 
@@ -125,7 +127,7 @@ in·order head (some names) rows = arranged head rows names
 unfoldable pub unordered : List Labelled → List Character
 unordered [] = []
 unordered (c ∷ r) =
-    record { label = c .label; states = Option·getD (c .states) []; ordering = CharacterOrdering.Unordered } ∷ unordered r
+    record { label = Option·getD (c .label) []; states = Option·getD (c .states) []; ordering = CharacterOrdering.Unordered } ∷ unordered r
 
 unfoldable pub rows : Shape → List Numbered → Outcome (List Taxon)
 rows sh raw =
@@ -148,7 +150,7 @@ matrix·shape d dims head =
     let shape : Shape = record { taxa = n; characters = dims .characters; format = Option·getD (d .format) default·format; head = head } in
     pick (eqb (dims .characters) 0 || eqb n 0) (refused Refusal.Absent head)
     (pick (not (agrees (d .taxa) n)) (refused Refusal.Count head)
-    (pick (dims .new·taxa && eqb (dims .taxa) 0) (refused Refusal.Absent head)
+    (pick (dims .«new_taxa» && eqb (dims .taxa) 0) (refused Refusal.Absent head)
     (done shape)))
 
 unfoldable pub matrix : Data → Numbered → List Numbered → Outcome Reading
@@ -160,21 +162,21 @@ matrix d h raw =
 -- DATA or CHARACTERS: each command once; MATRIX is the last.
 unfoldable pub labelling : Numbered → Option Labelling
 labelling h =
-    pick (is (bytes "CHARLABELS") h) (some charlabels)
-    (pick (is (bytes "STATELABELS") h) (some statelabels)
-    (pick (is (bytes "CHARSTATELABELS") h) (some charstatelabels)
+    pick (is (bytes "CHARLABELS") h) (some Labelling.CharLabels)
+    (pick (is (bytes "STATELABELS") h) (some Labelling.StateLabels)
+    (pick (is (bytes "CHARSTATELABELS") h) (some Labelling.CharStateLabels)
     none))
 
 unfoldable pub same·labelling : Labelling → Labelling → Bool
-same·labelling charlabels charlabels = true
-same·labelling charlabels statelabels = false
-same·labelling charlabels charstatelabels = false
-same·labelling statelabels charlabels = false
-same·labelling statelabels statelabels = true
-same·labelling statelabels charstatelabels = false
-same·labelling charstatelabels charlabels = false
-same·labelling charstatelabels statelabels = false
-same·labelling charstatelabels charstatelabels = true
+same·labelling Labelling.CharLabels Labelling.CharLabels = true
+same·labelling Labelling.CharLabels Labelling.StateLabels = false
+same·labelling Labelling.CharLabels Labelling.CharStateLabels = false
+same·labelling Labelling.StateLabels Labelling.CharLabels = false
+same·labelling Labelling.StateLabels Labelling.StateLabels = true
+same·labelling Labelling.StateLabels Labelling.CharStateLabels = false
+same·labelling Labelling.CharStateLabels Labelling.CharLabels = false
+same·labelling Labelling.CharStateLabels Labelling.StateLabels = false
+same·labelling Labelling.CharStateLabels Labelling.CharStateLabels = true
 
 unfoldable pub labelled·by : Labelling → List LabelCommand → Bool
 labelled·by l [] = false
@@ -228,10 +230,14 @@ options h (a ∷ b ∷ c ∷ []) =
     pick (is (bytes "DEFTYPE") a && punct (byte "=") b) type (refused Refusal.Command (h .index))
 options h (a ∷ b ∷ c ∷ e ∷ r) = refused Refusal.Command (h .index)
 
-unfoldable pub assumption·step : Numbered → List Numbered → ℕ → Reading → Option CharacterOrdering → Option Types → Outcome Phase
-assumption·step h ws b r default set =
-    let typed = then (options h ws) (λ o. done (in·assumptions b r (some o) set)) in
-    let given·set = then (typeset (record { characters = length (r .characters); head = h .index }) ws) (λ ts. done (in·assumptions b r default (some ts))) in
+unfoldable pub characters·in : Option Reading → ℕ
+characters·in none = 0
+characters·in (some r) = length (r .characters)
+
+unfoldable pub assumption·step : State → Numbered → List Numbered → ℕ → Option CharacterOrdering → Option Types → Outcome Phase
+assumption·step s h ws b default set =
+    let typed = then (options h ws) (λ o. done (in·assumptions b (some o) set)) in
+    let given·set = then (typeset (record { characters = characters·in (s .matrix); head = h .index }) ws) (λ ts. done (in·assumptions b default (some ts))) in
     pick (is (bytes "OPTIONS") h && not (given default)) typed
     (pick (is (bytes "TYPESET") h && not (given set)) given·set
     (refused Refusal.Command (h .index)))
@@ -242,14 +248,18 @@ retyped o ts [] = []
 retyped o [] (c ∷ cs) = record { label = c .label; states = c .states; ordering = o } ∷ retyped o [] cs
 retyped o (t ∷ ts) (c ∷ cs) = record { label = c .label; states = c .states; ordering = Option·getD t o } ∷ retyped o ts cs
 
-unfoldable pub with·types : Reading → Option CharacterOrdering → Option Types → Reading
-with·types r default set =
+unfoldable pub with·types : Option CharacterOrdering → Option Types → Reading → Reading
+with·types default set r =
     record {
       data·type = r .data·type;
       symbols = r .symbols;
       taxa = r .taxa;
       characters = retyped (Option·getD default CharacterOrdering.Unordered) (Option·getD set []) (r .characters);
     }
+
+unfoldable pub matrix·typed : Option CharacterOrdering → Option Types → Option Reading → Option Reading
+matrix·typed default set none = none
+matrix·typed default set (some r) = some (with·types default set r)
 
 unfoldable pub taxa·end : State → ℕ → ℕ → Option (List (List ℕ)) → Outcome State
 taxa·end s b count none = refused Refusal.Absent b
@@ -265,17 +275,17 @@ unfoldable pub end·block : State → Phase → Outcome State
 end·block s outside = done s
 end·block s (in·taxa b count names) = taxa·end s b count names
 end·block s (in·data b d) = data·end s b (d .matrix)
-end·block s (in·assumptions b r default set) =
-    done (record { phase = outside; taxa = s .taxa; matrix = some (with·types r default set); assumptions = true })
+end·block s (in·assumptions b default set) =
+    done (record { phase = outside; taxa = s .taxa; matrix = matrix·typed default set (s .matrix); assumptions = true })
 end·block s (in·trees b) = done (in·phase outside s)
 
 -- A command inside a block that does not end it. In TREES every command is passed over.
-unfoldable pub inner·step : Numbered → List Numbered → Phase → Outcome Phase
-inner·step h raw outside = done outside
-inner·step h raw (in·taxa b count names) = taxa·step h (words raw) b count names
-inner·step h raw (in·data b d) = data·step h raw b d
-inner·step h raw (in·assumptions b r default set) = assumption·step h (words raw) b r default set
-inner·step h raw (in·trees b) = done (in·trees b)
+unfoldable pub inner·step : State → Numbered → List Numbered → Phase → Outcome Phase
+inner·step s h raw outside = done outside
+inner·step s h raw (in·taxa b count names) = taxa·step h (words raw) b count names
+inner·step s h raw (in·data b d) = data·step h raw b d
+inner·step s h raw (in·assumptions b default set) = assumption·step s h (words raw) b default set
+inner·step s h raw (in·trees b) = done (in·trees b)
 
 -- END or ENDBLOCK, alone, ends a block, whatever block it is.
 unfoldable pub ends : Numbered → Bool
@@ -285,14 +295,14 @@ unfoldable pub block·step : State → Numbered → List Numbered → Outcome St
 block·step s h raw =
     let left = end·block s (s .phase) in
     let over = pick (empty? (words raw)) left (refused Refusal.WordsAfterEnd (h .index)) in
-    let inner = then (inner·step h raw (s .phase)) (λ p. done (in·phase p s)) in
+    let inner = then (inner·step s h raw (s .phase)) (λ p. done (in·phase p s)) in
     pick (ends h) over inner
 
 unfoldable pub outside? : Phase → Bool
 outside? outside = true
 outside? (in·taxa b count names) = false
 outside? (in·data b d) = false
-outside? (in·assumptions b r default set) = false
+outside? (in·assumptions b default set) = false
 outside? (in·trees b) = false
 
 -- The state after one command more.
@@ -329,7 +339,7 @@ unfoldable pub finish·in : ℕ → State → Phase → Outcome Reading
 finish·in header s outside = matrix·read header (s .matrix)
 finish·in header s (in·taxa b count names) = refused Refusal.UnendedBlock b
 finish·in header s (in·data b d) = refused Refusal.UnendedBlock b
-finish·in header s (in·assumptions b r default set) = refused Refusal.UnendedBlock b
+finish·in header s (in·assumptions b default set) = refused Refusal.UnendedBlock b
 finish·in header s (in·trees b) = refused Refusal.UnendedBlock b
 
 unfoldable pub finish : ℕ → State → Outcome Reading

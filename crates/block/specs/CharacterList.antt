@@ -4,75 +4,102 @@ use lib.Dec.{ltb, leb, eqb}
 use mathlib.Core.Bool.{Bool, true, false, _&&_, _||_}
 use mathlib.Core.List.{List, [], _∷_, _++_}
 use Rattle.lexer.specs.Base.{pick, bytes, same, byte}
-use Rattle.lexer.specs.Words.{Numbered, is, punct, positive, word?, quoted?, string?}
+use Rattle.lexer.specs.Words.{Numbered, is, punct, number, word?, quoted?, string?}
 use Rattle.lexer.specs.declared.refusal.Refusal.{Refusal}
-use Rattle.block.specs.Outcome.{Outcome, done, refused, fold}
+use Rattle.block.specs.Outcome.{Outcome, done, refused, then, fold}
+use Rattle.block.specs.declared.assumptions.Further.{Further}
+use Rattle.block.specs.declared.assumptions.Item.{Item}
+use Rattle.block.specs.declared.assumptions.Range.{Range}
 
--- A part of a list, and the token that it is part of. Words are cut at each `-`, which is a part of its own; any other token is one part.
-pub record Unit·of : Type 0 where
-  pub text : List ℕ
+-- A part of a list, as a token of its own, and the token that it is part of. Words are cut at each `-`, which is a part of its own; any other
+-- token is one part.
+pub record Part : Type 0 where
+  pub own : Numbered
   pub word : Numbered
 
-unfoldable pub unit : Numbered → List ℕ → Unit·of
-unit w text = record { text = text; word = w }
+unfoldable pub part : Numbered → List ℕ → Part
+part w text = record { own = record { index = w .index; token = record { kind = w .token .kind; text = text } }; word = w }
 
 -- The bytes up to the next `-`.
 unfoldable pub to·dash : List ℕ → List ℕ
 to·dash [] = []
 to·dash (b ∷ r) = let more = b ∷ to·dash r in pick (eqb b (byte "-")) [] more
 
-unfoldable pub cut·from : Numbered → Bool → List ℕ → List Unit·of
+unfoldable pub cut·from : Numbered → Bool → List ℕ → List Part
 cut·from w begun [] = []
 cut·from w false (b ∷ r) =
-    let dash = unit w (byte "-" ∷ []) ∷ cut·from w false r in
-    let part = unit w (b ∷ to·dash r) ∷ cut·from w true r in
-    pick (eqb b (byte "-")) dash part
+    let dash = part w (byte "-" ∷ []) ∷ cut·from w false r in
+    let this = part w (b ∷ to·dash r) ∷ cut·from w true r in
+    pick (eqb b (byte "-")) dash this
 cut·from w true (b ∷ r) =
-    let dash = unit w (byte "-" ∷ []) ∷ cut·from w false r in
-    let part = cut·from w true r in
-    pick (eqb b (byte "-")) dash part
+    let dash = part w (byte "-" ∷ []) ∷ cut·from w false r in
+    let more = cut·from w true r in
+    pick (eqb b (byte "-")) dash more
 
-unfoldable pub units : Numbered → List Unit·of
-units w =
-    let parts = cut·from w false (w .token .text) in
-    pick (word? (w .token .kind)) parts (unit w (w .token .text) ∷ [])
+unfoldable pub parts : Numbered → List Part
+parts w =
+    let cut = cut·from w false (w .token .text) in
+    pick (word? (w .token .kind)) cut (part w (w .token .text) ∷ [])
 
 -- A dash, also in quotes; a stride's `\`, a mark; ALL, a whole word.
-unfoldable pub dash? : Unit·of → Bool
-dash? u = same (u .text) (byte "-" ∷ [])
+unfoldable pub dash? : Part → Bool
+dash? p = same (p .own .token .text) (byte "-" ∷ [])
 
-unfoldable pub stride? : Unit·of → Bool
-stride? u = punct (byte "\\") (u .word)
+unfoldable pub stride? : Part → Bool
+stride? p = punct (byte "\\") (p .word)
 
-unfoldable pub all? : Unit·of → Bool
-all? u = is (bytes "ALL") (u .word)
+unfoldable pub all? : Part → Bool
+all? p = is (bytes "ALL") (p .word)
 
 -- The number of a character, from 1 to NCHAR; 0 if the part is none. Quoted text is none.
-unfoldable pub character·number : ℕ → Unit·of → ℕ
-character·number count u =
-    let k = u .word .token .kind in
-    let n = positive (u .text) in
-    let number = pick (leb n count) n 0 in
-    pick (quoted? k || string? k) 0 (pick (same (u .text) (byte "." ∷ [])) count number)
+unfoldable pub character·number : ℕ → Part → ℕ
+character·number count p =
+    let k = p .own .token .kind in
+    let n = number (p .own) in
+    let index = pick (leb n count) n 0 in
+    pick (quoted? k || string? k) 0 (pick (same (p .own .token .text) (byte "." ∷ [])) count index)
 
 -- The characters from first to last, each stride-th.
-pub record Range : Type 0 where
-  pub first : ℕ
-  pub last : ℕ
-  pub stride : ℕ
-
 unfoldable pub range : ℕ → ℕ → ℕ → Range
 range f l s = record { first = f; last = l; stride = s }
 
--- Where a list is: at a first number; behind it (ALL or not), with its token's index; behind its dash; behind the last number; behind its `\`.
-pub data Item : Type 0 where
-  number : Item
-  single : Bool → ℕ → ℕ → ℕ → Item
-  to : ℕ → ℕ → Item
-  pair : ℕ → ℕ → ℕ → Item
-  by : ℕ → ℕ → ℕ → Item
+-- A list begins, or goes on, with a number or ALL.
+unfoldable pub first·number : Part → ℕ → Outcome Item
+first·number p zero = refused Refusal.CharacterList (p .word .index)
+first·number p (suc n) = done (Item.Single false (suc n) (suc n) (p .word .index))
 
--- A list so far.
+unfoldable pub first·item : ℕ → Part → Outcome Item
+first·item count p =
+    let one = first·number p (character·number count p) in
+    pick (all? p) (done (Item.Single true 1 count (p .word .index))) one
+
+-- The part of a list behind a complete range.
+unfoldable pub next·item : ℕ → Range → Part → Outcome Further
+next·item count r p = then (first·item count p) (λ m. done (Further.Past r m))
+
+unfoldable pub last·number : ℕ → ℕ → Part → ℕ → Outcome Further
+last·number f i p zero = refused Refusal.CharacterList (p .word .index)
+last·number f i p (suc n) = pick (ltb (suc n) f) (refused Refusal.CharacterList i) (done (Further.On (Item.Pair f (suc n) i)))
+
+unfoldable pub stride·number : ℕ → ℕ → Part → ℕ → Outcome Further
+stride·number f l p zero = refused Refusal.CharacterList (p .word .index)
+stride·number f l p (suc n) = done (Further.Past (range f l (suc n)) Item.Number)
+
+-- One part more, where the list is at a first number; behind it (ALL or not); behind its dash; behind the last number; or behind its `\`. ALL
+-- is no end of a range; a range rises, which is judged before its stride.
+unfoldable pub item·turn : ℕ → Item → Part → Outcome Further
+item·turn count Item.Number p = then (first·item count p) (λ m. done (Further.On m))
+item·turn count (Item.Single all f l i) p =
+    let ranged = pick all (refused Refusal.CharacterList i) (done (Further.On (Item.To f i))) in
+    let next = next·item count (range f l 1) p in
+    pick (dash? p) ranged (pick (stride? p) (done (Further.On (Item.By f l i))) next)
+item·turn count (Item.To f i) p = last·number f i p (character·number count p)
+item·turn count (Item.Pair f l i) p =
+    let next = next·item count (range f l 1) p in
+    pick (stride? p) (done (Further.On (Item.By f l i))) next
+item·turn count (Item.By f l i) p = stride·number f l p (number (p .own))
+
+-- A list so far: its ranges, and where it is.
 pub record Listed : Type 0 where
   pub ranges : List Range
   pub item : Item
@@ -80,46 +107,23 @@ pub record Listed : Type 0 where
 unfoldable pub listed : List Range → Item → Listed
 listed rs m = record { ranges = rs; item = m }
 
-unfoldable pub first·number : List Range → Unit·of → ℕ → Outcome Listed
-first·number rs u zero = refused Refusal.CharacterList (u .word .index)
-first·number rs u (suc n) = done (listed rs (single false (suc n) (suc n) (u .word .index)))
+unfoldable pub with·further : List Range → Further → Listed
+with·further rs (Further.On m) = listed rs m
+with·further rs (Further.Past r m) = listed (rs ++ (r ∷ [])) m
 
-unfoldable pub first·turn : ℕ → List Range → Unit·of → Outcome Listed
-first·turn count rs u =
-    let number = first·number rs u (character·number count u) in
-    pick (all? u) (done (listed rs (single true 1 count (u .word .index)))) number
-
-unfoldable pub last·number : List Range → ℕ → ℕ → Unit·of → ℕ → Outcome Listed
-last·number rs f i u zero = refused Refusal.CharacterList (u .word .index)
-last·number rs f i u (suc n) = pick (ltb (suc n) f) (refused Refusal.CharacterList i) (done (listed rs (pair f (suc n) i)))
-
-unfoldable pub stride·number : List Range → ℕ → ℕ → Unit·of → ℕ → Outcome Listed
-stride·number rs f l u zero = refused Refusal.CharacterList (u .word .index)
-stride·number rs f l u (suc n) = done (listed (rs ++ (range f l (suc n) ∷ [])) number)
-
--- One part more. ALL is no end of a range; a range rises, which is judged before its stride.
-unfoldable pub item·turn : ℕ → List Range → Item → Unit·of → Outcome Listed
-item·turn count rs number u = first·turn count rs u
-item·turn count rs (single all f l i) u =
-    let ranged = pick all (refused Refusal.CharacterList i) (done (listed rs (to f i))) in
-    let next = first·turn count (rs ++ (range f l 1 ∷ [])) u in
-    pick (dash? u) ranged (pick (stride? u) (done (listed rs (by f l i))) next)
-item·turn count rs (to f i) u = last·number rs f i u (character·number count u)
-item·turn count rs (pair f l i) u =
-    let next = first·turn count (rs ++ (range f l 1 ∷ [])) u in
-    pick (stride? u) (done (listed rs (by f l i))) next
-item·turn count rs (by f l i) u = stride·number rs f l u (positive (u .text))
+unfoldable pub part·turn : ℕ → Listed → Part → Outcome Listed
+part·turn count s p = then (item·turn count (s .item) p) (λ n. done (with·further (s .ranges) n))
 
 unfoldable pub list·turn : ℕ → Listed → Numbered → Outcome Listed
-list·turn count s w = fold (λ t u. item·turn count (t .ranges) (t .item) u) s (units w)
+list·turn count s w = fold (part·turn count) s (parts w)
 
 -- The ranges of a list whose words have ended.
 unfoldable pub item·end : List Range → Item → Outcome (List Range)
-item·end rs number = done rs
-item·end rs (single all f l i) = done (rs ++ (range f l 1 ∷ []))
-item·end rs (to f i) = refused Refusal.CharacterList i
-item·end rs (pair f l i) = done (rs ++ (range f l 1 ∷ []))
-item·end rs (by f l i) = refused Refusal.CharacterList i
+item·end rs Item.Number = done rs
+item·end rs (Item.Single all f l i) = done (rs ++ (range f l 1 ∷ []))
+item·end rs (Item.To f i) = refused Refusal.CharacterList i
+item·end rs (Item.Pair f l i) = done (rs ++ (range f l 1 ∷ []))
+item·end rs (Item.By f l i) = refused Refusal.CharacterList i
 
 -- Is a character, by its number, in a range?
 unfoldable pub in·range : Range → ℕ → Bool

@@ -11,6 +11,7 @@ use Rattle.block.specs.Dna.{dna·cell}
 use Rattle.block.specs.Format.{Format, equal}
 use Rattle.block.specs.Outcome.{Outcome, done, refused, then, need}
 use Rattle.block.specs.declared.data.DataType.{DataType}
+use Rattle.block.specs.declared.matrix.Bracket.{Bracket}
 
 -- The index of the first symbol equal to a byte, counted from a number on.
 unfoldable pub find·symbol : Format → ℕ → ℕ → List ℕ → Option ℕ
@@ -35,7 +36,7 @@ gap·or f (some g) b = let other = state·or·code (f .data·type) f b in pick (
 
 -- The cell of one symbol: missing and gap are tried first.
 unfoldable pub cell : Format → ℕ → Option Cell
-cell f b = let other = gap·or f (f .gap) b in pick (equal f b (f .missing)) (some missing) other
+cell f b = let other = gap·or f (f .gap) b in pick (equal f (f .missing) b) (some missing) other
 
 -- The cell before the others, if all are cells.
 unfoldable pub before : Option Cell → Option (List Cell) → Option (List Cell)
@@ -66,17 +67,14 @@ only·states (polymorphic s ∷ r) = none
 only·states (missing ∷ r) = none
 only·states (gap ∷ r) = none
 
--- The two kinds of set.
-pub data Bracket : Type 0 where
-  brace parenthesis : Bracket
-
+-- The two kinds of set: uncertain in braces, polymorphic in parentheses.
 unfoldable pub closer : Bracket → ℕ
-closer brace = byte "}"
-closer parenthesis = byte ")"
+closer Bracket.Brace = byte "}"
+closer Bracket.Parenthesis = byte ")"
 
 unfoldable pub set·cell : Bracket → List ℕ → Cell
-set·cell brace s = uncertain s
-set·cell parenthesis s = polymorphic s
+set·cell Bracket.Brace s = uncertain s
+set·cell Bracket.Parenthesis s = polymorphic s
 
 -- A row so far: its cells; and where a set is open, its kind, the index of its opening mark and its states so far.
 pub data Row : Type 0 where
@@ -95,8 +93,8 @@ into·set cells k i set w new =
 unfoldable pub chunk : Format → Row → Numbered → Outcome Row
 chunk f (plain cells) w =
     let more = then (symbols f w) (λ new. done (plain (cells ++ new))) in
-    pick (punct (byte "{") w) (done (within cells brace (w .index) []))
-    (pick (punct (byte "(") w) (done (within cells parenthesis (w .index) []))
+    pick (punct (byte "{") w) (done (within cells Bracket.Brace (w .index) []))
+    (pick (punct (byte "(") w) (done (within cells Bracket.Parenthesis (w .index) []))
     more)
 chunk f (within cells k i set) w =
     let more = then (symbols f w) (into·set cells k i set w) in

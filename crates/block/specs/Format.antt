@@ -12,6 +12,8 @@ use Rattle.lexer.specs.declared.refusal.Refusal.{Refusal}
 use Rattle.block.specs.Dna.{acgt, dna·code}
 use Rattle.block.specs.Outcome.{Outcome, done, refused, then, fold}
 use Rattle.block.specs.declared.data.DataType.{DataType}
+use Rattle.block.specs.declared.formats.Key.{Key}
+use Rattle.block.specs.declared.formats.Valued.{Valued}
 
 -- How cells are written.
 pub record Format : Type 0 where
@@ -85,32 +87,43 @@ with·labels o = options (o .data·type) (o .symbols) (o .missing) (o .gap) (o .
 unfoldable pub with·no·tokens : Options → Options
 with·no·tokens o = options (o .data·type) (o .symbols) (o .missing) (o .gap) (o .interleave) (o .respect·case) (o .labels) true
 
--- The options that take `=` and a value. INTERLEAVE may do without.
-pub data Key : Type 0 where
-  datatype-key symbols-key missing-key gap-key interleave-key : Key
-
 -- Where the command is: at an option; behind INTERLEAVE, at its `=` or the next option; or behind the option with an index, at its `=` or value.
 pub data Formatting : Type 0 where
   option : Options → Formatting
   perhaps : Options → ℕ → Formatting
-  equals : Options → Key → ℕ → Formatting
-  value : Options → Key → ℕ → Formatting
+  equals : Options → Valued → ℕ → Formatting
+  value : Options → Valued → ℕ → Formatting
 
 -- An option that was given already is refused before its value is looked for.
 unfoldable pub once : Bool → Numbered → Formatting → Outcome Formatting
 once seen w next = pick seen (refused Refusal.FormatOption (w .index)) (done next)
 
+-- Which option a word is.
+unfoldable pub key : Numbered → Key
+key w =
+    pick (is (bytes "DATATYPE") w) Key.DataType
+    (pick (is (bytes "RESPECTCASE") w) Key.RespectCase
+    (pick (is (bytes "LABELS") w) Key.Labels
+    (pick (is (bytes "NOTOKENS") w) Key.NoTokens
+    (pick (is (bytes "INTERLEAVE") w) Key.Interleave
+    (pick (is (bytes "SYMBOLS") w) Key.Symbols
+    (pick (is (bytes "MISSING") w) Key.Missing
+    (pick (is (bytes "GAP") w) Key.Gap
+    Key.Unknown)))))))
+
+unfoldable pub key·option : Options → Numbered → Key → Outcome Formatting
+key·option o w Key.DataType = once (given (o .data·type)) w (equals o Valued.DataType (w .index))
+key·option o w Key.RespectCase = once (o .respect·case) w (option (with·case o))
+key·option o w Key.Labels = once (o .labels) w (option (with·labels o))
+key·option o w Key.NoTokens = once (o .no·tokens) w (option (with·no·tokens o))
+key·option o w Key.Interleave = once (given (o .interleave)) w (perhaps (with·interleave true o) (w .index))
+key·option o w Key.Symbols = once (given (o .symbols)) w (equals o Valued.Symbols (w .index))
+key·option o w Key.Missing = once (given (o .missing)) w (equals o Valued.Missing (w .index))
+key·option o w Key.Gap = once (given (o .gap)) w (equals o Valued.Gap (w .index))
+key·option o w Key.Unknown = refused Refusal.FormatOption (w .index)
+
 unfoldable pub format·option : Options → Numbered → Outcome Formatting
-format·option o w =
-    pick (is (bytes "DATATYPE") w) (once (given (o .data·type)) w (equals o datatype-key (w .index)))
-    (pick (is (bytes "RESPECTCASE") w) (once (o .respect·case) w (option (with·case o)))
-    (pick (is (bytes "LABELS") w) (once (o .labels) w (option (with·labels o)))
-    (pick (is (bytes "NOTOKENS") w) (once (o .no·tokens) w (option (with·no·tokens o)))
-    (pick (is (bytes "INTERLEAVE") w) (once (given (o .interleave)) w (perhaps (with·interleave true o) (w .index)))
-    (pick (is (bytes "SYMBOLS") w) (once (given (o .symbols)) w (equals o symbols-key (w .index)))
-    (pick (is (bytes "MISSING") w) (once (given (o .missing)) w (equals o missing-key (w .index)))
-    (pick (is (bytes "GAP") w) (once (given (o .gap)) w (equals o gap-key (w .index)))
-    (refused Refusal.FormatOption (w .index)))))))))
+format·option o w = key·option o w (key w)
 
 -- The characters of a SYMBOLS text, White_Space dropped. A longer character leaves its first byte, which is no valid symbol.
 unfoldable pub unspaced : List ℕ → List ℕ
@@ -132,24 +145,24 @@ symbol·value none f i = refused Refusal.FormatOption i
 symbol·value (some b) f i = done (option (f b))
 
 -- A value. A wrong DATATYPE is refused at the option, the others at the value.
-unfoldable pub format·value : Options → Key → ℕ → Numbered → Outcome Formatting
-format·value o datatype-key i w =
+unfoldable pub format·value : Options → Valued → ℕ → Numbered → Outcome Formatting
+format·value o Valued.DataType i w =
     pick (is (bytes "STANDARD") w) (done (option (with·type DataType.Standard o)))
     (pick (is (bytes "DNA") w) (done (option (with·type DataType.Dna o)))
     (refused Refusal.FormatOption i))
-format·value o symbols-key i w =
+format·value o Valued.Symbols i w =
     let taken = done (option (with·symbols (unspaced (w .token .text)) o)) in
     pick (string? (w .token .kind)) taken (refused Refusal.FormatOption (w .index))
-format·value o missing-key i w = symbol·value (single·symbol (w .token .text)) (λ b. with·missing b o) (w .index)
-format·value o gap-key i w = symbol·value (single·symbol (w .token .text)) (λ b. with·gap b o) (w .index)
-format·value o interleave-key i w =
+format·value o Valued.Missing i w = symbol·value (single·symbol (w .token .text)) (λ b. with·missing b o) (w .index)
+format·value o Valued.Gap i w = symbol·value (single·symbol (w .token .text)) (λ b. with·gap b o) (w .index)
+format·value o Valued.Interleave i w =
     pick (is (bytes "YES") w) (done (option (with·interleave true o)))
     (pick (is (bytes "NO") w) (done (option (with·interleave false o)))
     (refused Refusal.FormatOption (w .index)))
 
 unfoldable pub format·turn : Formatting → Numbered → Outcome Formatting
 format·turn (option o) w = format·option o w
-format·turn (perhaps o i) w = let next = format·option o w in pick (punct (byte "=") w) (done (value o interleave-key i)) next
+format·turn (perhaps o i) w = let next = format·option o w in pick (punct (byte "=") w) (done (value o Valued.Interleave i)) next
 format·turn (equals o k i) w = pick (punct (byte "=") w) (done (value o k i)) (refused Refusal.NoValue i)
 format·turn (value o k i) w = format·value o k i w
 

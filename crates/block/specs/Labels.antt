@@ -5,21 +5,19 @@ use lib.ListN.{length, getD, set, replicate}
 use mathlib.Core.Bool.{_&&_}
 use mathlib.Core.List.{List, [], _∷_, _++_}
 use mathlib.Core.Option.{Option, none, some}
-use Rattle.lexer.specs.Base.{pick, empty?, given, byte}
-use Rattle.lexer.specs.Words.{Numbered, punct, label, positive}
+use Rattle.lexer.specs.Base.{pick, given, byte}
+use Rattle.lexer.specs.Words.{Numbered, punct, label, number}
 use Rattle.lexer.specs.declared.refusal.Refusal.{Refusal}
 use Rattle.block.specs.Outcome.{Outcome, done, refused, then, fold, need}
+use Rattle.block.specs.declared.labels.Labelling.{Labelling}
 
--- What is labelled of a character so far: its label, empty if none; its state labels, if they were given.
+-- What is labelled of a character so far: its label and its state labels, if they were given.
 pub record Labelled : Type 0 where
-  pub label : List ℕ
+  pub label : Option (List ℕ)
   pub states : Option (List (List ℕ))
 
 unfoldable pub unlabelled : Labelled
-unlabelled = record { label = []; states = none }
-
-pub data Labelling : Type 0 where
-  charlabels statelabels charstatelabels : Labelling
+unlabelled = record { label = none; states = none }
 
 -- A label command: which it is, the index of its first word, and its other words.
 pub record LabelCommand : Type 0 where
@@ -33,8 +31,8 @@ label·each [] ws = done []
 label·each (c ∷ cs) [] = done (c ∷ cs)
 label·each (c ∷ cs) (w ∷ ws) =
     let name = need (label w) Refusal.NotName (w .index) in
-    let more = then name (λ n. then (label·each cs ws) (λ r. done (record { label = n; states = c .states } ∷ r))) in
-    pick (empty? (c .label)) more (refused Refusal.LabelEntry (w .index))
+    let more = then name (λ n. then (label·each cs ws) (λ r. done (record { label = some n; states = c .states } ∷ r))) in
+    pick (given (c .label)) (refused Refusal.LabelEntry (w .index)) more
 
 unfoldable pub char·labels : ℕ → List Numbered → List Labelled → Outcome (List Labelled)
 char·labels head ws cs = let each = label·each cs ws in pick (eqb (length ws) (length cs)) each (refused Refusal.Count head)
@@ -60,7 +58,7 @@ unfoldable pub character : ℕ → List Labelled → Labelled
 character k cs = getD cs (k - 1) unlabelled
 
 unfoldable pub with·label : ℕ → List ℕ → List Labelled → List Labelled
-with·label k n cs = set cs (k - 1) (record { label = n; states = character k cs .states })
+with·label k n cs = set cs (k - 1) (record { label = some n; states = character k cs .states })
 
 unfoldable pub with·states : ℕ → List (List ℕ) → List Labelled → List Labelled
 with·states k s cs = set cs (k - 1) (record { label = character k cs .label; states = some s })
@@ -71,22 +69,22 @@ begin·states cs k i = pick (given (character k cs .states)) (refused Refusal.La
 
 -- An entry's number is from 1 to NCHAR, whatever the kind of its token. In STATELABELS its state labels follow at once.
 unfoldable pub entry·number : Labelling → List Labelled → Numbered → ℕ → Outcome Entries
-entry·number charlabels cs w k = done (at cs (numbered k (w .index)))
-entry·number charstatelabels cs w k = done (at cs (numbered k (w .index)))
-entry·number statelabels cs w k = begin·states cs k (w .index)
+entry·number Labelling.CharLabels cs w k = done (at cs (numbered k (w .index)))
+entry·number Labelling.CharStateLabels cs w k = done (at cs (numbered k (w .index)))
+entry·number Labelling.StateLabels cs w k = begin·states cs k (w .index)
 
 unfoldable pub entry·begins : LabelCommand → List Labelled → Numbered → Outcome Entries
 entry·begins c cs w =
-    let k = positive (w .token .text) in
-    let number = entry·number (c .what) cs w k in
-    let good = pick (leb 1 k && leb k (length cs)) number (refused Refusal.LabelEntry (w .index)) in
+    let k = number w in
+    let begun = entry·number (c .what) cs w k in
+    let good = pick (leb 1 k && leb k (length cs)) begun (refused Refusal.LabelEntry (w .index)) in
     pick (punct (byte ",") w) (refused Refusal.LabelEntry (c .head)) good
 
 -- A character's label: it may be given once.
 unfoldable pub entry·label : List Labelled → ℕ → ℕ → Numbered → Outcome Entries
 entry·label cs k i w =
     let named = then (need (label w) Refusal.NotName (w .index)) (λ n. done (at (with·label k n cs) (labelled k i))) in
-    pick (empty? (character k cs .label)) named (refused Refusal.LabelEntry i)
+    pick (given (character k cs .label)) (refused Refusal.LabelEntry i) named
 
 -- The state labels of an entry that ends: at most as many as there are symbols.
 unfoldable pub entry·states : ℕ → List Labelled → ℕ → ℕ → List (List ℕ) → Outcome (List Labelled)
@@ -126,9 +124,9 @@ label·entries count c cs =
     (λ e. entry·end count c (e .characters) (e .entry))
 
 unfoldable pub label·command : ℕ → Labelling → LabelCommand → List Labelled → Outcome (List Labelled)
-label·command count charlabels c cs = char·labels (c .head) (c .words) cs
-label·command count statelabels c cs = label·entries count c cs
-label·command count charstatelabels c cs = label·entries count c cs
+label·command count Labelling.CharLabels c cs = char·labels (c .head) (c .words) cs
+label·command count Labelling.StateLabels c cs = label·entries count c cs
+label·command count Labelling.CharStateLabels c cs = label·entries count c cs
 
 -- The labels that the label commands give to so many characters, where there are so many symbols.
 unfoldable pub apply·labels : ℕ → ℕ → List LabelCommand → Outcome (List Labelled)

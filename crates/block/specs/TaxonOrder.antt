@@ -11,12 +11,12 @@ use Rattle.lexer.specs.Words.{Numbered, numbered, is, label}
 use Rattle.block.specs.Blocks.{Data, Phase, outside, in·taxa, in·data, in·assumptions, in·trees, State, at·start, step, row·of, matrix·shape}
 use Rattle.block.specs.Blocks as Blocks
 use Rattle.block.specs.Commands.{Command, command, commands, words, newline}
-use Rattle.block.specs.Dimensions.{Dimensions}
 use Rattle.block.specs.Interleaved.{all·long}
 use Rattle.block.specs.Names.{unique·names}
 use Rattle.block.specs.Outcome.{done, fold}
 use Rattle.block.specs.Reading.{Taxon}
 use Rattle.block.specs.Sequential.{Shape, names}
+use Rattle.block.specs.declared.dimension.Dimensions.{Dimensions}
 
 -- The tokens behind the header, the first that is no newline.
 unfoldable pub behind·header : List Numbered → List Numbered
@@ -43,7 +43,7 @@ unfoldable pub declaring? : Phase → Bool
 declaring? outside = false
 declaring? (in·taxa b count names) = true
 declaring? (in·data b d) = true
-declaring? (in·assumptions b r default set) = false
+declaring? (in·assumptions b default set) = false
 declaring? (in·trees b) = false
 
 -- A TAXLABELS command among these that declares the names: the commands before it lead to such a block.

@@ -8,8 +8,11 @@ use mathlib.Core.Option.{Option, none, some}
 use Rattle.lexer.specs.Base.{pick, bytes, byte}
 use Rattle.lexer.specs.Words.{Numbered, is, punct, label}
 use Rattle.lexer.specs.declared.refusal.Refusal.{Refusal}
-use Rattle.block.specs.CharacterList.{Range, in·range, Listed, listed, number, list·turn, item·end}
+use Rattle.block.specs.CharacterList.{in·range, Listed, listed, list·turn, item·end}
 use Rattle.block.specs.Outcome.{Outcome, done, refused, then, fold, need}
+use Rattle.block.specs.declared.assumptions.Form.{Form}
+use Rattle.block.specs.declared.assumptions.Item.{Item}
+use Rattle.block.specs.declared.assumptions.Range.{Range}
 use Rattle.block.specs.declared.model.CharacterOrdering.{CharacterOrdering}
 
 -- A type word.
@@ -42,9 +45,6 @@ unfoldable pub typed : CharacterOrdering → List Range → Types → Option Typ
 typed o [] ts = some ts
 typed o (r ∷ rs) ts = on·types (typed·range o r 1 ts) (λ us. typed o rs us)
 
-pub data Form : Type 0 where
-  standard vector : Form
-
 -- Where the command is: at `*` or the name; at the name; behind it; behind `(`; at the `)` behind a form's word with an index; at `=`; in a
 -- VECTOR, with its types so far and the first word that is none; at a type word; at its `:`; at the first word of its list; in its list.
 pub data Typing : Type 0 where
@@ -69,9 +69,9 @@ unfoldable pub name·word : Numbered → Outcome Typing
 name·word w = then (need (label w) Refusal.NotName (w .index)) (λ n. done named)
 
 unfoldable pub equals·word : Typeset → Form → Numbered → Outcome Typing
-equals·word t standard w =
+equals·word t Form.Standard w =
     pick (punct (byte "=") w) (done (type (replicate (t .characters) none))) (refused Refusal.TypeSet (t .head))
-equals·word t vector w = pick (punct (byte "=") w) (done (types [] none)) (refused Refusal.TypeSet (t .head))
+equals·word t Form.Vector w = pick (punct (byte "=") w) (done (types [] none)) (refused Refusal.TypeSet (t .head))
 
 -- In a VECTOR the count is judged before the words, so the first wrong word waits for the end.
 unfoldable pub vector·word : Types → Option ℕ → Numbered → Option CharacterOrdering → Typing
@@ -93,10 +93,10 @@ list·word t ts o i l w =
 unfoldable pub typeset·turn : Typeset → Typing → Numbered → Outcome Typing
 typeset·turn t star w = let named = name·word w in pick (punct (byte "*") w) (done name) named
 typeset·turn t name w = name·word w
-typeset·turn t named w = let next = equals·word t standard w in pick (punct (byte "(") w) (done form) next
+typeset·turn t named w = let next = equals·word t Form.Standard w in pick (punct (byte "(") w) (done form) next
 typeset·turn t form w =
-    pick (is (bytes "VECTOR") w) (done (close vector (w .index)))
-    (pick (is (bytes "STANDARD") w) (done (close standard (w .index)))
+    pick (is (bytes "VECTOR") w) (done (close Form.Vector (w .index)))
+    (pick (is (bytes "STANDARD") w) (done (close Form.Standard (w .index)))
     (refused Refusal.TypeSet (w .index)))
 typeset·turn t (close f i) w = pick (punct (byte ")") w) (done (equals f)) (refused Refusal.TypeSet i)
 typeset·turn t (equals f) w = equals·word t f w
@@ -104,7 +104,7 @@ typeset·turn t (types ts bad) w = done (vector·word ts bad w (ordering w))
 typeset·turn t (type ts) w = then (need (ordering w) Refusal.TypeSet (w .index)) (λ o. done (colon ts o (w .index)))
 typeset·turn t (colon ts o i) w = pick (punct (byte ":") w) (done (begin ts o i)) (refused Refusal.TypeSet i)
 typeset·turn t (begin ts o i) w =
-    let more = list·word t ts o i (listed [] number) w in
+    let more = list·word t ts o i (listed [] Item.Number) w in
     pick (punct (byte ",") w) (refused Refusal.CharacterList i) more
 typeset·turn t (list ts o i l) w = list·word t ts o i l w
 

@@ -1,4 +1,9 @@
 // Tokens to a reading, or the refusal of the first fault. The types that the definitions share; what they mean stands in specs/.
 
+pub mod assumptions;
 pub mod data;
+pub mod dimension;
+pub mod formats;
+pub mod labels;
+pub mod matrix;
 pub mod model;

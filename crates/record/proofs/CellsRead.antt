@@ -2,12 +2,13 @@
 use Prim.Native.Nat.{ℕ, suc, _<_}
 use Rattle.block.proofs.RisingLaws.{rising-first, rising-rest}
 use Rattle.block.specs.Cell.{Cell, state, uncertain, polymorphic, missing, gap, insert, insert·all}
-use Rattle.block.specs.Chunk.{Row, plain, within, Bracket, brace, parenthesis, closer, set·cell, closed, chunk, cell}
+use Rattle.block.specs.Chunk.{Row, plain, within, closer, set·cell, closed, chunk, cell}
 use Rattle.block.specs.Commands.{up·to·end, words}
 use Rattle.block.specs.Outcome.{Outcome, done, refused, then, fold}
 use Rattle.block.specs.Reading.{Taxon}
 use Rattle.block.specs.Sequential.{Shape, Sequence, between, inside, row·grown, sequential·turn}
 use Rattle.block.specs.declared.data.DataType.{DataType}
+use Rattle.block.specs.declared.matrix.Bracket.{Bracket}
 use Rattle.lexer.proofs.Basics.{and-left, and-right, or-first, or-second}
 use Rattle.lexer.specs.Base.{empty?}
 use Rattle.lexer.specs.Tokens.{Token}
@@ -86,8 +87,8 @@ module _ (sh : Shape) (rows : List Taxon) (n : List ℕ) {t : Sequence} where
           record { turned = λ m. rw (set-byte (sh .format) Kind.Word word-symbolic b u m j cells k o set e, grown-index sh rows i n m (word (b ∷ u)) (word u) (chunk (sh .format) (within cells k o (insert j set)) (at m (word u)))) (on .turned m) }
 
 opener : Bracket → ℕ
-opener brace = 123
-opener parenthesis = 40
+opener Bracket.Brace = 123
+opener Bracket.Parenthesis = 40
 
 -- Does the first token begin a word?
 wordy : List Token → Bool
@@ -116,8 +117,8 @@ module _ (sh : Shape) (type : DataType) (symbols : List ℕ) (gaps : Bool) (sign
       → Turns (sequential·turn sh) (inside rows i n (within cells k o s)) (mark (closer k) ∷ ts) t
   unfolding words·from sequential·turn chunk closer closed empty?
   closer-turned k cells o [] ts h g i = absurd (true≢false h)
-  closer-turned brace cells o (j ∷ s) ts h g i = record { turned = λ m. g .grown i (suc m) (at m (mark 125)) }
-  closer-turned parenthesis cells o (j ∷ s) ts h g i = record { turned = λ m. g .grown i (suc m) (at m (mark 41)) }
+  closer-turned Bracket.Brace cells o (j ∷ s) ts h g i = record { turned = λ m. g .grown i (suc m) (at m (mark 125)) }
+  closer-turned Bracket.Parenthesis cells o (j ∷ s) ts h g i = record { turned = λ m. g .grown i (suc m) (at m (mark 41)) }
 
   set-turned : (k : Bracket) (s : List ℕ) (cells : List Cell) (ts : List Token) → sound·set (length symbols) s ≡ true
       → Grown sh rows n (cells ++ (set·cell k s ∷ [])) ts t → (i : ℕ)
@@ -136,16 +137,16 @@ module _ (sh : Shape) (type : DataType) (symbols : List ℕ) (gaps : Bool) (sign
       go : (x : Bracket)
           → ((o : ℕ) → Turns (sequential·turn sh) (inside rows i n (within cells x o [])) (set·tokens symbols s (mark (closer k) ∷ ts)) t)
           → Turns (sequential·turn sh) (inside rows i n (plain cells)) (mark (opener x) ∷ set·tokens symbols s (mark (closer k) ∷ ts)) t
-      go brace r = record { turned = λ m. r m .turned (suc m) }
-      go parenthesis r = record { turned = λ m. r m .turned (suc m) }
+      go Bracket.Brace r = record { turned = λ m. r m .turned (suc m) }
+      go Bracket.Parenthesis r = record { turned = λ m. r m .turned (suc m) }
 
   cell-turned : (c : Cell) (cells : List Cell) (ts : List Token) → sound·cell (length symbols) c ≡ true → (gap? c ≡ true → gaps ≡ true)
       → ((u : List ℕ) (r : List Token) → ts ≡ word u ∷ r → length (cells ++ (c ∷ [])) < sh .characters) → Grown sh rows n (cells ++ (c ∷ [])) ts t
       → (i : ℕ) → Turns (sequential·turn sh) (inside rows i n (plain cells)) (cell·tokens type symbols c ts) t
   unfolding cell·tokens sound·cell gap? opener closer set·cell
   cell-turned (state j) cells ts h p room g i = sign-grown sh rows n (sign symbols j) (state j) cells ts (signs .states j (ltb-true j (length symbols) h)) room g i
-  cell-turned (uncertain s) cells ts h p room g i = set-turned brace s cells ts h g i
-  cell-turned (polymorphic s) cells ts h p room g i = set-turned parenthesis s cells ts h g i
+  cell-turned (uncertain s) cells ts h p room g i = set-turned Bracket.Brace s cells ts h g i
+  cell-turned (polymorphic s) cells ts h p room g i = set-turned Bracket.Parenthesis s cells ts h g i
   cell-turned missing cells ts h p room g i = sign-grown sh rows n (missing·sign type symbols) missing cells ts (signs .missings) room g i
   cell-turned gap cells ts h p room g i = sign-grown sh rows n (gap·sign type symbols) gap cells ts (signs .gaps-too (p refl)) room g i
 

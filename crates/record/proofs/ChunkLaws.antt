@@ -1,9 +1,10 @@
 -- A word of cells is read byte by byte, and so is a symbol that joins it. Assumes nothing.
 use Prim.Native.Nat.{ℕ}
 use Rattle.block.specs.Cell.{Cell, state, insert, insert·all}
-use Rattle.block.specs.Chunk.{plain, within, Bracket, brace, parenthesis, closer, chunk, cell, cells·of, before, symbols, only·states, with·state, into·set}
+use Rattle.block.specs.Chunk.{plain, within, closer, chunk, cell, cells·of, before, symbols, only·states, with·state, into·set}
 use Rattle.block.specs.Format.{Format}
 use Rattle.block.specs.Outcome.{Outcome, done, then, need}
+use Rattle.block.specs.declared.matrix.Bracket.{Bracket}
 use Rattle.lexer.specs.Tokens.{Token}
 use Rattle.lexer.specs.Words.{Numbered, word?, mark?, line·end?}
 use Rattle.lexer.specs.declared.Kind.{Kind}
@@ -31,8 +32,8 @@ word-symbolic = record { some-symbol = refl; no-line = refl; no-end = refl; no-b
 
 plus-closes-not : (b : Bracket) → mark? (closer b) (Kind.Punctuation 43) ≡ false
 unfolding words·from closer
-plus-closes-not brace = refl
-plus-closes-not parenthesis = refl
+plus-closes-not Bracket.Brace = refl
+plus-closes-not Bracket.Parenthesis = refl
 
 pub plus-symbolic : Symbolic (Kind.Punctuation 43)
 unfolding words·from

@@ -2,14 +2,15 @@
 use Prim.Native.Nat.{ℕ, suc}
 use Rattle.block.specs.Blocks.{State, Data, in·data, at·start, in·phase, no·data, begin·block, begin·words, step, outside?, block·step, ends, inner·step, data·step, data·command, with·dimensions}
 use Rattle.block.specs.Dimensions as D
-use Rattle.block.specs.Dimensions.{Dimensions, dimensions}
+use Rattle.block.specs.Dimensions.{dimensions}
 use Rattle.block.specs.Format.{Format}
 use Rattle.block.specs.Labels.{LabelCommand}
 use Rattle.block.specs.Outcome.{done}
 use Rattle.block.specs.Reading.{Reading}
+use Rattle.block.specs.declared.dimension.Dimensions.{Dimensions}
 use Rattle.lexer.specs.Base.{given}
 use Rattle.lexer.specs.Tokens.{Token}
-use Rattle.lexer.specs.Words.{positive}
+use Rattle.lexer.specs.Words.{positive, number}
 use Rattle.record.proofs.CommandLaws.{Reads, Passes, here, there, command-read, words·from}
 use Rattle.record.proofs.FormTokens.{word, key, mark}
 use mathlib.Core.Bool.{false}
@@ -33,7 +34,7 @@ begin-data-read r =
 
 -- The counts of so many taxa and characters.
 abbrev pub sizes : ℕ → ℕ → Dimensions
-sizes n m = record { taxa = n; characters = m; new·taxa = false }
+sizes n m = record { taxa = n; characters = m; «new_taxa» = false }
 
 -- The words behind DIMENSIONS, up to `;`.
 abbrev size·tokens : List ℕ → List ℕ → List Token → List Token
@@ -41,7 +42,7 @@ size·tokens u v rest = key "NTAX" ∷ mark 61 ∷ word u ∷ key "NCHAR" ∷ ma
 
 sizes-read : (n m : ℕ) (u v : List ℕ) (rest : List Token) → positive u ≡ suc n → positive v ≡ suc m → (i : ℕ)
     → dimensions (words·from i (size·tokens u v rest)) ≡ done (sizes (suc n) (suc m))
-unfolding words·from dimensions D.no·dimensions D.with·count D.count·option D.dimension·option D.dimension·value D.dimension·turn D.dimension·end
+unfolding words·from dimensions number D.dimensions·of D.no·dimensions D.with·count D.count·option D.dimension·option D.dimension·value D.dimension·turn D.dimension·end
 sizes-read n m u v rest p q i = rw (p, q) refl
 
 sizes-passes : (u v : List ℕ) (rest : List Token) → Passes (size·tokens u v rest) rest

@@ -10,7 +10,7 @@ use Rattle.lexer.specs.Tokens.{Token}
 use Rattle.lexer.specs.Words.{Numbered, largest}
 use Rattle.record.proofs.CommandLaws.{at, Passes, there, words·from}
 use Rattle.record.proofs.FormTokens.{word, mark, name, label·tokens, each·tokens, states·tokens, entry·tokens, comma·tokens, entries·tokens}
-use Rattle.record.proofs.LabelsRead.{Labels, Ending, state·labels, states·given, labels·of, number-labels, entry-labels}
+use Rattle.record.proofs.LabelsRead.{Labels, Ending, state·labels, if·any, labels·of, number-labels, entry-labels}
 use Rattle.record.specs.Decimal.{decimal}
 use Rattle.record.specs.Form.{any·label, labelled}
 use Rattle.block.specs.Sound.{sound·names, sound·label, sound·labels, few·states}
@@ -23,7 +23,7 @@ use native.Mathlib.Omega.{arith}
 
 -- What is labelled of one character.
 abbrev labels·one : Character → Labelled
-labels·one c = record { label = c .label; states = states·given (c .states) }
+labels·one c = record { label = if·any (c .label); states = if·any (c .states) }
 
 empty-nil : {X : Type 0} (l : List X) → not (empty? l) ≡ false → l ≡ []
 unfolding empty?
@@ -31,7 +31,7 @@ empty-nil [] h = refl
 empty-nil (x ∷ l) h = absurd (true≢false h)
 
 no-label : (c : Character) → any·label c ≡ false → labels·one c ≡ unlabelled
-unfolding any·label unlabelled states·given
+unfolding any·label unlabelled if·any
 no-label c h =
     rw (empty-nil (c .label) (or-left (not (empty? (c .label))) (not (empty? (c .states))) h), empty-nil (c .states) (or-right (not (empty? (c .label))) (not (empty? (c .states))) h))
     refl
@@ -51,7 +51,7 @@ module _ (count h : ℕ) (ws : List Numbered) where
       → ((w : Numbered) → entry·turn count (state·labels h ws) (p ++ replicate (suc (length r)) unlabelled) e w ≡ entry·begins (state·labels h ws) (p ++ replicate (suc (length r)) unlabelled) w)
       → ((ds : List Labelled) (f : Entry) → Ending count (state·labels h ws) ds f ((p ++ (labels·one c ∷ [])) ++ replicate (length r) unlabelled) → Labels count (state·labels h ws) ds f ts result)
       → Labels count (state·labels h ws) (p ++ replicate (suc (length r)) unlabelled) e (entry·tokens k c ts) result
-  unfolding entry·tokens unlabelled sound·labels few·states
+  unfolding entry·tokens unlabelled sound·labels few·states if·any
   entry-read c r p k e ts place most sound few begins more =
       let cs : List Labelled = p ++ replicate (suc (length r)) unlabelled in
       let names : sound·label (c .label) && sound·names (c .states) ≡ true = and-left (sound·label (c .label) && sound·names (c .states)) (sound·labels r) sound in

@@ -3,7 +3,6 @@ use Prim.Native.Nat.{ℕ, suc, _≤_}
 use Rattle.block.proofs.SoundParts.{symbols-sound, labels-sound}
 use Rattle.block.specs.Blocks.{State, at·start, step, outside?, block·step, ends, inner·step, data·step, data·command, labelling, labelled·by, label·step, in·phase, end·block, data·end, has·ordered, final, matrix·read, finish·in, finish}
 use Rattle.block.specs.Commands.{commands}
-use Rattle.block.specs.Dimensions.{Dimensions}
 use Rattle.block.specs.Format.{Format}
 use Rattle.block.specs.Labels.{LabelCommand, apply·labels}
 use Rattle.block.specs.Outcome.{done}
@@ -26,6 +25,7 @@ use Rattle.record.proofs.TypesRead.{untyped, with·characters, behind·
 use Rattle.record.specs.Decimal.{decimal}
 use Rattle.record.specs.Form.{labelled}
 use Rattle.block.specs.Sound.{Sound, gap·in, sound·labels, few·states}
+use Rattle.block.specs.declared.dimension.Dimensions.{Dimensions}
 use borrow.Author.Tests.{leb-true}
 use lib.ListN.{length}
 use mathlib.Core.Bool.{Bool, true, false}

@@ -1,13 +1,13 @@
 -- FORMAT of a written form is read as its data type, symbols and signs. Assumes nothing.
 use Prim.Native.Nat.{ℕ, suc, _<_}
 use Rattle.block.specs.Blocks.{State, step, outside?, block·step, ends, inner·step, data·step, data·command, with·format, in·phase}
-use Rattle.block.specs.Dimensions.{Dimensions}
 use Rattle.block.specs.Dna.{acgt}
 use Rattle.block.specs.Format as F
-use Rattle.block.specs.Format.{Format, Formatting, Options, option, value, missing-key, gap-key, options, no·options, format·turn, valid·symbol, all·valid, equal, unspaced}
+use Rattle.block.specs.Format.{Format, Formatting, Options, option, value, options, no·options, format·turn, valid·symbol, all·valid, equal, unspaced}
 use Rattle.block.specs.Outcome.{Outcome, done}
 use Rattle.block.specs.Run.{run·text}
 use Rattle.block.specs.declared.data.DataType.{DataType}
+use Rattle.block.specs.declared.formats.Valued.{Valued}
 use Rattle.lexer.proofs.Basics.{and-left, and-right, by-test, or-false, same-true, all-under, under-at}
 use Rattle.lexer.specs.Base.{pick, given, among}
 use Rattle.lexer.specs.Classes.{symbol, space?, part?}
@@ -21,6 +21,7 @@ use Rattle.record.proofs.FormTokens.{word, key, mark, string, sign·tok
 use Rattle.record.proofs.SymbolLaws.{missing-valid, gap-valid, missing-free, gap-free, symbols-two, symbols-valid, symbols-distinct}
 use Rattle.record.specs.Form.{missing·sign, gap·sign}
 use Rattle.block.specs.Sound.{distinct, sound·symbols}
+use Rattle.block.specs.declared.dimension.Dimensions.{Dimensions}
 use borrow.Author.Tests.{eqb-true, leb-true, not-true}
 use lib.Dec.{eqb, leb}
 use mathlib.Core.Bool.{Bool, true, false, _&&_, _||_, not, false≢true}
@@ -102,7 +103,7 @@ before·missing =
 
 -- To unfold it opens what the turns of FORMAT compute by.
 turn·of : Formatting → Token → Outcome Formatting
-unfolding words·from given string? F.options F.no·options F.with·type F.with·symbols F.with·missing F.with·gap F.with·case F.once F.format·option F.single·symbol F.symbol·value F.format·value F.format·turn
+unfolding words·from given string? F.options F.no·options F.with·type F.with·symbols F.with·missing F.with·gap F.with·case F.once F.key F.key·option F.format·option F.single·symbol F.symbol·value F.format·value F.format·turn
 turn·of s t = format·turn s (at 0 t)
 
 symbols-turned : (m : ℕ) (g : Option ℕ) (symbols : List ℕ) {rest : List Token} → all·valid symbols ≡ true
@@ -116,14 +117,14 @@ gap-turned : {t : Formatting} (m g : ℕ) (gaps : Bool) {ts : List Token} → (g
 unfolding turn·of gap·tokens gap·of
 gap-turned m g false v r = r
 gap-turned {t} m g true {ts} v r =
-    let sign : (j : ℕ) → Turns format·turn (value (standard·options none m none) gap-key j) (sign·token g ∷ ts) t = λ j. sign-turned g (λ i k. rw (v refl) refl) r in
+    let sign : (j : ℕ) → Turns format·turn (value (standard·options none m none) Valued.Gap j) (sign·token g ∷ ts) t = λ j. sign-turned g (λ i k. rw (v refl) refl) r in
     record { turned = λ i. sign i .turned (suc (suc i)) }
 
 missing-turned : {t : Formatting} (m : ℕ) {ts : List Token} → valid·symbol m ≡ true → Turns format·turn (option (standard·options none m none)) ts t
     → Turns format·turn (option no·options) (key "DATATYPE" ∷ mark 61 ∷ key "STANDARD" ∷ key "RESPECTCASE" ∷ key "MISSING" ∷ mark 61 ∷ sign·token m ∷ ts) t
 unfolding turn·of
 missing-turned {t} m {ts} v r =
-    let sign : (j : ℕ) → Turns format·turn (value before·missing missing-key j) (sign·token m ∷ ts) t = λ j. sign-turned m (λ i k. rw v refl) r in
+    let sign : (j : ℕ) → Turns format·turn (value before·missing Valued.Missing j) (sign·token m ∷ ts) t = λ j. sign-turned m (λ i k. rw v refl) r in
     record { turned = λ i. sign (suc (suc (suc (suc i)))) .turned (suc (suc (suc (suc (suc (suc i)))))) }
 
 -- The symbols may stand together.

@@ -2,12 +2,14 @@
 use Prim.Native.Nat.{ℕ, suc, _-_, _≤_}
 use Rattle.block.specs.Commands.{up·to·end, words}
 use Rattle.block.specs.Labels as L
-use Rattle.block.specs.Labels.{Labelled, unlabelled, LabelCommand, charstatelabels, Entry, Entries, entry·turn, entry·end, entry·begins, begin·states, character}
+use Rattle.block.specs.Labels.{Labelled, unlabelled, LabelCommand, Entry, Entries, entry·turn, entry·end, entry·begins, begin·states, character}
 use Rattle.block.specs.Outcome.{Outcome, done, then, fold}
 use Rattle.block.specs.Reading.{Character}
+use Rattle.block.specs.declared.labels.Labelling.{Labelling}
 use Rattle.lexer.proofs.Basics.{and-left, and-right}
 use Rattle.lexer.specs.Base.{empty?, given}
 use Rattle.lexer.specs.Tokens.{Token}
+use Rattle.lexer.specs.Words as W
 use Rattle.lexer.specs.Words.{Numbered, numbered, label, largest}
 use Rattle.record.proofs.CommandLaws.{at, here, words·from}
 use Rattle.record.proofs.DecimalLaws.{positive-decimal}
@@ -26,14 +28,16 @@ use mathlib.Core.Option.{Option, none, some}
 use mathlib.Core.Path.{_≡_, refl}
 use native.Mathlib.Omega.{arith}
 
--- What is labelled of a character.
-unfoldable pub states·given : List (List ℕ) → Option (List (List ℕ))
-states·given [] = none
-states·given (s ∷ r) = some (s ∷ r)
+module _ {A : Type 0} where
+  -- a list that is there if it is not empty
+  unfoldable pub if·any : List A → Option (List A)
+  if·any [] = none
+  if·any (a ∷ r) = some (a ∷ r)
 
+-- What is labelled of a character.
 unfoldable pub labels·of : List Character → List Labelled
 labels·of [] = []
-labels·of (c ∷ r) = record { label = c .label; states = states·given (c .states) } ∷ labels·of r
+labels·of (c ∷ r) = record { label = if·any (c .label); states = if·any (c .states) } ∷ labels·of r
 
 -- From a state the words up to `;` give these labels.
 pub record Labels (count : ℕ) (c : LabelCommand) (cs : List Labelled) (e : Entry) (ts : List Token) (result : List Labelled) : Type 0 where
@@ -51,9 +55,9 @@ module _ (p : List Labelled) (x : Labelled) (q : List Labelled) (k : ℕ) (here 
   unfolding character
   character-here = getD-at p x q unlabelled (k - 1) (omega arith)
 
-  label-here : (n : List ℕ) → L.with·label k n (p ++ (x ∷ q)) ≡ p ++ (record { label = n; states = x .states } ∷ q)
+  label-here : (n : List ℕ) → L.with·label k n (p ++ (x ∷ q)) ≡ p ++ (record { label = some n; states = x .states } ∷ q)
   unfolding L.with·label
-  label-here n = rw character-here (set-at p x q (record { label = n; states = x .states }) (k - 1) (omega arith))
+  label-here n = rw character-here (set-at p x q (record { label = some n; states = x .states }) (k - 1) (omega arith))
 
   states-here : (s : List (List ℕ)) → L.with·states k s (p ++ (x ∷ q)) ≡ p ++ (record { label = x .label; states = some s } ∷ q)
   unfolding L.with·states
@@ -65,14 +69,14 @@ unfolding words·from given empty? L.at L.unlabelled entry·turn entry·end entr
 turn·of count c e t = entry·turn count c (e .characters) (e .entry) (at 0 t)
 
 abbrev pub state·labels : ℕ → List Numbered → LabelCommand
-state·labels h ws = record { what = charstatelabels; head = h; words = ws }
+state·labels h ws = record { what = Labelling.CharStateLabels; head = h; words = ws }
 
 module _ (count h : ℕ) (ws : List Numbered) {result : List Labelled} where
   pub number-labels : (k : ℕ) (cs : List Labelled) (e : Entry) (ts : List Token)
       → ((w : Numbered) → entry·turn count (state·labels h ws) cs e w ≡ entry·begins (state·labels h ws) cs w) → 1 ≤ k → k ≤ length cs → k ≤ largest
       → ((i : ℕ) → Labels count (state·labels h ws) cs (L.numbered k i) ts result)
       → Labels count (state·labels h ws) cs e (word (decimal k) ∷ ts) result
-  unfolding words·from L.at entry·begins L.entry·number
+  unfolding words·from L.at entry·begins L.entry·number W.number
   number-labels k cs e ts begins one most fits r =
       record { given·labels = λ i. rw (begins (at i (word (decimal k))), positive-decimal k one fits, le-leb 1 k one, le-leb k (length cs) most) (r i .given·labels (suc i)) }
 
@@ -110,10 +114,10 @@ module _ (count : ℕ) (c : LabelCommand) (cs : List Labelled) (k i : ℕ) where
 
 -- A character with a label or none, and no states yet, among the others; and one that is done.
 abbrev pub front : List Labelled → List ℕ → List Labelled → List Labelled
-front p l q = p ++ (record { label = l; states = none } ∷ q)
+front p l q = p ++ (record { label = if·any l; states = none } ∷ q)
 
 abbrev pub filled : List Labelled → List ℕ → List (List ℕ) → List Labelled → List Labelled
-filled p l s q = p ++ (record { label = l; states = states·given s } ∷ q)
+filled p l s q = p ++ (record { label = if·any l; states = if·any s } ∷ q)
 
 module _ (count h : ℕ) (ws : List Numbered) (p : List Labelled) (q : List Labelled) (k : ℕ) (place : k ≡ suc (length p)) {result : List Labelled} where
   -- An entry's state labels, if any, and what is behind it.
@@ -121,23 +125,23 @@ module _ (count h : ℕ) (ws : List Numbered) (p : List Labelled) (q : List Labe
       → sound·names s ≡ true → leb (length s) count ≡ true
       → ((ds : List Labelled) (f : Entry) → Ending count (state·labels h ws) ds f (filled p l s q) → Labels count (state·labels h ws) ds f ts result)
       → Labels count (state·labels h ws) (front p l q) e (states·tokens s ts) result
-  unfolding words·from states·tokens states·given begin·states L.at given
+  unfolding words·from states·tokens if·any begin·states L.at given
   states-labels l [] i e ts b n few r = r (front p l q) e (b .ending)
   states-labels l (a ∷ s) i e ts b n few r =
       let ended : Ending count (state·labels h ws) (front p l q) (L.states k i (a ∷ s)) (filled p l (a ∷ s) q) =
-      rw (states-here p (record { label = l; states = none }) q k place (a ∷ s)) at (states-ending count (state·labels h ws) (front p l q) k i (a ∷ s) few)
+      rw (states-here p (record { label = if·any l; states = none }) q k place (a ∷ s)) at (states-ending count (state·labels h ws) (front p l q) k i (a ∷ s) few)
       in
       let all : Labels count (state·labels h ws) (front p l q) (L.states k i []) (each·tokens (a ∷ s) ts) result =
       each-labels count h ws k i (front p l q) (a ∷ s) [] ts n (r (front p l q) (L.states k i (a ∷ s)) ended)
       in
-      record { given·labels = λ j. rw (b .slash j, character-here p (record { label = l; states = none }) q k place) (all .given·labels (suc j)) }
+      record { given·labels = λ j. rw (b .slash j, character-here p (record { label = if·any l; states = none }) q k place) (all .given·labels (suc j)) }
 
   -- An entry behind its number.
   pub entry-labels : (l : List ℕ) (s : List (List ℕ)) (i : ℕ) (ts : List Token) → sound·label l ≡ true → sound·names s ≡ true
       → leb (length s) count ≡ true
       → ((ds : List Labelled) (f : Entry) → Ending count (state·labels h ws) ds f (filled p l s q) → Labels count (state·labels h ws) ds f ts result)
       → Labels count (state·labels h ws) (front p [] q) (L.numbered k i) (label·tokens l (states·tokens s ts)) result
-  unfolding label·tokens sound·label turn·of
+  unfolding label·tokens sound·label if·any turn·of
   entry-labels [] s i ts w n few r = states-labels [] s i (L.numbered k i) ts (behind-number count (state·labels h ws) (front p [] q) k i) n few r
   entry-labels (b ∷ l) s i ts w n few r =
       let more : Labels count (state·labels h ws) (front p (b ∷ l) q) (L.labelled k i) (states·tokens s ts) result =
@@ -146,6 +150,6 @@ module _ (count h : ℕ) (ws : List Numbered) (p : List Labelled) (q : List Labe
       record {
         given·labels =
             λ j.
-            rw (character-here p (record { label = []; states = none }) q k place, name-label j (b ∷ l) w, label-here p (record { label = []; states = none }) q k place (b ∷ l))
+            rw (character-here p (record { label = none; states = none }) q k place, name-label j (b ∷ l) w, label-here p (record { label = none; states = none }) q k place (b ∷ l))
             (more .given·labels (suc j));
       }

@@ -3,7 +3,6 @@ use Prim.Native.Nat.{ℕ, suc, _<_}
 use Rattle.block.proofs.SoundParts.{symbols-sound, names-sound}
 use Rattle.block.specs.Blocks.{Data, State, step, outside?, block·step, ends, inner·step, data·step, data·command, with·matrix, in·phase, declared·count, agrees, in·order, rows, matrix·reading, matrix·shape, matrix}
 use Rattle.block.specs.Commands.{up·to·end, words}
-use Rattle.block.specs.Dimensions.{Dimensions}
 use Rattle.block.specs.Format.{Format}
 use Rattle.block.specs.Interleaved.{interleaved}
 use Rattle.block.specs.Labels.{LabelCommand, apply·labels}
@@ -24,6 +23,7 @@ use Rattle.record.proofs.RowsRead.{rows-passes, rows-turned}
 use Rattle.record.proofs.SignLaws.{form-signs}
 use Rattle.record.proofs.TypesRead.{untyped, with·characters}
 use Rattle.block.specs.Sound.{Sound, gap·in}
+use Rattle.block.specs.declared.dimension.Dimensions.{Dimensions}
 use borrow.Author.Tests.{ne-eqb}
 use lib.ListN.{length}
 use mathlib.Core.Bool.{Bool, false, true≢false}

@@ -63,7 +63,7 @@ state-standard symbols gaps s i h =
     let m : ℕ = missing·sign DataType.Standard symbols in
     let b : ℕ = getD symbols i 0 in
     let there : among b symbols ≡ true = getD-among symbols i h in
-    rw (equal-eqb f refl b m, among-differ m b symbols (missing-free symbols gaps s) there, past-gap symbols gaps s b there, find-sign f refl symbols 0 i (symbols-distinct symbols gaps s) h, zero-add i) refl
+    rw (equal-eqb f refl m b, eqb-sym m b, among-differ m b symbols (missing-free symbols gaps s) there, past-gap symbols gaps s b there, find-sign f refl symbols 0 i (symbols-distinct symbols gaps s) h, zero-add i) refl
 
 missing-standard : (symbols : List ℕ) (gaps : Bool) → cell (form·of DataType.Standard symbols gaps) (missing·sign DataType.Standard symbols) ≡ some missing
 unfolding cell form·of pick
@@ -79,7 +79,7 @@ gap-standard symbols true s e =
     let f : Format = form·of DataType.Standard symbols true in
     let m : ℕ = missing·sign DataType.Standard symbols in
     let g : ℕ = gap·sign DataType.Standard symbols in
-    rw (equal-eqb f refl g m, or-left (eqb g m) (among g symbols) (gap-free symbols s), equal-eqb f refl g g, eqb-same g) refl
+    rw (equal-eqb f refl m g, eqb-sym m g, or-left (eqb g m) (among g symbols) (gap-free symbols s), equal-eqb f refl g g, eqb-same g) refl
 
 -- DNA
 state-dna : (gaps : Bool) (i : ℕ) → i < length acgt → cell (form·of DataType.Dna acgt gaps) (sign acgt i) ≡ some (state i)

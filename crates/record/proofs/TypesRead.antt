@@ -1,6 +1,6 @@
 -- The types of a written form's characters are read: all unordered, or a VECTOR in ASSUMPTIONS. Assumes nothing.
 use Prim.Native.Nat.{ℕ, suc}
-use Rattle.block.specs.Blocks.{State, outside, in·assumptions, in·phase, begin·assumptions, begin·block, begin·words, step, outside?, block·step, ends, inner·step, assumption·step, end·block, with·types, retyped, unordered, ordered?, has·ordered}
+use Rattle.block.specs.Blocks.{State, outside, in·assumptions, in·phase, begin·assumptions, begin·block, begin·words, step, outside?, block·step, ends, inner·step, characters·in, assumption·step, end·block, with·types, matrix·typed, retyped, unordered, ordered?, has·ordered}
 use Rattle.block.specs.Outcome.{done}
 use Rattle.block.specs.Reading.{Character, Reading}
 use Rattle.block.specs.Run.{run·text}
@@ -12,7 +12,7 @@ use Rattle.lexer.specs.Base.{given, empty?}
 use Rattle.lexer.specs.Tokens.{Token}
 use Rattle.record.proofs.CommandLaws.{at, Turns, end-turned, Reads, nothing-read, newline-read, command-read, Passes, here, there, words·from}
 use Rattle.record.proofs.FormTokens.{word, key, mark, types·tokens, assumptions·tokens}
-use Rattle.record.proofs.LabelsRead.{states·given, labels·of}
+use Rattle.record.proofs.LabelsRead.{if·any, labels·of}
 use Rattle.record.specs.Spell.{order·word}
 use borrow.Author.Tests.{eq-eqb}
 use lib.ListN.{length}
@@ -30,10 +30,11 @@ types·of (c ∷ r) = some (c .ordering) ∷ types·of r
 abbrev pub untyped : List Character → List Character
 untyped cs = unordered (labels·of cs)
 
-states-back : (s : List (List ℕ)) → Option·getD (states·given s) [] ≡ s
-unfolding states·given
-states-back [] = refl
-states-back (a ∷ s) = refl
+module _ {A : Type 0} where
+  any-back : (s : List A) → Option·getD (if·any s) [] ≡ s
+  unfolding if·any
+  any-back [] = refl
+  any-back (a ∷ s) = refl
 
 unordered-back : (o : CharacterOrdering) → ordered? o ≡ false → CharacterOrdering.Unordered ≡ o
 unfolding ordered?
@@ -44,13 +45,13 @@ pub untyped-back : (cs : List Character) → has·ordered cs ≡ false → untyp
 unfolding unordered labels·of has·ordered
 untyped-back [] h = refl
 untyped-back (c ∷ r) h =
-    rw (states-back (c .states), unordered-back (c .ordering) (or-left (ordered? (c .ordering)) (has·ordered r) h), untyped-back r (or-right (ordered? (c .ordering)) (has·ordered r) h))
+    rw (any-back (c .label), any-back (c .states), unordered-back (c .ordering) (or-left (ordered? (c .ordering)) (has·ordered r) h), untyped-back r (or-right (ordered? (c .ordering)) (has·ordered r) h))
     refl
 
 typed-back : (cs : List Character) → retyped CharacterOrdering.Unordered (types·of cs) (untyped cs) ≡ cs
 unfolding unordered labels·of retyped types·of
 typed-back [] = refl
-typed-back (c ∷ r) = rw (states-back (c .states), typed-back r) refl
+typed-back (c ∷ r) = rw (any-back (c .label), any-back (c .states), typed-back r) refl
 
 untyped-length : (cs : List Character) → length (untyped cs) ≡ length cs
 unfolding unordered labels·of
@@ -114,7 +115,7 @@ abbrev pub behind·blocks : Reading → Bool → State
 behind·blocks r b = record { phase = outside; taxa = none; matrix = some r; assumptions = b }
 
 abbrev in·types : ℕ → Reading → Option Types → State
-in·types b r set = record { phase = in·assumptions b r none set; taxa = none; matrix = some r; assumptions = false }
+in·types b r set = record { phase = in·assumptions b none set; taxa = none; matrix = some r; assumptions = false }
 
 begin-read : (u : Reading) {t : State} {rest : List Token} → ((b : ℕ) → Reads (in·types b u none) rest t)
     → Reads (behind·blocks u false) (key "BEGIN" ∷ key "ASSUMPTIONS" ∷ mark 59 ∷ rest) t
@@ -124,7 +125,7 @@ begin-read u r = command-read (key "BEGIN") refl refl (there (key "ASSUMPTIONS")
 types-read : (b : ℕ) (r : Reading) (cs : List Character) {t : State} {rest : List Token} → empty? cs ≡ false
     → Reads (in·types b (with·characters r (untyped cs)) (some (types·of cs))) rest t
     → Reads (in·types b (with·characters r (untyped cs)) none) (key "TYPESET" ∷ typeset·words cs rest) t
-unfolding words·from step outside? block·step ends inner·step assumption·step given in·phase
+unfolding words·from step outside? block·step ends inner·step characters·in assumption·step given in·phase
 types-read b r cs {rest = rest} h more =
     command-read (key "TYPESET") refl refl (typeset-passes cs rest)
     (λ i. (
@@ -135,7 +136,7 @@ types-read b r cs {rest = rest} h more =
 
 end-read : (b : ℕ) (r : Reading) {t : State} {rest : List Token} → Reads (behind·blocks r true) rest t
     → Reads (in·types b (with·characters r (untyped (r .characters))) (some (types·of (r .characters)))) (key "END" ∷ mark 59 ∷ rest) t
-unfolding words·from step outside? block·step ends end·block with·types empty?
+unfolding words·from step outside? block·step ends end·block matrix·typed with·types empty?
 end-read b r more = command-read (key "END") refl refl here (λ i. (behind·blocks r true, rw (typed-back (r .characters)) refl, more))
 
 pub assumptions-read : (r : Reading) → empty? (r .characters) ≡ false

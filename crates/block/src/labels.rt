@@ -1,0 +1,7 @@
+// The label commands, after mod.rs.
+
+pub enum Labelling {
+    CharLabels,
+    StateLabels,
+    CharStateLabels,
+}
