@@ -1,6 +1,7 @@
 -- The taxa of a reading follow the declared order: what TAXLABELS declared before the MATRIX of the text, or the rows as they come. Assumes nothing.
-use Prim.Native.Nat.{ℕ}
+use Prim.Native.Nat.{ℕ, zero, suc}
 use Rattle.block.proofs.BlocksKept.{Claims, Block, Brings, Kept, kept-map, step-kept, start-kept}
+use Rattle.block.proofs.ChunkSound.{none-some, some-inj}
 use Rattle.block.proofs.DeclaredHeld.{declares-holds}
 use Rattle.block.proofs.FormatSound.{Good, format-good}
 use Rattle.block.proofs.MatrixParts.{matrix-parts}
@@ -8,20 +9,24 @@ use Rattle.block.proofs.MatrixSound.{whole-long, default-formatted, row
 use Rattle.block.proofs.NamesSound.{token-named, all-named}
 use Rattle.block.proofs.OutcomeLaws.{members, Opt, fold-history}
 use Rattle.block.proofs.ReadCommands.{read-finished}
-use Rattle.block.specs.Blocks.{Data, in·data, State, at·start, step, matrix, with·types}
+use Rattle.block.specs.Blocks.{Data, in·data, State, at·start, step, declared·count, agrees, matrix, with·types}
 use Rattle.block.specs.Commands.{Command, command, words}
 use Rattle.block.specs.Outcome.{done, fold}
 use Rattle.block.specs.Parse.{reading, read}
 use Rattle.block.specs.Reading.{Taxon, Reading}
 use Rattle.block.specs.Sequential.{names}
 use Rattle.block.specs.TaxonOrder.{commands·of, Token·named, Declares, Matrix·of, Follows}
+use Rattle.lexer.proofs.Basics.{and-left}
 use Rattle.lexer.specs.Base.{bytes}
-use Rattle.lexer.specs.Words.{Numbered, is}
-use mathlib.Core.Bool.{true}
+use Rattle.lexer.specs.Words.{Numbered, is, largest}
+use borrow.Author.Tests.{eqb-true}
+use lib.Dec.{eqb, leb}
+use lib.ListN.{length}
+use mathlib.Core.Bool.{true, false, true≢false}
 use mathlib.Core.List.{List, [], _∷_, _++_, append-assoc, List·Memᴰ}
 use mathlib.Core.Logic.{_↔_}
-use mathlib.Core.Option.{some}
-use mathlib.Core.Path.{_≡_, refl, ap, _∙_, subst}
+use mathlib.Core.Option.{Option, none, some}
+use mathlib.Core.Path.{_≡_, refl, sym, ap, _∙_, subst}
 
 -- A MATRIX command among these whose rows the taxa of the reading follow.
 pub record Following (cs : List Command) (r : Reading) : Type 0 where
@@ -68,6 +73,8 @@ module _ (cs : List Command) (c : Command) where
         shaped = m .shaped;
         rows = m .rows;
         read = m .read;
+        as·ntax = m .as·ntax;
+        as·names = m .as·names;
         long = m .long;
         named = m .named;
         declared = m .declared;
@@ -79,6 +86,18 @@ module _ (cs : List Command) (c : Command) where
 
   kept-later : (s : State) → Kept (come·from cs) s → Kept (come·from (cs ++ (c ∷ []))) s
   kept-later s k = kept-map (come·from cs) (come·from (cs ++ (c ∷ []))) (record { dimensions = λ d p. p; names = declares-later; format = λ f p. p; labels = λ l p. p; reading = following-later }) s k
+
+-- NTAX, where it is given, is the count of the rows, and declared names are as many as the rows.
+count-given : (declared : Option (List (List ℕ))) (n : ℕ) → eqb n 0 ≡ false → declared·count declared n ≡ n
+unfolding declared·count
+count-given none n h = refl
+count-given (some names) zero h = absurd (true≢false h)
+count-given (some names) (suc n) h = refl
+
+names-counted : (declared : Option (List (List ℕ))) (n : ℕ) → agrees declared n ≡ true → (ns : List (List ℕ)) → declared ≡ some ns → n ≡ length ns
+unfolding agrees
+names-counted none n h ns e = none-some ns e
+names-counted (some names) n h ns e = sym (eqb-true (length names) n (and-left (eqb (length names) n) (leb n largest) h)) ∙ ap length (some-inj e)
 
 -- The next command brings in names that it declares, and a matrix with the rows that it holds.
 module _ (before : List Command) (s : State) (reached : fold step at·start before ≡ done s) (k : Kept (come·from before) s) (h : Numbered) (raw : List Numbered) where
@@ -116,6 +135,8 @@ module _ (before : List Command) (s : State) (reached : fold step at·start befo
               shaped = p .by;
               rows = p .taken;
               read = p .read;
+              as·ntax = λ e. m .counted ∙ p .shaped .counted ∙ count-given (d .taxa) (p .dimensions .taxa) e;
+              as·names = λ ns e. m .counted ∙ names-counted (d .taxa) (p .shape .taxa) (p .shaped .agreed) ns e;
               long = rw (← p .shaped .sized) (whole-long (p .shape .format) (p .shape .characters) (p .taken) (m .rowed .whole));
               named = all-named raw (names (p .taken)) (m .rowed .named .each);
               declared = declared b d at;

@@ -1,5 +1,7 @@
 -- The order of the taxa, and where names come from, as statements about a text's commands and tokens.
 use Prim.Native.Nat.{ℕ}
+use lib.Dec.{eqb}
+use lib.ListN.{length}
 use mathlib.Core.Bool.{Bool, true, false}
 use mathlib.Core.List.{List, [], _∷_, _++_, List·Memᴰ}
 use mathlib.Core.Logic.{_↔_}
@@ -81,6 +83,9 @@ pub record Matrix·of (cs : List Command) : Type 0 where
   pub shaped : matrix·shape block·data dimensions (head .index) ≡ done shape
   pub rows : List Taxon
   pub read : Blocks.rows shape raw ≡ done rows
+  -- there are as many rows as NTAX says, where it is given, and as many as declared names, where there are such
+  pub as·ntax : eqb (dimensions .taxa) 0 ≡ false → length rows ≡ dimensions .taxa
+  pub as·names : (ns : List (List ℕ)) → block·data .taxa ≡ some ns → length rows ≡ length ns
   -- every row has NCHAR cells, and its name is that of one of the command's tokens
   pub long : all·long (dimensions .characters) rows ≡ true
   pub named : all·named raw (names rows)

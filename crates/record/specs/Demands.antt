@@ -29,7 +29,7 @@ Every·reading·is·sound = (text : List ℕ) (r : Reading) → Reads text r →
 
 -- Demand 2. Rows follow any declared order: the k-th taxon has the k-th declared name, with the cells of the row of that name. Names are
 -- declared exactly where a TAXLABELS command before MATRIX declares them (`Matrix·of`); where none does, taxa are the rows as they come.
--- Every row has NCHAR cells and the name of a token of MATRIX.
+-- There are as many rows as NTAX or the declared names say; every row has NCHAR cells and the name of a token of MATRIX.
 abbrev pub Taxa·follow·the·declaration : Type 0
 Taxa·follow·the·declaration =
     (text : List ℕ) (r : Reading) → Reads text r → (m : Matrix·of (commands·of text)) × Follows (m .block·data .taxa) (m .rows) (r .taxa)
