@@ -21,5 +21,6 @@ pub mod RisingLaws
 pub mod RowsSmall
 pub mod RowsSound
 pub mod SoundParts
+pub mod SymbolWalk
 pub mod TaxaFollow
 pub mod Weights

@@ -4,8 +4,10 @@ pub mod Commands
 pub mod Names
 pub mod Dimensions
 pub mod Cell
+pub mod Cells
 pub mod Dna
 pub mod Format
+pub mod Formats
 pub mod Chunk
 pub mod Reading
 pub mod Sequential

@@ -1,6 +1,15 @@
-// After data.rs: what kind of matrix a text has.
+// After data.rs: what kind of matrix a text has, and what one symbol of it is.
 
 pub enum DataType {
     Standard,
     Dna,
+}
+
+// A state by its index; the states that a code of DNA allows, a bit for each; missing; a gap; or no cell.
+pub enum Cell {
+    State(usize),
+    Uncertain(u8),
+    Missing,
+    Gap,
+    None,
 }

@@ -1,4 +1,16 @@
-// FORMAT, after mod.rs.
+// FORMAT, after mod.rs: how cells are written.
+
+ghost use Rattle.block.specs.Cells.{cell·of, index·of};
+ghost use Rattle.block.specs.Chunk.{cell, state·of, state·or·code};
+ghost use Rattle.block.specs.Format.{default·format, equal, valid·symbol};
+ghost use Rattle.block.specs.Formats.{meant};
+ghost use Prim.Native.Nat.{_≤_};
+ghost use lib.ListN.{length};
+ghost use mathlib.Core.Path.{_≡_};
+use super::alignment::dna_cell;
+use super::data::Cell;
+use super::data::DataType;
+use lexer::lower;
 
 // An option by its word.
 pub enum Key {
@@ -20,4 +32,83 @@ pub enum Valued {
     Symbols,
     Missing,
     Gap,
+}
+
+// How cells are written: of the symbols so many are the states; the gap is 0 where there is none.
+pub struct Format {
+    pub data_type: DataType,
+    pub symbols: [u8; 74],
+    pub count: usize,
+    pub missing: u8,
+    pub gap: u8,
+    pub respect_case: bool,
+    pub interleave: bool,
+}
+
+// A state by its index, or none.
+pub enum Index {
+    At(usize),
+    None,
+}
+
+impl Format {
+    // At most so many symbols can stand together.
+    pub const MOST: usize = 74;
+    // Without MISSING, and for DNA without GAP.
+    pub const MISSING: u8 = 63;
+
+    pub const DNA_GAP: u8 = 45;
+
+    // Without FORMAT: STANDARD, symbols 01, missing `?`, no gap, case ignored, not interleaved.
+    pub fn default() -> Self
+        ensures { λ r. ⌜ meant r ≡ default·format ⌝ }
+    {
+        let mut symbols = [0u8; 74];
+        symbols[0] = 48;
+        symbols[1] = 49;
+        Format {
+            data_type: DataType::Standard,
+            symbols,
+            count: 2,
+            missing: Format::MISSING,
+            gap: 0,
+            respect_case: false,
+            interleave: false,
+        }
+    }
+
+    // Two symbols are equal if the bytes are, or ignoring ASCII case unless RESPECTCASE was given.
+    pub fn equal(self, a: u8, b: u8) -> bool
+        ensures { λ r. ⌜ r ≡ equal (meant self) a b ⌝ }
+    {
+        (a == b) | (!self.respect_case & (lower(a) == lower(b)))
+    }
+
+    // How many states there are.
+    pub fn states(self) -> usize
+        ensures { λ r. ⌜ (r ≡ length (meant self .symbols)) × (r ≤ 74) ⌝ }
+    {
+        let count = self.count;
+        if count < 74 {
+            return count;
+        }
+        74
+    }
+
+    // The state that a symbol is.
+    pub fn state(self, symbol: u8) -> Index
+        ensures { λ r. ⌜ index·of r ≡ state·of (meant self) symbol ⌝ }
+    {
+        let symbols = self.symbols;
+        let count = self.states();
+        let mut i = 0;
+        while i < count {
+            let s = symbols[i];
+            if self.equal(s, symbol) {
+                return Index::At(i);
+            }
+            i += 1;
+        }
+        Index::None
+    }
 }

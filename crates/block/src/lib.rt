@@ -1,5 +1,6 @@
 // Tokens to a reading, or the refusal of the first fault. The types that the definitions share; what they mean stands in specs/.
 
+pub mod alignment;
 pub mod assumptions;
 pub mod data;
 pub mod dimension;

@@ -21,7 +21,7 @@ use super::token::next_byte;
 use super::token::text_start;
 
 // An ASCII capital as its small letter; any other byte is itself.
-fn lower(b: u8) -> u8
+pub fn lower(b: u8) -> u8
     ensures { λ r. ⌜ r ≡ lower b ⌝ }
 {
     if (65 <= b) & (b <= 90) {
@@ -107,7 +107,7 @@ fn second_ahead(text: &[u8], c: Cursor) -> u8
 }
 
 // Is a byte before what is left of the text one of a blank?
-fn blank_byte(text: &[u8], b: u8, c: Cursor) -> bool
+pub fn blank_byte(text: &[u8], b: u8, c: Cursor) -> bool
     ensures { λ r. ⌜ r ≡ (space? (symbol b (left (now (text .entry)) c)) || part? (symbol b (left (now (text .entry)) c))) ⌝ }
 {
     if b < 192 {

@@ -10,9 +10,11 @@ mod scanning;
 mod token;
 mod utf8;
 
+pub use label::blank_byte;
 pub use label::is_at;
 pub use label::is_label;
 pub use label::labels_alike;
+pub use label::lower;
 pub use label::number_at;
 pub use label::punct_at;
 pub use lexer_of::place_at;
