@@ -20,6 +20,7 @@ pub mod ReadingSound
 pub mod RisingLaws
 pub mod RowsSmall
 pub mod RowsSound
+pub mod ShapeLaws
 pub mod SoundParts
 pub mod SymbolWalk
 pub mod TaxaFollow

@@ -9,6 +9,8 @@ pub mod Dna
 pub mod Format
 pub mod Formats
 pub mod Chunk
+pub mod Codes
+pub mod RowShape
 pub mod Reading
 pub mod Sequential
 pub mod Interleaved

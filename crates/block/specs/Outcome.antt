@@ -14,6 +14,11 @@ module _ {A B : Type 0} where
   then (done a) f = f a
   then (refused n i) f = refused n i
 
+  -- A value as something else.
+  unfoldable pub mapped : (A → B) → Outcome A → Outcome B
+  mapped f (done a) = done (f a)
+  mapped f (refused n i) = refused n i
+
 module _ {S W : Type 0} where
   -- One turn for each word, from the front, up to the first refusal.
   unfoldable pub fold : (S → W → Outcome S) → S → List W → Outcome S

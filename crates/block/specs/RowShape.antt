@@ -1,0 +1,47 @@
+-- A row by its shape alone, as the code keeps it while a matrix is judged: how many cells it has, and what is open.
+use Prim.Native.Nat.{ℕ, _+_}
+use lib.Dec.{eqb}
+use lib.ListN.{length}
+use mathlib.Core.Bool.{Bool, true, false, _&&_, _||_}
+use mathlib.Core.List.{List, []}
+use Rattle.lexer.specs.Base.{pick, empty?, byte}
+use Rattle.lexer.specs.Words.{Numbered, punct, word?}
+use Rattle.lexer.specs.declared.refusal.Refusal.{Refusal}
+use Rattle.block.specs.Chunk.{Row, plain, within, closer}
+use Rattle.block.specs.Codes.{coded}
+use Rattle.block.specs.Outcome.{Outcome, done, refused}
+use Rattle.block.specs.declared.matrix.Bracket.{Bracket}
+use Rattle.block.specs.declared.matrix.Cells.{Cells}
+use Rattle.block.specs.declared.matrix.Chunk.{Chunk}
+
+-- The shape of a row.
+unfoldable pub shape : Row → Chunk
+shape (plain cells) = Chunk.Plain (length cells)
+shape (within cells k i set) = Chunk.Within (length cells) k i (empty? set)
+
+-- The symbols of a word. Besides a word only the mark `+` can be a symbol.
+unfoldable pub symbols·coded : List ℕ → Numbered → Cells
+symbols·coded codes w =
+    let cells = coded codes 0 true (w .token .text) in
+    pick (word? (w .token .kind) || punct (byte "+") w) cells Cells.Wrong
+
+-- A row of so many cells behind a word.
+unfoldable pub plain·with : ℕ → ℕ → Cells → Outcome Chunk
+plain·with n i (Cells.Some k states) = done (Chunk.Plain (n + k))
+plain·with n i Cells.Wrong = refused Refusal.CellSymbol i
+
+-- A set behind a word: only states may stand in it.
+unfoldable pub within·with : ℕ → Bracket → ℕ → Bool → ℕ → Cells → Outcome Chunk
+within·with n k mark none i (Cells.Some c states) = pick states (done (Chunk.Within n k mark (none && eqb c 0))) (refused Refusal.StateSet i)
+within·with n k mark none i Cells.Wrong = refused Refusal.CellSymbol i
+
+-- The shape of a row with one token more.
+unfoldable pub chunk·shape : List ℕ → Chunk → Numbered → Outcome Chunk
+chunk·shape codes (Chunk.Plain n) w =
+    let more = plain·with n (w .index) (symbols·coded codes w) in
+    pick (punct (byte "{") w) (done (Chunk.Within n Bracket.Brace (w .index) true))
+    (pick (punct (byte "(") w) (done (Chunk.Within n Bracket.Parenthesis (w .index) true))
+    more)
+chunk·shape codes (Chunk.Within n k mark none) w =
+    let more = within·with n k mark none (w .index) (symbols·coded codes w) in
+    pick (punct (closer k) w) (pick none (refused Refusal.StateSet mark) (done (Chunk.Plain (n + 1)))) more
