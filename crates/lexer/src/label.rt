@@ -11,10 +11,11 @@ ghost use lib.Dec.{eqb, leb};
 ghost use lib.ListN.{length, getD};
 ghost use mathlib.Core.Bool.{_||_};
 ghost use mathlib.Core.Path.{_≡_};
+use super::Class;
 use super::Cursor;
 use super::Item;
 use super::Kind;
-use super::classes::class_number;
+use super::classes::class_of;
 use super::classes::wide_bytes;
 use super::token::kind_at;
 use super::token::next_byte;
@@ -110,11 +111,13 @@ fn second_ahead(text: &[u8], c: Cursor) -> u8
 fn blank_byte(text: &[u8], b: u8, c: Cursor) -> bool
     ensures { λ r. ⌜ r ≡ (space? (symbol b (left (now (text .entry)) c)) || part? (symbol b (left (now (text .entry)) c))) ⌝ }
 {
-    if b < 192 {
-        let class = class_number(b);
-        return (class < 2) | (class == 6);
+    if 192 <= b {
+        return wide_bytes(b, byte_ahead(text, c), second_ahead(text, c));
     }
-    wide_bytes(b, byte_ahead(text, c), second_ahead(text, c))
+    match class_of(b) {
+        Class::Newline | Class::Blank | Class::Part => true,
+        _ => false,
+    }
 }
 
 // Is what is left of the text all White_Space?
