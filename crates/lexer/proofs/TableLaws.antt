@@ -5,7 +5,7 @@ use Rattle.lexer.proofs.Basics.{by-test}
 use Rattle.lexer.specs.Tables.{tabulated}
 use borrow.Author.Tests.{eqb-true, eqb-false}
 use lib.Dec.{eqb}
-use lib.ListN.{length, getD, set, length-set}
+use lib.ListN.{length, getD, set}
 use lib.Seq.{getD-set-same, getD-set-other, ext-getD}
 use mathlib.Core.List.{List, [], _∷_}
 use mathlib.Core.Path.{_≡_, refl, sym, ap, _∙_}
@@ -43,3 +43,22 @@ chart-at f b d h =
     let within : b % 16 < 16 = omega arith in
     let whole : b / 16 * 16 + b % 16 ≡ b = omega arith in
     rw (tabulated-at (row f) 16 (b / 16) [] (omega arith)) (tabulated-from f (b / 16 * 16) 16 (b % 16) d within ∙ ap f whole)
+
+-- A table that is filled by a rule up to an index: nothing at the start, one entry more with each store, and in the end it is what the rule gives.
+pub record Filled {X : Type 0} (f : ℕ → X) (d : X) (table : List X) (i : ℕ) : Type 0 where
+  pub entry : (k : ℕ) → k < i → getD table k d ≡ f k
+
+module _ {X : Type 0} (f : ℕ → X) (d : X) (table : List X) where
+  pub filled-start : Filled f d table 0
+  filled-start = record { entry = λ k h. absurd (omega arith) }
+
+  pub filled-turn : (i : ℕ) → Filled f d table i → i < length table → Filled f d (set table i (f i)) (i + 1)
+  filled-turn i s h = record { entry = λ k lt. by-test (eqb k i) (λ t. rw (eqb-true k i t) (getD-set-same table i (f i) d h)) (λ n. earlier k lt (eqb-false k i n)) }
+    where
+      earlier : (k : ℕ) → k < i + 1 → (k ≡ i → ⊥) → getD (set table i (f i)) k d ≡ f k
+      earlier k lt ne = getD-set-other table i k (f i) d ne ∙ s .entry k (omega (arith, ne))
+
+  pub filled-end : (n : ℕ) → Filled f d table n → length table ≡ n → table ≡ tabulated f 0 n
+  filled-end n s e =
+      ext-getD d table (tabulated f 0 n) (e ∙ sym (tabulated-length f 0 n))
+      (λ k lt. let h : k < n = omega arith in s .entry k h ∙ sym (tabulated-at f n k d h))

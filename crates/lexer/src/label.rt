@@ -1,14 +1,14 @@
-// What the token that begins at a byte can be taken for: a keyword, a punctuation mark, a name, a number.
+// What the token that begins at a byte can be taken for: a keyword, a punctuation mark, a newline, a name, a number. Past the end of the text there
+// is a word without bytes.
 
-ghost use Prim.Native.Nat.{_<_, _+_};
 ghost use Rattle.lexer.specs.Base.{pick, lower, alike, given, empty?};
 ghost use Rattle.lexer.specs.Bytes.{left};
 ghost use Rattle.lexer.specs.Classes.{symbol, space?, part?, blank};
 ghost use Rattle.lexer.specs.Lexing.{token·at, word·at};
-ghost use Rattle.lexer.specs.Words.{is, punct, label, spaced, digits, largest, positive};
+ghost use Rattle.lexer.specs.Words.{is, punct, line·end?, label, spaced, digits, largest, number};
 ghost use Rattle.lexer.specs.declared.Cursor.{Cursor};
 ghost use lib.Dec.{eqb, leb};
-ghost use lib.ListN.{length, getD};
+ghost use lib.ListN.{getD};
 ghost use mathlib.Core.Bool.{_||_};
 ghost use mathlib.Core.Path.{_≡_};
 use super::Class;
@@ -22,7 +22,7 @@ use super::token::next_byte;
 use super::token::text_start;
 
 // An ASCII capital as its small letter; any other byte is itself.
-fn lower(b: u8) -> u8
+pub fn lower(b: u8) -> u8
     ensures { λ r. ⌜ r ≡ lower b ⌝ }
 {
     if (65 <= b) & (b <= 90) {
@@ -67,7 +67,6 @@ fn text_is(text: &[u8], c: Cursor, key: &[u8]) -> bool
 
 // Is the token this keyword?
 pub fn is_at(text: &[u8], start: usize, key: &[u8]) -> bool
-    requires { ⌜ start < length (now text) ⌝ }
     ensures { λ r. ⌜ r ≡ is (now (key .entry)) (word·at (now (text .entry)) start) ⌝ }
 {
     match kind_at(text, start) {
@@ -78,11 +77,20 @@ pub fn is_at(text: &[u8], start: usize, key: &[u8]) -> bool
 
 // Is the token this punctuation mark?
 pub fn punct_at(text: &[u8], start: usize, b: u8) -> bool
-    requires { ⌜ start < length (now text) ⌝ }
     ensures { λ r. ⌜ r ≡ punct b (word·at (now (text .entry)) start) ⌝ }
 {
     match kind_at(text, start) {
         Kind::Punctuation(m) => m == b,
+        _ => false,
+    }
+}
+
+// Is the token a newline?
+pub fn newline_at(text: &[u8], start: usize) -> bool
+    ensures { λ r. ⌜ r ≡ line·end? (token·at (now (text .entry)) start .kind) ⌝ }
+{
+    match kind_at(text, start) {
+        Kind::Newline => true,
         _ => false,
     }
 }
@@ -108,7 +116,7 @@ fn second_ahead(text: &[u8], c: Cursor) -> u8
 }
 
 // Is a byte before what is left of the text one of a blank?
-fn blank_byte(text: &[u8], b: u8, c: Cursor) -> bool
+pub fn blank_byte(text: &[u8], b: u8, c: Cursor) -> bool
     ensures { λ r. ⌜ r ≡ (space? (symbol b (left (now (text .entry)) c)) || part? (symbol b (left (now (text .entry)) c))) ⌝ }
 {
     if 192 <= b {
@@ -142,7 +150,6 @@ fn blank_text(text: &[u8], c: Cursor) -> bool
 
 // Is the token a name?
 pub fn is_label(text: &[u8], start: usize) -> bool
-    requires { ⌜ start < length (now text) ⌝ }
     ensures { λ r. ⌜ r ≡ given (label (word·at (now (text .entry)) start)) ⌝ }
 {
     match kind_at(text, start) {
@@ -190,7 +197,6 @@ fn texts_alike(text: &[u8], x: Cursor, y: Cursor) -> bool
 
 // Are two tokens the same name?
 pub fn labels_alike(text: &[u8], a: usize, b: usize) -> bool
-    requires { ⌜ (a < length (now text)) × (b < length (now text)) ⌝ }
     ensures { λ r. ⌜ r ≡ alike (spaced (token·at (now (text .entry)) a .text)) (spaced (token·at (now (text .entry)) b .text)) ⌝ }
 {
     texts_alike(text, text_start(text, a), text_start(text, b))
@@ -225,8 +231,7 @@ fn digits_value(text: &[u8], c: Cursor) -> u64
 
 // The positive number that the token spells, or 0.
 pub fn number_at(text: &[u8], start: usize) -> u64
-    requires { ⌜ start < length (now text) ⌝ }
-    ensures { λ r. ⌜ r ≡ positive (token·at (now (text .entry)) start .text) ⌝ }
+    ensures { λ r. ⌜ r ≡ number (word·at (now (text .entry)) start) ⌝ }
 {
     let c = text_start(text, start);
     match next_byte(text, c) {

@@ -10,9 +10,12 @@ mod scanning;
 mod token;
 mod utf8;
 
+pub use label::blank_byte;
 pub use label::is_at;
 pub use label::is_label;
 pub use label::labels_alike;
+pub use label::lower;
+pub use label::newline_at;
 pub use label::number_at;
 pub use label::punct_at;
 pub use lexer_of::place_at;
@@ -21,6 +24,7 @@ pub use refusal::Refusal;
 pub use refusal::refusal_number;
 pub use token::kind_at;
 pub use token::next_byte;
+pub use token::start_of;
 pub use token::text_start;
 
 // The class of a byte by itself, one for each of the 256.
