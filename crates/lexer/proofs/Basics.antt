@@ -83,6 +83,10 @@ module _ {X : Type 0} where
   by-test true t f = t refl
   by-test false t f = f refl
 
+  pub pick-first : (b : Bool) (x y : X) → b ≡ true → pick b x y ≡ x
+  unfolding pick
+  pick-first b x y h = rw h
+
   pub pick-second : (b : Bool) (x y : X) → b ≡ false → pick b x y ≡ y
   unfolding pick
   pick-second b x y h = rw h

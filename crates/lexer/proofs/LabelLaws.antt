@@ -1,19 +1,41 @@
--- What a name is, once `_` is read as a blank: UTF-8 without `_` and CR, and not all White_Space unless it holds a U+0020. Assumes nothing.
+-- When a token is a name; and what a name is, once `_` is read as a blank: UTF-8 without `_` and CR, and not all White_Space unless it holds a U+0020. Assumes nothing.
 use Prim.Native.Nat.{ℕ, zero, suc, _≤_}
-use Rattle.lexer.proofs.Basics.{by-test, and-left, and-right, or-left, or-right, or-both, or-true, or-first, picked, picked-value}
+use Rattle.lexer.proofs.Basics.{by-test, and-left, and-right, or-left, or-right, or-both, or-true, or-first, pick-first, pick-second, picked, picked-value}
 use Rattle.lexer.proofs.TextUtf8.{behind}
 use Rattle.lexer.proofs.TokensClean.{clean-text}
-use Rattle.lexer.specs.Base.{pick, among}
+use Rattle.lexer.specs.Base.{pick, given, among}
 use Rattle.lexer.specs.Classes.{blank}
 use Rattle.lexer.specs.Utf8.{utf8, utf8·from}
 use Rattle.lexer.specs.Words.{Numbered, label, spaced, word?, quoted?}
 use borrow.Author.Tests.{leb-true, eqb-true, eqb-false, ne-eqb, not-true}
 use lib.Dec.{eqb, leb, lit≤}
-use mathlib.Core.Bool.{true, false, _&&_, _||_, not, true≢false}
+use mathlib.Core.Bool.{Bool, true, false, _&&_, _||_, not, true≢false}
 use mathlib.Core.List.{List, [], _∷_}
-use mathlib.Core.Option.{some}
-use mathlib.Core.Path.{_≡_, refl, sym, ap}
+use mathlib.Core.Option.{none, some}
+use mathlib.Core.Path.{_≡_, refl, sym, ap, _∙_}
 use native.Mathlib.Omega.{arith}
+
+-- A token is a name by its kind and its text: then the name is its text with blanks for `_`.
+given-pick : {X : Type 0} (t : Bool) (x : X) → given (pick t (some x) none) ≡ t
+unfolding given pick
+given-pick true x = refl
+given-pick false x = refl
+
+module _ (w : Numbered) where
+  abbrev named : Bool
+  named = (word? (w .token .kind) || quoted? (w .token .kind)) && not (blank (w .token .text))
+
+  pub label-given : given (label w) ≡ (word? (w .token .kind) || quoted? (w .token .kind)) && not (blank (w .token .text))
+  unfolding label
+  label-given = given-pick named (spaced (w .token .text))
+
+  pub label-some : given (label w) ≡ true → label w ≡ some (spaced (w .token .text))
+  unfolding label
+  label-some h = pick-first named (some (spaced (w .token .text))) none (sym label-given ∙ h)
+
+  pub label-none : given (label w) ≡ false → label w ≡ none
+  unfolding label
+  label-none h = pick-second named (some (spaced (w .token .text))) none (sym label-given ∙ h)
 
 -- The parts of a name that document 01 and the conditions of 31 speak of.
 pub record NameParts (n : List ℕ) : Type 0 where

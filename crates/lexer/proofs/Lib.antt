@@ -1,9 +1,12 @@
 -- What other crates may cite: laws of tests, lists and tables, and of what a text's tokens are.
 pub mod Basics
+pub mod KindTags
 pub mod LabelLaws
 pub mod LexedAnswers
 pub mod ListLaws
 pub mod NextBytes
+pub mod RangeLaws
+pub mod SmallBytes
 pub mod StoredLaws
 pub mod TableLaws
 pub mod TextUtf8
@@ -19,7 +22,6 @@ mod ClassLaws
 mod CommentBlocks
 mod EndTurns
 mod HeldText
-mod KindTags
 mod MarkLaws
 mod PlaceLaws
 mod QuotedBytes

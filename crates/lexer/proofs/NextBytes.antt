@@ -1,9 +1,10 @@
 -- A token's text by its cursors: at the front all of it is left; the next byte is the first of what is left, and the cursor behind it stands further
 -- on; where there is no next byte, nothing is left. Assumes nothing.
-use Prim.Native.Nat.{ℕ, _+_, _<_}
+use Prim.Native.Nat.{ℕ, _+_, _≤_, _<_}
+use Rattle.lexer.proofs.Basics.{by-test}
 use Rattle.lexer.proofs.ListLaws.{drop-next}
 use Rattle.lexer.proofs.QuotedBytes.{quoted-yields, string-yields, mark-yields}
-use Rattle.lexer.proofs.TokenParts.{here, text-symbol, front-symbol}
+use Rattle.lexer.proofs.TokenParts.{here, text-symbol, front-symbol, text-past, front-past}
 use Rattle.lexer.proofs.WordBytes.{word-yields}
 use Rattle.lexer.proofs.Yielded.{Yields, yields-end}
 use Rattle.lexer.specs.Base.{pick}
@@ -16,7 +17,9 @@ use Rattle.lexer.specs.declared.Cursor.{Cursor}
 use Rattle.lexer.specs.declared.Item.{Item}
 use Rattle.lexer.specs.declared.Mode.{Mode}
 use Rattle.lexer.specs.declared.Symbol.{Symbol}
-use lib.ListN.{length, getD, drop}
+use borrow.Author.Tests.{ltb-true, ltb-false}
+use lib.Dec.{ltb}
+use lib.ListN.{length, getD, drop, drop-of-length-le}
 use mathlib.Core.List.{List}
 use mathlib.Core.Path.{_≡_, refl}
 
@@ -35,11 +38,18 @@ front-text text i h Symbol.Punctuation e = rw (drop-next text i h)
 front-text text i h Symbol.Other e = rw (drop-next text i h, ← e)
 front-text text i h Symbol.Part e = rw (drop-next text i h)
 
-pub front-left : (text : List ℕ) (i : ℕ) (c : Cursor) → i < length text → c ≡ front·at text i → left text c ≡ token·at text i .text
-front-left text i c h e = rw e (go (symbol·at text i) refl)
+front-within : (text : List ℕ) (i : ℕ) → i < length text → left text (front·at text i) ≡ token·at text i .text
+front-within text i h = go (symbol·at text i) refl
   where
     go : (s : Symbol) → s ≡ symbol·at text i → left text (front·at text i) ≡ token·at text i .text
     go s is = rw (front-symbol text i h s is, text-symbol text i h s is) (front-text text i h s (here text i h s is))
+
+front-beyond : (text : List ℕ) (i : ℕ) → length text ≤ i → left text (front·at text i) ≡ token·at text i .text
+unfolding left rest·of first
+front-beyond text i h = rw (← front-past text i h, text-past text i h, drop-of-length-le text h)
+
+pub front-left : (text : List ℕ) (i : ℕ) (c : Cursor) → c ≡ front·at text i → left text c ≡ token·at text i .text
+front-left text i c e = rw e (by-test (ltb i (length text)) (λ t. front-within text i (ltb-true i (length text) t)) (λ f. front-beyond text i (ltb-false i (length text) f)))
 
 -- The next byte
 pub yielded : (text : List ℕ) (c : Cursor) (r : Item) → r ≡ next·item text c → Yields text (c .at) (left text c) r

@@ -14,10 +14,9 @@ use denote.Enum.Declared.{tagOf}
 use lib.ListN.{length, getD, drop, drop-of-length-le}
 use mathlib.Core.Bool.{true, false}
 use mathlib.Core.List.{List, [], _∷_}
-use mathlib.Core.Logic.{inl, inr}
 use mathlib.Core.Path.{_≡_, refl, _∙_}
 use native.Mathlib.Omega.{arith}
-use types.Run.{OneOf}
+use types.Run.{OneOf, miss}
 
 module _ (text : List ℕ) (i : ℕ) (h : i < length text) where
   next-is : (b : ℕ) → i + 1 < length text → getD text (i + 1) 0 ≡ b → next1 b (drop (i + 1) text) ≡ true
@@ -86,20 +85,15 @@ pub next-mode : (text : List ℕ) (c : Cursor) (m : Mode) → c .mode ≡ m → 
 unfolding next·item
 next-mode text c m e = rw e
 
-others : (n : ℕ) → OneOf (3 ∷ 5 ∷ 6 ∷ []) n → (n ≡ 4 → ⊥) × (3 ≤ n)
-others n (inl e) = (λ f. omega arith, omega arith)
-others n (inr (inl e)) = (λ f. omega arith, omega arith)
-others n (inr (inr e)) = (λ f. omega arith, omega arith)
-
 pub next-over : (text : List ℕ) (c : Cursor) → OneOf (3 ∷ 5 ∷ 6 ∷ []) (tagOf modes.the-type (c .mode)) → Item.End ≡ next·item text c
 unfolding next·item item·of
 next-over text c o = go (c .mode) o
   where
     go : (m : Mode) → OneOf (3 ∷ 5 ∷ 6 ∷ []) (tagOf modes.the-type m) → Item.End ≡ item·of m (c .at) (drop (c .at) text)
-    go Mode.Between o = let n = others 0 o in absurd (omega arith)
-    go Mode.Word o = let n = others 1 o in absurd (omega arith)
-    go Mode.Quoted o = let n = others 2 o in absurd (omega arith)
+    go Mode.Between o = absurd (miss (3 ∷ 5 ∷ 6 ∷ []) 0 tt o)
+    go Mode.Word o = absurd (miss (3 ∷ 5 ∷ 6 ∷ []) 1 tt o)
+    go Mode.Quoted o = absurd (miss (3 ∷ 5 ∷ 6 ∷ []) 2 tt o)
     go Mode.Closing o = refl
-    go Mode.String o = let n = others 4 o in absurd (n .0 refl)
+    go Mode.String o = absurd (miss (3 ∷ 5 ∷ 6 ∷ []) 4 tt o)
     go (Mode.Comment d) o = refl
     go (Mode.WordComment d) o = refl

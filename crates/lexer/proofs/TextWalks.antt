@@ -4,17 +4,16 @@ use Prim.Native.Nat.{ℕ, _+_, _*_, _-_, _≤_, _<_}
 use Rattle.lexer.proofs.BlankBytes.{blank-part}
 use Rattle.lexer.proofs.ListLaws.{drop-next}
 use Rattle.lexer.proofs.Yielded.{Yields·byte}
-use Rattle.lexer.specs.Base.{pick, given, alike, lower, empty?}
+use Rattle.lexer.specs.Base.{pick, alike, lower, empty?}
 use Rattle.lexer.specs.Bytes.{left}
 use Rattle.lexer.specs.Classes.{blank}
-use Rattle.lexer.specs.Words.{Numbered, word?, quoted?, label, spaced, digits, largest, unsigned, positive}
+use Rattle.lexer.specs.Words.{spaced, digits, largest, unsigned, positive}
 use Rattle.lexer.specs.declared.Cursor.{Cursor}
 use borrow.Author.Tests.{eq-eqb, ne-eqb, le-leb, lt-leb}
 use lib.Dec.{eqb, leb}
 use lib.ListN.{length, getD, drop, drop-of-length-le}
-use mathlib.Core.Bool.{Bool, true, false, _&&_, _||_, not}
+use mathlib.Core.Bool.{Bool, true, false, _&&_}
 use mathlib.Core.List.{List, [], _∷_}
-use mathlib.Core.Option.{none, some}
 use mathlib.Core.Path.{_≡_, refl, sym, _∙_}
 use native.Mathlib.Omega.{arith}
 
@@ -35,16 +34,6 @@ module _ (text : List ℕ) (c d : Cursor) (k : Blanking text c d) where
   pub blanking-end : left text d ≡ [] → true ≡ blank (left text c)
   unfolding blank
   blanking-end e = sym (rw e) ∙ k .rest
-
-given-pick : {X : Type 0} (t : Bool) (x : X) → given (pick t (some x) none) ≡ t
-unfolding given pick
-given-pick true x = refl
-given-pick false x = refl
-
--- whether a token is a name, by its kind and by that
-pub label-given : (w : Numbered) → given (label w) ≡ (word? (w .token .kind) || quoted? (w .token .kind)) && not (blank (w .token .text))
-unfolding label
-label-given w = given-pick ((word? (w .token .kind) || quoted? (w .token .kind)) && not (blank (w .token .text))) (spaced (w .token .text))
 
 -- Nothing is alike to a text of which nothing is left.
 alike-none : (l : List ℕ) → alike [] l ≡ empty? l

@@ -1,5 +1,5 @@
 -- The kind and the text of the token that begins at a byte, by the byte's symbol. Assumes nothing.
-use Prim.Native.Nat.{ℕ, _+_, _<_}
+use Prim.Native.Nat.{ℕ, _+_, _≤_, _<_}
 use Rattle.lexer.proofs.ListLaws.{drop-next}
 use Rattle.lexer.proofs.Symbol as tags
 use Rattle.lexer.proofs.SymbolTags.{numbered, tag-symbol}
@@ -13,7 +13,7 @@ use Rattle.lexer.specs.declared.Kind.{Kind}
 use Rattle.lexer.specs.declared.Mode.{Mode}
 use Rattle.lexer.specs.declared.Symbol.{Symbol}
 use denote.Enum.Declared.{tagOf}
-use lib.ListN.{length, getD, drop}
+use lib.ListN.{length, getD, drop, drop-of-length-le}
 use mathlib.Core.List.{List, [], _∷_}
 use mathlib.Core.Logic.{inl, inr}
 use mathlib.Core.Path.{_≡_, sym, _∙_}
@@ -90,3 +90,17 @@ module _ (text : List ℕ) (i : ℕ) (h : i < length text) (s : Symbol) (is : s 
   front-mark (inr (inr (inr (inl e)))) = sym (front-symbol ∙ rw (tag-symbol s 6 e))
   front-mark (inr (inr (inr (inr (inl e))))) = sym (front-symbol ∙ rw (tag-symbol s 7 e))
   front-mark (inr (inr (inr (inr (inr e))))) = sym (front-symbol ∙ rw (tag-symbol s 9 e))
+
+-- Past the end of the text there is a word without bytes.
+module _ (text : List ℕ) (i : ℕ) (past : length text ≤ i) where
+  pub kind-past : Kind.Word ≡ token·at text i .kind
+  unfolding token·at first·token
+  kind-past = rw (drop-of-length-le text past)
+
+  pub text-past : token·at text i .text ≡ []
+  unfolding token·at first·token
+  text-past = rw (drop-of-length-le text past)
+
+  pub front-past : cursor Mode.Between i ≡ front·at text i
+  unfolding front·at symbol·at first·symbol front·of newline? single? double? other? rank pick
+  front-past = rw (drop-of-length-le text past)

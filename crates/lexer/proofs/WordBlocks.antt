@@ -6,7 +6,7 @@ use Rattle.lexer.proofs.SymbolTags.{Continues}
 use Rattle.lexer.proofs.WordEnds.{Wording, resumed, word-goes-on}
 use Rattle.lexer.specs.ByteBlocks.{plain?, all·first, blocks·end}
 use Rattle.lexer.specs.Classes.{symbol·of, rank, open?, other?, part?}
-use Rattle.lexer.specs.Scanning.{class·number, word·end, goes·on}
+use Rattle.lexer.specs.Scanning.{word·end, goes·on}
 use Rattle.lexer.specs.declared.Class.{Class}
 use Rattle.lexer.specs.declared.Scan.{Scan}
 use Rattle.lexer.specs.declared.Symbol.{Symbol}
@@ -27,7 +27,7 @@ module _ (text : List ℕ) where
 
   -- from a plain byte and from the one behind it the word ends alike
   pub word-next : (i : ℕ) → i < length text → plain? (getD text i 0) ≡ true → end·from i ≡ end·from (i + 1)
-  unfolding class·number symbol·of
+  unfolding symbol·of
   word-next i h t = word-goes-on text i h Symbol.Other (symbol-at-class text i Class.Other h (plain-is-other (getD text i 0) t)) other-continues
 
   -- eight bytes, each with its test by another name

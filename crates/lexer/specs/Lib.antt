@@ -1,5 +1,6 @@
 -- The definitions of the lexer, to be read in this order.
 pub mod Base
+pub mod Tables
 pub mod Refusals
 pub mod Utf8
 pub mod Classes

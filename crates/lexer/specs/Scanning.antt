@@ -6,20 +6,9 @@ use mathlib.Core.Bool.{Bool, true, false, _||_}
 use mathlib.Core.List.{List, [], _∷_}
 use Rattle.lexer.specs.Base.{pick, byte}
 use Rattle.lexer.specs.Classes.{symbol, open?, other?, part?}
-use Rattle.lexer.specs.declared.Class.{Class}
 use Rattle.lexer.specs.declared.Scan.{Scan}
 use Rattle.lexer.specs.declared.Step.{Step}
 use Rattle.lexer.specs.declared.Symbol.{Symbol}
-
--- The place of a class in the list of all.
-unfoldable pub class·number : Class → ℕ
-class·number Class.Newline = 0
-class·number Class.Blank = 1
-class·number Class.Quote = 2
-class·number Class.Comment = 3
-class·number Class.Punctuation = 4
-class·number Class.Other = 5
-class·number Class.Part = 6
 
 -- The symbol of the first of these bytes.
 unfoldable pub first·symbol : List ℕ → Symbol

@@ -3,271 +3,52 @@
 ghost use Prim.Native.Nat.{_<_, _≤_, _+_};
 ghost use Rattle.lexer.specs.ByteBlocks.{plain?};
 ghost use Rattle.lexer.specs.Classes.{class, symbol·of, wide·blank};
-ghost use Rattle.lexer.specs.Scanning.{class·number, symbol·at};
+ghost use Rattle.lexer.specs.Scanning.{symbol·at};
 ghost use Rattle.lexer.specs.declared.Class.{Class};
 ghost use lib.ListN.{length, getD, drop};
 ghost use mathlib.Core.List.{[], _∷_};
 ghost use mathlib.Core.Path.{_≡_};
+use super::Class;
 use super::Symbol;
 
-// Every byte's class, by its place in `Class`: newline, blank, quote, comment, punctuation, other, part of a longer character.
-const CLASSES: [u8; 256] = [
-    5,
-    5,
-    5,
-    5,
-    5,
-    5,
-    5,
-    5,
-    5,
-    1,
-    0,
-    1,
-    1,
-    0,
-    5,
-    5,
-    5,
-    5,
-    5,
-    5,
-    5,
-    5,
-    5,
-    5,
-    5,
-    5,
-    5,
-    5,
-    5,
-    5,
-    5,
-    5,
-    1,
-    5,
-    2,
-    5,
-    5,
-    5,
-    5,
-    2,
-    4,
-    4,
-    4,
-    4,
-    4,
-    5,
-    5,
-    4,
-    5,
-    5,
-    5,
-    5,
-    5,
-    5,
-    5,
-    5,
-    5,
-    5,
-    4,
-    4,
-    4,
-    4,
-    4,
-    5,
-    5,
-    5,
-    5,
-    5,
-    5,
-    5,
-    5,
-    5,
-    5,
-    5,
-    5,
-    5,
-    5,
-    5,
-    5,
-    5,
-    5,
-    5,
-    5,
-    5,
-    5,
-    5,
-    5,
-    5,
-    5,
-    5,
-    5,
-    3,
-    4,
-    4,
-    4,
-    5,
-    4,
-    5,
-    5,
-    5,
-    5,
-    5,
-    5,
-    5,
-    5,
-    5,
-    5,
-    5,
-    5,
-    5,
-    5,
-    5,
-    5,
-    5,
-    5,
-    5,
-    5,
-    5,
-    5,
-    5,
-    5,
-    5,
-    5,
-    4,
-    5,
-    4,
-    5,
-    5,
-    6,
-    6,
-    6,
-    6,
-    6,
-    6,
-    6,
-    6,
-    6,
-    6,
-    6,
-    6,
-    6,
-    6,
-    6,
-    6,
-    6,
-    6,
-    6,
-    6,
-    6,
-    6,
-    6,
-    6,
-    6,
-    6,
-    6,
-    6,
-    6,
-    6,
-    6,
-    6,
-    6,
-    6,
-    6,
-    6,
-    6,
-    6,
-    6,
-    6,
-    6,
-    6,
-    6,
-    6,
-    6,
-    6,
-    6,
-    6,
-    6,
-    6,
-    6,
-    6,
-    6,
-    6,
-    6,
-    6,
-    6,
-    6,
-    6,
-    6,
-    6,
-    6,
-    6,
-    6,
-    6,
-    6,
-    6,
-    6,
-    6,
-    6,
-    6,
-    6,
-    6,
-    6,
-    6,
-    6,
-    6,
-    6,
-    6,
-    6,
-    6,
-    6,
-    6,
-    6,
-    6,
-    6,
-    6,
-    6,
-    6,
-    6,
-    6,
-    6,
-    6,
-    6,
-    6,
-    6,
-    6,
-    6,
-    6,
-    6,
-    6,
-    6,
-    6,
-    6,
-    6,
-    6,
-    6,
-    6,
-    6,
-    6,
-    6,
-    6,
-    6,
-    6,
-    6,
-    6,
-    6,
-    6,
-    6,
-    6,
-    6,
-    6,
-    6,
-    6,
-    6,
-    6,
-    6,
-    6,
+// The classes by a letter each, as the chart below has them.
+const N: Class = Class::Newline;
+
+const B: Class = Class::Blank;
+
+const Q: Class = Class::Quote;
+
+const C: Class = Class::Comment;
+
+const P: Class = Class::Punctuation;
+
+const O: Class = Class::Other;
+
+// Every byte's class, as the usual chart: a row for each sixteen bytes.
+const CLASSES: [[Class; 16]; 16] = [
+    [O, O, O, O, O, O, O, O, O, B, N, B, B, N, O, O],
+    [O; 16],
+    // ` !"#$%&'()*+,-./`
+    [B, O, Q, O, O, O, O, Q, P, P, P, P, P, O, O, P],
+    // `0123456789:;<=>?`
+    [O, O, O, O, O, O, O, O, O, O, P, P, P, P, P, O],
+    // `@ABCDEFGHIJKLMNO`
+    [O; 16],
+    // `PQRSTUVWXYZ[\]^_`
+    [O, O, O, O, O, O, O, O, O, O, O, C, P, P, P, O],
+    // a backquote, `abcdefghijklmno`
+    [P, O, O, O, O, O, O, O, O, O, O, O, O, O, O, O],
+    // `pqrstuvwxyz{|}~` and DEL
+    [O, O, O, O, O, O, O, O, O, O, O, P, O, P, O, O],
+    // parts of longer characters
+    [Class::Part; 16],
+    [Class::Part; 16],
+    [Class::Part; 16],
+    [Class::Part; 16],
+    [Class::Part; 16],
+    [Class::Part; 16],
+    [Class::Part; 16],
+    [Class::Part; 16],
 ];
 
 // Is the byte a letter, a digit, or one of `-`, `.`, `?` and `_`? If it is, its class is other.
@@ -280,34 +61,31 @@ pub fn plain(b: u8) -> bool
     numeric | small | capital | (b == 63) | (b == 95)
 }
 
-// The class of a byte, by its place in the list of classes. The table is built anew at each look, so the bytes that most texts are made of are
-// told without it.
-pub fn class_number(b: u8) -> u8
-    ensures { λ r. ⌜ r ≡ class·number (class b) ⌝ }
+// The class of a byte by the chart.
+fn charted(b: u8) -> Class
+    ensures { λ r. ⌜ r ≡ class b ⌝ }
+{
+    let i = b as usize;
+    CLASSES[i / 16][i % 16]
+}
+
+// The class of a byte. The chart is built anew at each look, so the bytes that most texts are made of are told without it.
+pub fn class_of(b: u8) -> Class
+    ensures { λ r. ⌜ r ≡ class b ⌝ }
 {
     if plain(b) {
-        return 5;
+        return Class::Other;
     }
     if 128 <= b {
-        return 6;
+        return Class::Part;
     }
-    if b == 32 {
-        return 1;
+    match b {
+        10 => Class::Newline,
+        32 => Class::Blank,
+        34 | 39 => Class::Quote,
+        91 => Class::Comment,
+        _ => charted(b),
     }
-    if b == 10 {
-        return 0;
-    }
-    if b == 39 {
-        return 2;
-    }
-    if b == 34 {
-        return 2;
-    }
-    if b == 91 {
-        return 3;
-    }
-    let i = b as usize;
-    CLASSES[i]
 }
 
 // LF and CR: the CR of a CR LF is no newline of its own.
@@ -376,22 +154,21 @@ pub fn symbol_at(text: &[u8], i: usize) -> Symbol
     ensures { λ r. ⌜ r ≡ symbol·at (now (text .entry)) i ⌝ }
 {
     let b = text[i];
-    let class = class_number(b);
-    match class {
-        0 => newline_symbol(text, i),
-        1 => Symbol::Blank,
-        2 => if b == 39 {
+    match class_of(b) {
+        Class::Newline => newline_symbol(text, i),
+        Class::Blank => Symbol::Blank,
+        Class::Quote => if b == 39 {
             Symbol::Single
         } else {
             Symbol::Double
         },
-        3 => Symbol::Open,
-        4 => if b == 93 {
+        Class::Comment => Symbol::Open,
+        Class::Punctuation => if b == 93 {
             Symbol::Close
         } else {
             Symbol::Punctuation
         },
-        5 => Symbol::Other,
-        _ => part_symbol(text, i),
+        Class::Other => Symbol::Other,
+        Class::Part => part_symbol(text, i),
     }
 }

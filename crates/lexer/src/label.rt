@@ -1,20 +1,21 @@
-// What the token that begins at a byte can be taken for: a keyword, a punctuation mark, a name, a number.
+// What the token that begins at a byte can be taken for: a keyword, a punctuation mark, a newline, a name, a number. Past the end of the text there
+// is a word without bytes.
 
-ghost use Prim.Native.Nat.{_<_, _+_};
 ghost use Rattle.lexer.specs.Base.{pick, lower, alike, given, empty?};
 ghost use Rattle.lexer.specs.Bytes.{left};
 ghost use Rattle.lexer.specs.Classes.{symbol, space?, part?, blank};
 ghost use Rattle.lexer.specs.Lexing.{token·at, word·at};
-ghost use Rattle.lexer.specs.Words.{is, punct, label, spaced, digits, largest, positive};
+ghost use Rattle.lexer.specs.Words.{is, punct, line·end?, label, spaced, digits, largest, number};
 ghost use Rattle.lexer.specs.declared.Cursor.{Cursor};
 ghost use lib.Dec.{eqb, leb};
-ghost use lib.ListN.{length, getD};
+ghost use lib.ListN.{getD};
 ghost use mathlib.Core.Bool.{_||_};
 ghost use mathlib.Core.Path.{_≡_};
+use super::Class;
 use super::Cursor;
 use super::Item;
 use super::Kind;
-use super::classes::class_number;
+use super::classes::class_of;
 use super::classes::wide_bytes;
 use super::token::kind_at;
 use super::token::next_byte;
@@ -66,7 +67,6 @@ fn text_is(text: &[u8], c: Cursor, key: &[u8]) -> bool
 
 // Is the token this keyword?
 pub fn is_at(text: &[u8], start: usize, key: &[u8]) -> bool
-    requires { ⌜ start < length (now text) ⌝ }
     ensures { λ r. ⌜ r ≡ is (now (key .entry)) (word·at (now (text .entry)) start) ⌝ }
 {
     match kind_at(text, start) {
@@ -77,11 +77,20 @@ pub fn is_at(text: &[u8], start: usize, key: &[u8]) -> bool
 
 // Is the token this punctuation mark?
 pub fn punct_at(text: &[u8], start: usize, b: u8) -> bool
-    requires { ⌜ start < length (now text) ⌝ }
     ensures { λ r. ⌜ r ≡ punct b (word·at (now (text .entry)) start) ⌝ }
 {
     match kind_at(text, start) {
         Kind::Punctuation(m) => m == b,
+        _ => false,
+    }
+}
+
+// Is the token a newline?
+pub fn newline_at(text: &[u8], start: usize) -> bool
+    ensures { λ r. ⌜ r ≡ line·end? (token·at (now (text .entry)) start .kind) ⌝ }
+{
+    match kind_at(text, start) {
+        Kind::Newline => true,
         _ => false,
     }
 }
@@ -110,11 +119,13 @@ fn second_ahead(text: &[u8], c: Cursor) -> u8
 pub fn blank_byte(text: &[u8], b: u8, c: Cursor) -> bool
     ensures { λ r. ⌜ r ≡ (space? (symbol b (left (now (text .entry)) c)) || part? (symbol b (left (now (text .entry)) c))) ⌝ }
 {
-    if b < 192 {
-        let class = class_number(b);
-        return (class < 2) | (class == 6);
+    if 192 <= b {
+        return wide_bytes(b, byte_ahead(text, c), second_ahead(text, c));
     }
-    wide_bytes(b, byte_ahead(text, c), second_ahead(text, c))
+    match class_of(b) {
+        Class::Newline | Class::Blank | Class::Part => true,
+        _ => false,
+    }
 }
 
 // Is what is left of the text all White_Space?
@@ -139,7 +150,6 @@ fn blank_text(text: &[u8], c: Cursor) -> bool
 
 // Is the token a name?
 pub fn is_label(text: &[u8], start: usize) -> bool
-    requires { ⌜ start < length (now text) ⌝ }
     ensures { λ r. ⌜ r ≡ given (label (word·at (now (text .entry)) start)) ⌝ }
 {
     match kind_at(text, start) {
@@ -187,7 +197,6 @@ fn texts_alike(text: &[u8], x: Cursor, y: Cursor) -> bool
 
 // Are two tokens the same name?
 pub fn labels_alike(text: &[u8], a: usize, b: usize) -> bool
-    requires { ⌜ (a < length (now text)) × (b < length (now text)) ⌝ }
     ensures { λ r. ⌜ r ≡ alike (spaced (token·at (now (text .entry)) a .text)) (spaced (token·at (now (text .entry)) b .text)) ⌝ }
 {
     texts_alike(text, text_start(text, a), text_start(text, b))
@@ -222,8 +231,7 @@ fn digits_value(text: &[u8], c: Cursor) -> u64
 
 // The positive number that the token spells, or 0.
 pub fn number_at(text: &[u8], start: usize) -> u64
-    requires { ⌜ start < length (now text) ⌝ }
-    ensures { λ r. ⌜ r ≡ positive (token·at (now (text .entry)) start .text) ⌝ }
+    ensures { λ r. ⌜ r ≡ number (word·at (now (text .entry)) start) ⌝ }
 {
     let c = text_start(text, start);
     match next_byte(text, c) {

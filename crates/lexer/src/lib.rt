@@ -15,6 +15,7 @@ pub use label::is_at;
 pub use label::is_label;
 pub use label::labels_alike;
 pub use label::lower;
+pub use label::newline_at;
 pub use label::number_at;
 pub use label::punct_at;
 pub use lexer_of::place_at;
@@ -23,6 +24,7 @@ pub use refusal::Refusal;
 pub use refusal::refusal_number;
 pub use token::kind_at;
 pub use token::next_byte;
+pub use token::start_of;
 pub use token::text_start;
 
 // The class of a byte by itself, one for each of the 256.

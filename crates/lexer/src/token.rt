@@ -3,7 +3,7 @@
 ghost use Prim.Native.Nat.{_<_, _+_};
 ghost use Rattle.lexer.specs.Bytes.{front·at, mark·item, next·item, quoted·item, string·item, text·item, word·item};
 ghost use Rattle.lexer.specs.Lexing.{token·at};
-ghost use lib.ListN.{length, drop};
+ghost use lib.ListN.{length, getD, drop};
 ghost use mathlib.Core.Path.{_≡_};
 use super::Cursor;
 use super::Item;
@@ -14,11 +14,23 @@ use super::Symbol;
 use super::classes::symbol_at;
 use super::scanning::comment_end;
 
-// The kind of the token at `start`.
+// Where the token of this index begins, as work memory has it; 0 past its end.
+pub fn start_of(work: &[u32], i: usize) -> usize
+    ensures { λ r. ⌜ r ≡ getD (now (work .entry)) i 0 ⌝ }
+{
+    if i < work.len() {
+        return work[i] as usize;
+    }
+    0
+}
+
+// The kind of the token at `start`; past the end of the text that is a word without bytes.
 pub fn kind_at(text: &[u8], start: usize) -> Kind
-    requires { ⌜ start < length (now text) ⌝ }
     ensures { λ r. ⌜ r ≡ token·at (now (text .entry)) start .kind ⌝ }
 {
+    if text.len() <= start {
+        return Kind::Word;
+    }
     match symbol_at(text, start) {
         Symbol::Newline => Kind::Newline,
         Symbol::Single => Kind::Quoted,
@@ -28,11 +40,16 @@ pub fn kind_at(text: &[u8], start: usize) -> Kind
     }
 }
 
-// A cursor at the front of the token's text.
+// A cursor at the front of the token's text; past the end of the text nothing is left of it.
 pub fn text_start(text: &[u8], start: usize) -> Cursor
-    requires { ⌜ start < length (now text) ⌝ }
     ensures { λ r. ⌜ r ≡ front·at (now (text .entry)) start ⌝ }
 {
+    if text.len() <= start {
+        return Cursor {
+            at: start,
+            mode: Mode::Between,
+        };
+    }
     match symbol_at(text, start) {
         Symbol::Newline => Cursor {
             at: start,

@@ -28,6 +28,10 @@ fn main() {
             repeated(b"'Homo sapiens' \"a note\" "),
         ),
         (
+            "a megabyte of state sets",
+            repeated(b"{01}\t(12), {0 2};\n"),
+        ),
+        (
             "a megabyte beyond ASCII",
             repeated("Bärlauch żółć 日本 ".as_bytes()),
         ),

@@ -23,7 +23,7 @@ returns : tie.Need-returns
 unfolding is word·at word?
 returns c =
     let k = c .before .before .before .before in
-    let text = front-left _ _ _ (k .before .before .before .pre) (c .before .text-start .ensures) in
+    let text = front-left _ _ _ (c .before .text-start .ensures) in
     rw (← k .kind-at .ensures, c .before .before .enum-told .given .1, ← text) (c .text-is .ensures)
 
 returns-2 : tie.Need-returns-2

@@ -1,7 +1,7 @@
 -- The function `is_label` meets its contract: a word or single-quoted text that is not all blank. Assumes nothing.
 use Rattle.lexer.proofs.KindTags.{tags-named, tags-nameless}
+use Rattle.lexer.proofs.LabelLaws.{label-given}
 use Rattle.lexer.proofs.NextBytes.{front-left}
-use Rattle.lexer.proofs.TextWalks.{label-given}
 use Rattle.lexer.proofs.label.is_label.Statement.{statement}
 use Rattle.lexer.proofs.label.is_label.Tie as tie
 use Rattle.lexer.specs.Lexing.{word·at}
@@ -20,7 +20,7 @@ returns : tie.Need-returns
 unfolding word·at
 returns c =
     let k = c .before .before .before in
-    let text = front-left _ _ _ (k .before .before .pre) (c .before .text-start .ensures) in
+    let text = front-left _ _ _ (c .before .text-start .ensures) in
     rw (label-given, ← k .kind-at .ensures, tags-named _ (c .before .before .match .keys1), ← text, c .blank-text .ensures)
 
 returns-2 : tie.Need-returns-2

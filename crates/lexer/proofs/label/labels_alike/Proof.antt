@@ -16,8 +16,8 @@ texts-alike-requires c κs = search needs
 returns : tie.Need-returns
 returns c =
     let s = c .before .before in
-    let first = front-left _ _ _ (s .before .before .pre .0) (s .text-start .ensures) in
-    let second = front-left _ _ _ (s .before .before .pre .1) (c .before .text-start2 .ensures) in
+    let first = front-left _ _ _ (s .text-start .ensures) in
+    let second = front-left _ _ _ (c .before .text-start2 .ensures) in
     rw (← first, ← second) (c .texts-alike .ensures)
 
 pub labels-alike-spec : {M : Type 1} → statement M

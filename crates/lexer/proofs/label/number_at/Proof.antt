@@ -3,6 +3,8 @@ use Rattle.lexer.proofs.NextBytes.{front-left, yielded}
 use Rattle.lexer.proofs.TextWalks.{positive-plus, positive-plain, positive-none}
 use Rattle.lexer.proofs.label.number_at.Statement.{statement}
 use Rattle.lexer.proofs.label.number_at.Tie as tie
+use Rattle.lexer.specs.Lexing.{word·at}
+use Rattle.lexer.specs.Words.{number}
 use borrow.Author.Needs.{needs}
 use mathlib.Core.Path.{_∙_}
 
@@ -19,11 +21,12 @@ digits-value-requires : tie.Need-digits-value-requires
 digits-value-requires c κs = search needs
 
 returns : tie.Need-returns
+unfolding number word·at
 returns c =
     let k = c .before .before in
     let read = yielded _ _ _ (k .before .before .before .next-byte .ensures) .byte _ _ (k .before .b .given .1) in
     let s = k .before .before .before .before in
-    c .digits-value .ensures ∙ rw (← front-left _ _ _ (s .before .before .pre) (s .text-start .ensures)) (positive-plus _ _ _ (read .here) (c .before .if1 .taken))
+    c .digits-value .ensures ∙ rw (← front-left _ _ _ (s .text-start .ensures)) (positive-plus _ _ _ (read .here) (c .before .if1 .taken))
 
 digits-value-requires-2 : tie.Need-digits-value-requires-2
 digits-value-requires-2 c κs = search needs
@@ -32,17 +35,19 @@ enum-told : tie.Need-enum-told
 enum-told c = search needs
 
 returns-2 : tie.Need-returns-2
+unfolding number word·at
 returns-2 c =
     let k = c .before .before in
     let read = yielded _ _ _ (k .before .before .before .next-byte .ensures) .byte _ _ (k .before .b .given .1) in
     let s = k .before .before .before .before in
-    c .digits-value2 .ensures ∙ rw (← front-left _ _ _ (s .before .before .pre) (s .text-start .ensures)) (positive-plain _ _ _ (read .here) (c .before .if1 .left))
+    c .digits-value2 .ensures ∙ rw (← front-left _ _ _ (s .text-start .ensures)) (positive-plain _ _ _ (read .here) (c .before .if1 .left))
 
 returns-3 : tie.Need-returns-3
+unfolding number word·at
 returns-3 c =
     let n = c .before .before in
     let s = n .before in
-    rw (← front-left _ _ _ (s .before .before .pre) (s .text-start .ensures)) (positive-none _ (yielded _ _ _ (n .next-byte .ensures) .end (c .enum-told .given .1)))
+    rw (← front-left _ _ _ (s .text-start .ensures)) (positive-none _ (yielded _ _ _ (n .next-byte .ensures) .end (c .enum-told .given .1)))
 
 pub number-at-spec : {M : Type 1} → statement M
 number-at-spec =
