@@ -24,4 +24,5 @@ pub mod ShapeLaws
 pub mod SoundParts
 pub mod SymbolWalk
 pub mod TaxaFollow
+pub mod WalkLaws
 pub mod Weights

@@ -1,5 +1,6 @@
 -- The definitions of the blocks, to be read in this order: from tokens to the reading of a text, or its refusal.
 pub mod Outcome
+pub mod Judged
 pub mod Commands
 pub mod Names
 pub mod Dimensions

@@ -8,3 +8,12 @@ pub mod formats;
 pub mod labels;
 pub mod matrix;
 pub mod model;
+pub mod words;
+
+use lexer::Refusal;
+
+// A judgement: nothing is wrong, or the refusal of the token with an index.
+pub enum Judged {
+    Good,
+    Refused(Refusal, usize),
+}

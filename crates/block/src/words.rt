@@ -1,0 +1,56 @@
+// The words of a text by their index, as work memory names them: what each can be taken for.
+
+ghost use Rattle.block.specs.Commands.{newline};
+ghost use Rattle.lexer.specs.Base.{alike, given};
+ghost use Rattle.lexer.specs.Stored.{word·of};
+ghost use Rattle.lexer.specs.Words.{is, punct, label, number, spaced};
+ghost use mathlib.Core.Path.{_≡_};
+use lexer::is_at;
+use lexer::is_label;
+use lexer::labels_alike;
+use lexer::newline_at;
+use lexer::number_at;
+use lexer::punct_at;
+use lexer::start_of;
+
+// Is the word this keyword?
+pub fn is(text: &[u8], work: &[u32], i: usize, key: &[u8]) -> bool
+    ensures { λ r. ⌜ r ≡ is (now (key .entry)) (word·of (now (text .entry)) (now (work .entry)) i) ⌝ }
+{
+    is_at(text, start_of(work, i), key)
+}
+
+// Is it this punctuation mark?
+pub fn punct(text: &[u8], work: &[u32], i: usize, b: u8) -> bool
+    ensures { λ r. ⌜ r ≡ punct b (word·of (now (text .entry)) (now (work .entry)) i) ⌝ }
+{
+    punct_at(text, start_of(work, i), b)
+}
+
+// Is it a newline?
+pub fn newline(text: &[u8], work: &[u32], i: usize) -> bool
+    ensures { λ r. ⌜ r ≡ newline (word·of (now (text .entry)) (now (work .entry)) i) ⌝ }
+{
+    newline_at(text, start_of(work, i))
+}
+
+// Is it a name?
+pub fn named(text: &[u8], work: &[u32], i: usize) -> bool
+    ensures { λ r. ⌜ r ≡ given (label (word·of (now (text .entry)) (now (work .entry)) i)) ⌝ }
+{
+    is_label(text, start_of(work, i))
+}
+
+// The positive number that it spells, or 0.
+pub fn number(text: &[u8], work: &[u32], i: usize) -> u64
+    ensures { λ r. ⌜ r ≡ number (word·of (now (text .entry)) (now (work .entry)) i) ⌝ }
+{
+    number_at(text, start_of(work, i))
+}
+
+// Are two words the same name?
+pub fn alike(text: &[u8], work: &[u32], i: usize, j: usize) -> bool
+    ensures { λ r. ⌜ r ≡ alike (spaced (word·of (now (text .entry)) (now (work .entry)) i .token .text)) (spaced (word·of (now (text .entry)) (now (work .entry)) j .token .text)) ⌝ }
+{
+    labels_alike(text, start_of(work, i), start_of(work, j))
+}
