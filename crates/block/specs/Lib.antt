@@ -4,6 +4,7 @@ pub mod Judged
 pub mod Commands
 pub mod Names
 pub mod Dimensions
+pub mod Sizes
 pub mod Cell
 pub mod Cells
 pub mod Dna

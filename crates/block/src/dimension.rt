@@ -1,4 +1,6 @@
-// DIMENSIONS, after mod.rs.
+// What DIMENSIONS declares, and where reading the command is, after mod.rs.
+
+use lexer::Refusal;
 
 // What was declared; a count is 0 where it was not given.
 pub struct Dimensions {
@@ -18,4 +20,16 @@ pub enum Dimensioning {
     Option(Dimensions),
     Equals(Dimensions, Count, usize),
     Value(Dimensions, Count, usize),
+}
+
+// Where it is behind one word more, or its refusal.
+pub enum Dimensioned {
+    Mode(Dimensioning),
+    Refused(Refusal, usize),
+}
+
+// What the command declares, or its refusal.
+pub enum Sized {
+    Dimensions(Dimensions),
+    Refused(Refusal, usize),
 }
