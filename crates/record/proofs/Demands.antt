@@ -13,9 +13,10 @@ use Rattle.lexer.specs.declared.refusal.Refusal.{Refusal}
 use Rattle.record.proofs.FormClosed.{form-closed}
 use Rattle.record.proofs.FormLexed.{form-lexed, form-utf8}
 use Rattle.record.proofs.FormParsed.{form-parsed}
+use Rattle.record.proofs.LookupLaws.{found-row, other-names}
 use Rattle.record.proofs.SpellLaws.{unspell-spell}
 use Rattle.record.proofs.UnspellLaws.{spell-unspell}
-use Rattle.record.specs.Demands.{Reads, Agree, Every·reading·is·sound, Taxa·follow·the·declaration, Names·come·from·tokens, Labels·come·from·tokens, Records·are·read·back, Records·are·spelled, Records·of·texts·pass, Some·reading·spells, Not·refused·is·some·reading, Refused·is·no·reading, Forms·are·read·again, Forms·tell·readings·apart, Forms·tell·texts·apart}
+use Rattle.record.specs.Demands.{Reads, Agree, Every·reading·is·sound, Taxa·follow·the·declaration, Names·come·from·tokens, Labels·come·from·tokens, Records·are·read·back, Records·are·spelled, Records·of·texts·pass, Some·reading·spells, Not·refused·is·some·reading, Refused·is·no·reading, Forms·are·read·again, Forms·tell·readings·apart, Forms·tell·texts·apart, Lookup·finds·the·row, Lookup·refuses·other·names}
 use Rattle.record.specs.Calls.{bytes·of, refuse, written, write·result, not·found, found, looked·up, lookup·answer}
 use Rattle.record.specs.Form.{form}
 use Rattle.record.specs.Lookup.{Stretch, lookup}
@@ -152,3 +153,9 @@ forms-tell-readings-apart r s p q =
 
 pub forms-tell-texts-apart : Forms·tell·texts·apart
 forms-tell-texts-apart t u r s p q = forms-tell-readings-apart r s (reading-sound t r p) (reading-sound u s q)
+
+pub lookup-finds-the-row : Lookup·finds·the·row
+lookup-finds-the-row = found-row
+
+pub lookup-refuses-other-names : Lookup·refuses·other·names
+lookup-refuses-other-names = other-names

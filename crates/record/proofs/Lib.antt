@@ -1,3 +1,4 @@
+pub mod AsciiCase
 pub mod CellLaws
 pub mod CellsLexed
 pub mod CellsRead
@@ -15,6 +16,7 @@ pub mod FormTokens
 pub mod FormatRead
 pub mod LabelsRead
 pub mod LineLaws
+pub mod LookupLaws
 pub mod MatrixRead
 pub mod NameLaws
 pub mod PartLaws

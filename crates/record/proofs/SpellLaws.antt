@@ -113,7 +113,7 @@ characters-lead h ts done c (b ∷ bs) rest {n} e l =
 abbrev head·of : Reading → Head
 head·of r = record { data·type = r .data·type; taxa = length (r .taxa); characters = length (r .characters); symbols = r .symbols }
 
-some-length : {A : Type 0} (l : List A) → empty? l ≡ false → 1 ≤ length l
+pub some-length : {A : Type 0} (l : List A) → empty? l ≡ false → 1 ≤ length l
 unfolding empty?
 some-length [] h = absurd (true≢false h)
 some-length (x ∷ l) h = omega arith

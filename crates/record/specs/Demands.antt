@@ -1,10 +1,11 @@
 -- What the definitions promise, statement by statement. proofs/Demands.antt names the proof of each.
-use Prim.Native.Nat.{ℕ, _≤_}
-use lib.ListN.{length}
-use mathlib.Core.List.{List, map}
+use Prim.Native.Nat.{ℕ, _+_, _≤_}
+use lib.ListN.{length, take, drop}
+use mathlib.Core.List.{List, [], _∷_, _++_, map}
 use mathlib.Core.Logic.{_↔_}
 use mathlib.Core.Option.{some}
 use mathlib.Core.Path.{_≡_}
+use Rattle.lexer.specs.Base.{bytes, byte}
 use Rattle.lexer.specs.Lexing.{longest}
 use Rattle.lexer.specs.Tokens.{tokens}
 use Rattle.lexer.specs.Words.{numbered}
@@ -14,9 +15,10 @@ use Rattle.block.specs.Sequential.{names}
 use Rattle.block.specs.Sound.{label·texts, Sound}
 use Rattle.block.specs.TaxonOrder.{commands·of, Matrix·of, Follows, all·named}
 use Rattle.lexer.specs.declared.refusal.Refusal.{Refusal}
-use Rattle.record.specs.Calls.{refuse, write·result, not·found, lookup·answer}
+use Rattle.record.specs.Calls.{refuse, write·result, Found, not·found, lookup·answer}
 use Rattle.record.specs.Form.{form}
-use Rattle.record.specs.Spell.{spell}
+use Rattle.record.specs.Lookup.{Stretch}
+use Rattle.record.specs.Spell.{line, escaped, spell·cells, spell·taxa, spell·characters, spell·head, spell}
 use Rattle.record.specs.Unspell.{unspell, most}
 
 -- A text, of any length, has a reading.
@@ -98,3 +100,46 @@ Forms·tell·readings·apart = (r s : Reading) → Sound r → Sound s → (form
 -- Demand 3. Two texts that are read have written forms with the same bytes exactly when their readings agree.
 abbrev pub Forms·tell·texts·apart : Type 0
 Forms·tell·texts·apart = (t u : List ℕ) (r s : Reading) → Reads t r → Reads u s → (form r ≡ form s) ↔ Agree r s
+
+-- Two bytes are the same, ASCII case ignored: they are equal, or one is a capital, A to Z, and the other its small letter, 32 more.
+pub data Same·letter (a b : ℕ) : Type 0 where
+  equal : a ≡ b → Same·letter a b
+  capital : 65 ≤ a → a ≤ 90 → b ≡ a + 32 → Same·letter a b
+  small : 65 ≤ b → b ≤ 90 → a ≡ b + 32 → Same·letter a b
+
+abbrev pub Alike : List ℕ → List ℕ → Type 0
+Alike [] [] = Unit {0}
+Alike [] (b ∷ r) = ⊥
+Alike (a ∷ l) [] = ⊥
+Alike (a ∷ l) (b ∷ r) = Same·letter a b × Alike l r
+
+-- A row of a reading: a taxon, with the taxa above it and below it.
+pub record Row (r : Reading) : Type 0 where
+  pub above : List Taxon
+  pub taxon : Taxon
+  pub below : List Taxon
+  pub all : above ++ (taxon ∷ below) ≡ r .taxa
+
+-- A stretch of a record is the cells of a row. Before it stand the head, the rows above, the line of this row's name and the key `cells=`;
+-- behind it the LF, the rows below and the characters. It is never empty.
+pub record Cells·of {r : Reading} (row : Row r) (b : List ℕ) (s : Stretch) : Type 0 where
+  pub before : take (s .start) b ≡ spell·head r (spell·taxa (row .above) (line "name=" (escaped (row .taxon .name)) (bytes "cells=")))
+  pub cells : take (s .size) (drop (s .start) b) ≡ spell·cells (row .taxon .cells)
+  pub behind : drop (s .start + s .size) b ≡ byte "\n" ∷ spell·taxa (row .below) (spell·characters 1 (r .characters) [])
+  pub some : 1 ≤ s .size
+
+-- A lookup that is refused with a number hands back an empty stretch.
+abbrev pub nothing·found : ℕ → Found
+nothing·found n = record { refused = n; stretch = record { start = 0; size = 0 } }
+
+-- The lookup. In a record, a name that some row has, ASCII case ignored, is found: the number is 0, and the stretch is the cells of that row.
+abbrev pub Lookup·finds·the·row : Type 0
+Lookup·finds·the·row =
+    (name b : List ℕ) (r : Reading) → unspell b ≡ some r → (row : Row r) → Alike name (row .taxon .name)
+    → (lookup·answer name b .refused ≡ 0) × Cells·of row b (lookup·answer name b .stretch)
+
+-- The lookup. In a record, 33 with an empty stretch stands exactly where no row has the name.
+abbrev pub Lookup·refuses·other·names : Type 0
+Lookup·refuses·other·names =
+    (name b : List ℕ) (r : Reading) → unspell b ≡ some r
+    → (lookup·answer name b ≡ nothing·found 33) ↔ ((row : Row r) → ¬ (Alike name (row .taxon .name)))
