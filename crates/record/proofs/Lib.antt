@@ -1,4 +1,7 @@
+pub mod Agreement
 pub mod AsciiCase
+pub mod CallLaws
+pub mod CallsAgain
 pub mod CellLaws
 pub mod CellsLexed
 pub mod CellsRead
@@ -9,9 +12,11 @@ pub mod Demands
 pub mod DimensionsRead
 pub mod EntriesRead
 pub mod EscapeLaws
+pub mod FaultPlaces
 pub mod FormClosed
 pub mod FormLexed
 pub mod FormParsed
+pub mod FormRead
 pub mod FormTokens
 pub mod FormatRead
 pub mod LabelsRead
@@ -21,12 +26,15 @@ pub mod MatrixRead
 pub mod NameLaws
 pub mod PartLaws
 pub mod PlainBytes
+pub mod ProgramLaws
 pub mod QuotedLexed
 pub mod QuotedUtf8
+pub mod ReadCall
 pub mod RowsRead
 pub mod SetLaws
 pub mod SignLaws
 pub mod SignsValid
+pub mod SomeReading
 pub mod SoundLaws
 pub mod SoundNames
 pub mod SpellLaws
@@ -36,3 +44,4 @@ pub mod TypesRead
 pub mod UnspellLaws
 pub mod WordLaws
 pub mod WordsLexed
+pub mod WriteCall

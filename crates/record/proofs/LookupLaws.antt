@@ -8,7 +8,7 @@ use Rattle.block.specs.Reading.{Taxon, Reading}
 use Rattle.block.specs.Sequential.{names}
 use Rattle.block.specs.Sound.{Sound, names·differ}
 use Rattle.lexer.proofs.Basics.{and-left, and-right, or-left, or-right, by-test, alike-sym, alike-both}
-use Rattle.lexer.specs.Base.{pick, bytes, empty?, alike}
+use Rattle.lexer.specs.Base.{pick, bytes, alike}
 use Rattle.record.proofs.AsciiCase.{alike-letters, letters-alike}
 use Rattle.record.proofs.DecimalLaws.{decimal-some}
 use Rattle.record.proofs.SpellLaws.{some-length}
@@ -18,15 +18,14 @@ use Rattle.record.specs.Decimal.{decimal}
 use Rattle.record.specs.Demands.{Alike, Row, Cells·of, nothing·found, Lookup·finds·the·row, Lookup·refuses·other·names}
 use Rattle.record.specs.Lookup.{Stretch, before·cells, find·cells, lookup}
 use Rattle.record.specs.Spell.{line, escaped, spell·cell, spell·cells, spell·taxa, spell·characters, spell·head, spell}
-use Rattle.record.specs.Unspell.{unspell}
 use borrow.Author.Tests.{eqb-true, not-true}
 use lib.Dec.{eqb}
-use lib.ListN.{length, take, drop, length-append}
+use lib.ListN.{length, drop, length-append}
 use lib.Seq.{take-at, drop-at, drop-drop}
 use mathlib.Core.Bool.{true, false, not, true≢false}
 use mathlib.Core.List.{List, [], _∷_, _++_, append-assoc}
 use mathlib.Core.Option.{Option, none, some}
-use mathlib.Core.Path.{_≡_, refl, sym, ap, _∙_, subst}
+use mathlib.Core.Path.{_≡_, refl, sym, ap, _∙_}
 use native.Mathlib.Omega.{arith}
 
 -- Pieces of a record, with two things behind them

@@ -5,7 +5,7 @@ use Rattle.lexer.specs.Base.{pick, among, empty?}
 use Rattle.record.specs.Unspell.{parts, before}
 use borrow.Author.Tests.{eqb-true}
 use lib.Dec.{eqb}
-use mathlib.Core.Bool.{Bool, true, false, true≢false}
+use mathlib.Core.Bool.{true, false, true≢false}
 use mathlib.Core.List.{List, [], _∷_, _++_, map, append-assoc, append-nil}
 use mathlib.Core.Option.{Option, none, some, Option·none-ne-some, Option·some-injective}
 use mathlib.Core.Path.{_≡_, refl, sym, ap, _∙_}
