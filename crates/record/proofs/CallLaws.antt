@@ -7,7 +7,7 @@ use Rattle.lexer.specs.Refusals.{number}
 use Rattle.lexer.specs.declared.Place.{Place}
 use Rattle.lexer.specs.declared.refusal.Refusal.{Refusal}
 use Rattle.record.specs.Calls.{Result, bytes·of, refusal, answer, leaves}
-use Rattle.record.specs.Demands.{Left, Refuses, Kept}
+use Rattle.record.specs.Demands.{Left, Kept}
 use Rattle.record.specs.declared.Answer.{Answer}
 use borrow.Author.Tests.{leb-true, leb-false, le-leb, lt-leb}
 use lib.Dec.{leb}
@@ -24,12 +24,12 @@ length-refused e = let z : _≡_ {A = ℕ} 0 1 = cc in omega arith
 same-length : {m n : ℕ} → Answer.Length m ≡ Answer.Length n → m ≡ n
 same-length e = cc
 
-pub told : {m : Refusal} {p : Place} {n l c : ℕ} → Refuses (Answer.Refused m p) n l c → (number m ≡ n) × (p .line ≡ l)
-told {m} {p} {l} {c} h =
-    let e : Answer.Refused m p ≡ Answer.Refused (h .0) (record { line = l; column = c }) = h .2 in
-    let why : m ≡ h .0 = cc in
-    let where' : p ≡ record { line = l; column = c } = cc in
-    (ap number why ∙ h .1, ap (λ x. x .line) where')
+pub same-refusal : {m n : Refusal} {p q : Place} → Answer.Refused m p ≡ Answer.Refused n q
+    → (number m ≡ number n) × (p .line ≡ q .line) × (p .column ≡ q .column)
+same-refusal {m} {n} {p} {q} e =
+    let why : m ≡ n = cc in
+    let at : p ≡ q = cc in
+    (ap number why, ap (λ x. x .line) at, ap (λ x. x .column) at)
 
 -- Bytes that fit, and bytes that do not
 pub fits : (b : List ℕ) (room : ℕ) → length b ≤ room → answer (bytes·of b) room ≡ Answer.Length (length b)
@@ -46,13 +46,16 @@ left b buffer h =
     rw (le-leb (length b) (length buffer) h)
     record { counted = refl; result = take-at b (drop (length b) buffer) (length b) refl; rest = drop-at b (drop (length b) buffer) (length b) refl }
 
-pub short-told : (b : List ℕ) (room n l c : ℕ) → Refuses (answer (bytes·of b) room) n l c → (n ≡ 30) × (room < length b)
-short-told b room n l c h =
+pub short-told : (b : List ℕ) (room : ℕ) (n : Refusal) (p : Place) → answer (bytes·of b) room ≡ Answer.Refused n p
+    → (number n ≡ 30) × (room < length b) × (p .line ≡ 0) × (p .column ≡ 0)
+unfolding nowhere
+short-told b room n p h =
     by-test (leb (length b) room)
-    (λ t. absurd (length-refused (sym (fits b room (leb-true _ _ t)) ∙ h .2)))
+    (λ t. absurd (length-refused (sym (fits b room (leb-true _ _ t)) ∙ h)))
     (λ f.
     let less = leb-false (length b) room f in
-    (sym (told (subst (λ a. Refuses a n l c) (short b room less) h) .0), less))
+    let k = same-refusal (sym (short b room less) ∙ h) in
+    (sym (k .0), less, sym (k .1), sym (k .2)))
 
 pub fitting : (b : List ℕ) (room n : ℕ) → answer (bytes·of b) room ≡ Answer.Length n → (length b ≡ n) × (n ≤ room)
 fitting b room n h =

@@ -4,7 +4,7 @@ use Rattle.block.specs.Reading.{Reading}
 use Rattle.lexer.specs.Base.{pick, bytes}
 use Rattle.lexer.specs.Lexing.{work·needed}
 use Rattle.lexer.specs.Places.{nowhere}
-use Rattle.record.proofs.ReadCall.{read-refuses, read-left}
+use Rattle.record.proofs.ReadCall.{read-faulty, read-refuses, read-left}
 use Rattle.record.specs.Calls.{read·answer, read·leaves, printed}
 use Rattle.record.specs.Decimal.{digit, decimal·from, decimal}
 use Rattle.record.specs.Demands.{Reads, Taken, refusal·lines, The·program·prints}
@@ -63,5 +63,5 @@ program-prints input =
       too·long = λ h. input-long input h ∙ lines-one;
       recorded = input-recorded input;
       no·room = λ r h e l. input-unroomed input r h e l ∙ lines-thirty;
-      faulty = λ n p h e. input-read input h ∙ rw (read-refuses input program·work (length program·buffer) .faulty n p (input-taken input h) e);
+      faulty = λ n p h e. input-read input h ∙ rw (read-faulty input program·work (length program·buffer) n p (input-taken input h) e);
     }

@@ -6,17 +6,20 @@ use Rattle.lexer.proofs.Basics.{by-test}
 use Rattle.lexer.specs.Base.{pick}
 use Rattle.lexer.specs.Lexing.{longest, work·needed}
 use Rattle.lexer.specs.Places.{nowhere}
+use Rattle.lexer.specs.Refusals.{number}
+use Rattle.lexer.specs.Utf8.{utf8}
 use Rattle.lexer.specs.declared.Place.{Place}
 use Rattle.lexer.specs.declared.refusal.Refusal.{Refusal}
-use Rattle.record.proofs.CallLaws.{length-refused, told, fits, short, left, short-told, fitting}
-use Rattle.record.proofs.FaultPlaces.{fault-placed}
+use Rattle.record.proofs.CallLaws.{length-refused, same-refusal, fits, short, left, short-told, fitting}
+use Rattle.record.proofs.FaultPlaces.{fault-placed, not-utf8}
 use Rattle.record.specs.Calls.{Result, bytes·of, refusal, refuse, answer, recorded, read·result, read·answer, read·leaves}
-use Rattle.record.specs.Demands.{Reads, Left, Read·gives, Read·gives·the·record, Refuses, Taken, Read·refuses·in·order}
+use Rattle.record.specs.Demands.{Reads, Left, Read·gives, Read·gives·the·record, Taken, Read·refuses·in·order}
 use Rattle.record.specs.Spell.{spell}
 use Rattle.record.specs.declared.Answer.{Answer}
 use borrow.Author.Tests.{leb-true, leb-false, le-leb, lt-leb}
 use lib.Dec.{leb}
 use lib.ListN.{length, take}
+use mathlib.Core.Bool.{true, false}
 use mathlib.Core.List.{List}
 use mathlib.Core.Path.{_≡_, refl, sym, ap, _∙_, subst}
 use native.Mathlib.Omega.{arith}
@@ -35,10 +38,16 @@ pub read-taken : (text : List ℕ) (work : ℕ) → Taken text work → read·re
 unfolding read·result longest work·needed pick
 read-taken text work h = rw (le-leb (length text) 1048576 (h .0), le-leb (4 * length text + 64) work (h .1))
 
+pub read-faulty : (text : List ℕ) (work room : ℕ) (n : Refusal) (p : Place) → Taken text work → read text ≡ fault n p
+    → read·answer text work room ≡ Answer.Refused n p
+unfolding read·answer recorded answer
+read-faulty text work room n p h e = rw (read-taken text work h, e)
+
 data Read·case (text : List ℕ) (work : ℕ) : Result → Type 0 where
   too·long : 1048576 < length text → Read·case text work (refusal Refusal.TextTooLong nowhere)
   memory·short : length text ≤ 1048576 → work < 4 * length text + 64 → Read·case text work (refusal Refusal.WorkMemoryShort nowhere)
-  faulty : {n : Refusal} {p : Place} → Taken text work → read text ≡ fault n p → Read·case text work (refusal n p)
+  not·utf8 : Taken text work → utf8 text ≡ false → Read·case text work (refusal Refusal.NotUtf8 nowhere)
+  faulty : {n : Refusal} {p : Place} → Taken text work → read text ≡ fault n p → 1 ≤ p .line → Read·case text work (refusal n p)
   recording : {r : Reading} → Taken text work → Reads text r → Read·case text work (bytes·of (spell r))
 
 read-case : (text : List ℕ) (work : ℕ) → Read·case text work (read·result text work)
@@ -47,61 +56,71 @@ read-case text work =
     by-test (leb (length text) 1048576)
     (λ t.
     let l = leb-true (length text) 1048576 t in
-    by-test (leb (4 * length text + 64) work) (λ u. taken (l, leb-true (4 * length text + 64) work u) (read text) refl) (λ u.
+    by-test (leb (4 * length text + 64) work)
+    (λ u.
+    let h : Taken text work = (l, leb-true (4 * length text + 64) work u) in
+    by-test (utf8 text) (λ v. taken h v (read text) refl) (λ v. rw (read-taken text work h, not-utf8 text v) (not·utf8 h v)))
+    (λ u.
     let h = leb-false (4 * length text + 64) work u in
     rw (read-short text work l h) (memory·short l h)))
     (λ t.
     let h = leb-false (length text) 1048576 t in
     rw (read-long text work h) (too·long h))
   where
-    taken : Taken text work → (x : Read) → read text ≡ x → Read·case text work (read·result text work)
-    taken h (reading r) e = rw (read-taken text work h, e) (recording h e)
-    taken h (fault n p) e = rw (read-taken text work h, e) (faulty h e)
+    taken : Taken text work → utf8 text ≡ true → (x : Read) → read text ≡ x → Read·case text work (read·result text work)
+    taken h v (reading r) e = rw (read-taken text work h, e) (recording h e)
+    taken h v (fault n p) e = rw (read-taken text work h, e) (faulty h e (fault-placed text n p v e))
 
--- What a refusal at 0,0 says
-abbrev No·room : List ℕ → ℕ → ℕ → Type 0
-No·room text work room = Taken text work × ((r : Reading) × Reads text r × (room < length (spell r)))
+-- What a refusal says, by its number at no line, and at a line
+record Says (text : List ℕ) (work room : ℕ) (n : Refusal) (p : Place) : Type 0 where
+  one : number n ≡ 1 → p .line ≡ 0 → 1048576 < length text
+  two : number n ≡ 2 → p .line ≡ 0 → (length text ≤ 1048576) × (work < 4 * length text + 64)
+  three : number n ≡ 3 → p .line ≡ 0 → Taken text work × (utf8 text ≡ false)
+  thirty : number n ≡ 30 → p .line ≡ 0 → Taken text work × ((r : Reading) × Reads text r × (room < length (spell r)))
+  fault·at : 1 ≤ p .line → Taken text work × (read text ≡ fault n p)
 
-record Says (text : List ℕ) (work room n : ℕ) : Type 0 where
-  one : n ≡ 1 → 1048576 < length text
-  two : n ≡ 2 → (length text ≤ 1048576) × (work < 4 * length text + 64)
-  thirty : n ≡ 30 → No·room text work room
-
-case-says : (text : List ℕ) (work room n : ℕ) (x : Result) → Read·case text work x → Refuses (answer x room) n 0 0 → Says text work room n
-unfolding answer
-case-says text work room n x (too·long h) r =
-    let k = told r .0 in
-    record { one = λ e. h; two = λ e. absurd (omega arith); thirty = λ e. absurd (omega arith) }
-case-says text work room n x (memory·short l h) r =
-    let k = told r .0 in
-    record { one = λ e. absurd (omega arith); two = λ e. (l, h); thirty = λ e. absurd (omega arith) }
-case-says text work room n x (faulty {n = m} {p = p} h e) r =
-    let k = told r in
-    let three = fault-placed text m p e (k .1) in
-    record { one = λ q. absurd (omega arith); two = λ q. absurd (omega arith); thirty = λ q. absurd (omega arith) }
-case-says text work room n x (recording {r = s} h e) r =
-    let k = short-told (spell s) room n 0 0 r in
-    record { one = λ q. absurd (omega arith); two = λ q. absurd (omega arith); thirty = λ q. (h, (s, e, k .1)) }
+case-says : (text : List ℕ) (work room : ℕ) (n : Refusal) (p : Place) (x : Result) → Read·case text work x
+    → answer x room ≡ Answer.Refused n p → Says text work room n p
+unfolding answer nowhere
+case-says text work room n p x (too·long h) e =
+    let k = same-refusal e in
+    record { one = λ q l. h; two = λ q l. absurd (omega arith); three = λ q l. absurd (omega arith); thirty = λ q l. absurd (omega arith); fault·at = λ l. absurd (omega arith) }
+case-says text work room n p x (memory·short m h) e =
+    let k = same-refusal e in
+    record { one = λ q l. absurd (omega arith); two = λ q l. (m, h); three = λ q l. absurd (omega arith); thirty = λ q l. absurd (omega arith); fault·at = λ l. absurd (omega arith) }
+case-says text work room n p x (not·utf8 h u) e =
+    let k = same-refusal e in
+    record { one = λ q l. absurd (omega arith); two = λ q l. absurd (omega arith); three = λ q l. (h, u); thirty = λ q l. absurd (omega arith); fault·at = λ l. absurd (omega arith) }
+case-says text work room n p x (faulty {n = m} {p = q} h f g) e =
+    let k = same-refusal e in
+    let same : fault m q ≡ fault n p = cc in
+    record { one = λ o l. absurd (omega arith); two = λ o l. absurd (omega arith); three = λ o l. absurd (omega arith); thirty = λ o l. absurd (omega arith); fault·at = λ l. (h, f ∙ same) }
+case-says text work room n p x (recording {r = r} h f) e =
+    let k = short-told (spell r) room n p e in
+    record { one = λ q l. absurd (omega arith); two = λ q l. absurd (omega arith); three = λ q l. absurd (omega arith); thirty = λ q l. (h, (r, f, k .1)); fault·at = λ l. absurd (omega arith) }
 
 case-answers : (text : List ℕ) (work room n : ℕ) (x : Result) → Read·case text work x → answer x room ≡ Answer.Length n
     → (n ≤ room) × Taken text work × ((r : Reading) × Reads text r × (length (spell r) ≡ n))
 unfolding answer
 case-answers text work room n x (too·long h) e = absurd (length-refused (sym e))
 case-answers text work room n x (memory·short l h) e = absurd (length-refused (sym e))
-case-answers text work room n x (faulty h f) e = absurd (length-refused (sym e))
+case-answers text work room n x (not·utf8 h u) e = absurd (length-refused (sym e))
+case-answers text work room n x (faulty h f g) e = absurd (length-refused (sym e))
 case-answers text work room n x (recording {r = r} h f) e = let k = fitting (spell r) room n e in (k .1, h, (r, f, k .0))
 
 pub read-refuses : Read·refuses·in·order
 unfolding read·answer recorded answer nowhere
 read-refuses text work room =
-    let says : (n : ℕ) → Refuses (read·answer text work room) n 0 0 → Says text work room n =
-    λ n. case-says text work room n (read·result text work) (read-case text work)
+    let says : (n : Refusal) (p : Place) → read·answer text work room ≡ Answer.Refused n p → Says text work room n p =
+    λ n p. case-says text work room n p (read·result text work) (read-case text work)
     in
     record {
-      too·long = (λ h. says 1 h .one refl, λ h. (Refusal.TextTooLong, refl, rw (read-long text work h)));
-      memory·short = (λ h. says 2 h .two refl, λ h. (Refusal.WorkMemoryShort, refl, rw (read-short text work (h .0) (h .1))));
-      faulty = λ n p h e. rw (read-taken text work h, e);
-      no·room = (λ h. says 30 h .thirty refl, λ h. (Refusal.BufferShort, refl, rw (read-taken text work (h .0), h .1 .1) (short (spell (h .1 .0)) room (h .1 .2))));
+      too·long = (λ h. says (h .0) _ (h .2) .one (h .1) refl, λ h. (Refusal.TextTooLong, refl, rw (read-long text work h)));
+      memory·short = (λ h. says (h .0) _ (h .2) .two (h .1) refl, λ h. (Refusal.WorkMemoryShort, refl, rw (read-short text work (h .0) (h .1))));
+      not·utf8 = (λ h. says (h .0) _ (h .2) .three (h .1) refl, λ h. (Refusal.NotUtf8, refl, read-faulty text work room Refusal.NotUtf8 nowhere (h .0) (not-utf8 text (h .1))));
+      faulty = λ n p l. (λ h. says n p h .fault·at l, λ h. read-faulty text work room n p (h .0) (h .1));
+      placed = fault-placed text;
+      no·room = (λ h. says (h .0) _ (h .2) .thirty (h .1) refl, λ h. (Refusal.BufferShort, refl, rw (read-taken text work (h .0), h .1 .1) (short (spell (h .1 .0)) room (h .1 .2))));
       answers = λ n. (case-answers text work room n (read·result text work) (read-case text work), λ h. rw (read-taken text work (h .1), h .2 .1) (fits (spell (h .2 .0)) room (omega arith) ∙ ap Answer.Length (h .2 .2)));
     }
 

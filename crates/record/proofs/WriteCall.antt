@@ -5,11 +5,13 @@ use Rattle.lexer.proofs.Basics.{by-test}
 use Rattle.lexer.specs.Base.{pick}
 use Rattle.lexer.specs.Lexing.{longest}
 use Rattle.lexer.specs.Places.{nowhere}
+use Rattle.lexer.specs.Refusals.{number}
+use Rattle.lexer.specs.declared.Place.{Place}
 use Rattle.lexer.specs.declared.refusal.Refusal.{Refusal}
-use Rattle.record.proofs.CallLaws.{length-refused, told, fits, short, left, short-told, fitting}
+use Rattle.record.proofs.CallLaws.{length-refused, same-refusal, fits, short, left, short-told, fitting}
 use Rattle.record.proofs.SomeReading.{no-reading}
 use Rattle.record.specs.Calls.{Result, bytes·of, refusal, refuse, answer, written, write·result, write·answer, write·leaves}
-use Rattle.record.specs.Demands.{Write·gives, Write·gives·the·form, Refuses, Write·refuses·in·order}
+use Rattle.record.specs.Demands.{Write·gives, Write·gives·the·form, Write·refuses·in·order}
 use Rattle.record.specs.Form.{form}
 use Rattle.record.specs.Unspell.{unspell}
 use Rattle.record.specs.declared.Answer.{Answer}
@@ -53,23 +55,23 @@ write-case b = go (unspell b) refl
         let h = leb-false (length (form r)) 1048576 t in
         rw (write-long b r e h) (form·long e h))
 
--- What a refusal at 0,0 says
-record Says (b : List ℕ) (room n : ℕ) : Type 0 where
-  thirty-one : n ≡ 31 → unspell b ≡ none
-  thirty-two : n ≡ 32 → (r : Reading) × (unspell b ≡ some r) × (1048576 < length (form r))
-  thirty : n ≡ 30 → (r : Reading) × (unspell b ≡ some r) × (length (form r) ≤ 1048576) × (room < length (form r))
+-- What a refusal says, by its number
+record Says (b : List ℕ) (room : ℕ) (n : Refusal) : Type 0 where
+  thirty-one : number n ≡ 31 → unspell b ≡ none
+  thirty-two : number n ≡ 32 → (r : Reading) × (unspell b ≡ some r) × (1048576 < length (form r))
+  thirty : number n ≡ 30 → (r : Reading) × (unspell b ≡ some r) × (length (form r) ≤ 1048576) × (room < length (form r))
 
-case-says : (b : List ℕ) (room n : ℕ) (x : Result) → Write·case b x → Refuses (answer x room) n 0 0 → Says b room n
+case-says : (b : List ℕ) (room : ℕ) (n : Refusal) (p : Place) (x : Result) → Write·case b x → answer x room ≡ Answer.Refused n p → Says b room n
 unfolding answer
-case-says b room n x (not·record e) r =
-    let k = told r .0 in
-    record { thirty-one = λ q. e; thirty-two = λ q. absurd (omega arith); thirty = λ q. absurd (omega arith) }
-case-says b room n x (form·long {r = s} e h) r =
-    let k = told r .0 in
-    record { thirty-one = λ q. absurd (omega arith); thirty-two = λ q. (s, e, h); thirty = λ q. absurd (omega arith) }
-case-says b room n x (forming {r = s} e h) r =
-    let k = short-told (form s) room n 0 0 r in
-    record { thirty-one = λ q. absurd (omega arith); thirty-two = λ q. absurd (omega arith); thirty = λ q. (s, e, h, k .1) }
+case-says b room n p x (not·record e) q =
+    let k = same-refusal q .0 in
+    record { thirty-one = λ o. e; thirty-two = λ o. absurd (omega arith); thirty = λ o. absurd (omega arith) }
+case-says b room n p x (form·long {r = r} e h) q =
+    let k = same-refusal q .0 in
+    record { thirty-one = λ o. absurd (omega arith); thirty-two = λ o. (r, e, h); thirty = λ o. absurd (omega arith) }
+case-says b room n p x (forming {r = r} e h) q =
+    let k = short-told (form r) room n p q in
+    record { thirty-one = λ o. absurd (omega arith); thirty-two = λ o. absurd (omega arith); thirty = λ o. (r, e, h, k .1) }
 
 case-answers : (b : List ℕ) (room n : ℕ) (x : Result) → Write·case b x → answer x room ≡ Answer.Length n
     → (n ≤ room) × (n ≤ 1048576) × ((r : Reading) × (unspell b ≡ some r) × (length (form r) ≡ n))
@@ -80,15 +82,23 @@ case-answers b room n x (forming {r = r} e h) q =
     let k = fitting (form r) room n q in
     (k .1, omega (arith, k .0), (r, e, k .0))
 
+case-nowhere : (b : List ℕ) (room : ℕ) (n : Refusal) (p : Place) (x : Result) → Write·case b x → answer x room ≡ Answer.Refused n p
+    → (p .line ≡ 0) × (p .column ≡ 0)
+unfolding answer nowhere
+case-nowhere b room n p x (not·record e) q = let k = same-refusal q in (sym (k .1), sym (k .2))
+case-nowhere b room n p x (form·long e h) q = let k = same-refusal q in (sym (k .1), sym (k .2))
+case-nowhere b room n p x (forming {r = r} e h) q = let k = short-told (form r) room n p q in (k .2, k .3)
+
 pub write-refuses : Write·refuses·in·order
 unfolding write·answer answer nowhere
 write-refuses b room =
-    let says : (n : ℕ) → Refuses (write·answer b room) n 0 0 → Says b room n = λ n. case-says b room n (write·result b) (write-case b) in
+    let says : (n : Refusal) (p : Place) → write·answer b room ≡ Answer.Refused n p → Says b room n = λ n p. case-says b room n p (write·result b) (write-case b) in
     record {
-      not·record = (λ h. no-reading b .0 (says 31 h .thirty-one refl), λ h. (Refusal.NotRecord, refl, rw (write-none b (no-reading b .1 h))));
-      form·long = (λ h. says 32 h .thirty-two refl, λ h. (Refusal.FormTooLong, refl, rw (write-long b (h .0) (h .1) (h .2))));
-      no·room = (λ h. says 30 h .thirty refl, λ h. (Refusal.BufferShort, refl, rw (write-form b (h .0) (h .1) (h .2)) (short (form (h .0)) room (h .3))));
+      not·record = (λ h. no-reading b .0 (says (h .0) _ (h .2) .thirty-one (h .1)), λ h. (Refusal.NotRecord, refl, rw (write-none b (no-reading b .1 h))));
+      form·long = (λ h. says (h .0) _ (h .2) .thirty-two (h .1), λ h. (Refusal.FormTooLong, refl, rw (write-long b (h .0) (h .1) (h .2))));
+      no·room = (λ h. says (h .0) _ (h .2) .thirty (h .1), λ h. (Refusal.BufferShort, refl, rw (write-form b (h .0) (h .1) (h .2)) (short (form (h .0)) room (h .3))));
       answers = λ n. (case-answers b room n (write·result b) (write-case b), λ h. rw (write-form b (h .2 .0) (h .2 .1) (omega arith)) (fits (form (h .2 .0)) room (omega arith) ∙ ap Answer.Length (h .2 .2)));
+      nowhere = λ n p. case-nowhere b room n p (write·result b) (write-case b);
     }
 
 -- The form that a call leaves

@@ -1,6 +1,7 @@
 -- What the definitions promise, statement by statement. proofs/Demands.antt names the proof of each.
 use Prim.Native.Nat.{ℕ, _+_, _*_, _≤_, _<_}
 use lib.ListN.{length, take, drop}
+use mathlib.Core.Bool.{true, false}
 use mathlib.Core.List.{List, [], _∷_, _++_, map}
 use mathlib.Core.Logic.{_↔_}
 use mathlib.Core.Option.{some}
@@ -9,6 +10,7 @@ use Rattle.lexer.specs.Base.{bytes, byte}
 use Rattle.lexer.specs.Lexing.{longest}
 use Rattle.lexer.specs.Refusals.{number}
 use Rattle.lexer.specs.Tokens.{tokens}
+use Rattle.lexer.specs.Utf8.{utf8}
 use Rattle.lexer.specs.Words.{numbered}
 use Rattle.block.specs.Parse.{reading, fault, read}
 use Rattle.block.specs.Reading.{Taxon, Character, Reading}
@@ -210,8 +212,11 @@ pub record Read·refuses (text : List ℕ) (work room : ℕ) : Type 0 where
   pub too·long : Refuses (read·answer text work room) 1 0 0 ↔ 1048576 < length text
   -- 2: it is not, and work memory is short
   pub memory·short : Refuses (read·answer text work room) 2 0 0 ↔ (length text ≤ 1048576) × (work < 4 * length text + 64)
-  -- 3 to 29: neither, and the text itself is refused, at the place of its fault
-  pub faulty : (n : Refusal) (p : Place) → Taken text work → read text ≡ fault n p → read·answer text work room ≡ Answer.Refused n p
+  -- 3: neither, and the text is not UTF-8
+  pub not·utf8 : Refuses (read·answer text work room) 3 0 0 ↔ Taken text work × (utf8 text ≡ false)
+  -- 4 to 29: nothing of these, and the text itself is refused, at the place of its fault, which has a line
+  pub faulty : (n : Refusal) (p : Place) → 1 ≤ p .line → (read·answer text work room ≡ Answer.Refused n p) ↔ Taken text work × (read text ≡ fault n p)
+  pub placed : (n : Refusal) (p : Place) → utf8 text ≡ true → read text ≡ fault n p → 1 ≤ p .line
   -- 30: nothing of these, and the record is longer than the buffer
   pub no·room : Refuses (read·answer text work room) 30 0 0 ↔ Taken text work × ((r : Reading) × Reads text r × (room < length (spell r)))
   -- else the answer is the record's length
@@ -230,6 +235,7 @@ pub record Write·refuses (b : List ℕ) (room : ℕ) : Type 0 where
   pub no·room : Refuses (write·answer b room) 30 0 0 ↔ ((r : Reading) × (unspell b ≡ some r) × (length (form r) ≤ 1048576) × (room < length (form r)))
   -- else the answer is the form's length
   pub answers : (n : ℕ) → (write·answer b room ≡ Answer.Length n) ↔ (n ≤ room) × (n ≤ 1048576) × ((r : Reading) × (unspell b ≡ some r) × (length (form r) ≡ n))
+  pub nowhere : (n : Refusal) (p : Place) → write·answer b room ≡ Answer.Refused n p → (p .line ≡ 0) × (p .column ≡ 0)
 
 abbrev pub Write·refuses·in·order : Type 0
 Write·refuses·in·order = (b : List ℕ) (room : ℕ) → Write·refuses b room
