@@ -25,6 +25,7 @@ pub mod LookupLaws
 pub mod MatrixRead
 pub mod NameLaws
 pub mod PartLaws
+pub mod PieceLaws
 pub mod PlainBytes
 pub mod ProgramLaws
 pub mod QuotedLexed

@@ -1,6 +1,5 @@
 -- The lookup finds the cells of the row that has the name, and refuses a name that no row has. Assumes nothing.
 use Prim.Native.Nat.{ℕ, _+_, _≤_}
-use Prim.Native.String.{String}
 use Rattle.block.specs.Cell.{Cell, state, uncertain, polymorphic, missing, gap}
 use Rattle.block.specs.Interleaved.{all·long}
 use Rattle.block.specs.Names.{known}
@@ -11,6 +10,7 @@ use Rattle.lexer.proofs.Basics.{and-left, and-right, or-left, or-right, by-test
 use Rattle.lexer.specs.Base.{pick, bytes, alike}
 use Rattle.record.proofs.AsciiCase.{alike-letters, letters-alike}
 use Rattle.record.proofs.DecimalLaws.{decimal-some}
+use Rattle.record.proofs.PieceLaws.{line-behind, taxa-behind, head-behind, taxa-append, line-length, cells-length}
 use Rattle.record.proofs.SpellLaws.{some-length}
 use Rattle.record.proofs.UnspellLaws.{spell-unspell}
 use Rattle.record.specs.Calls.{not·found, found, looked·up, lookup·answer}
@@ -23,36 +23,10 @@ use lib.Dec.{eqb}
 use lib.ListN.{length, drop, length-append}
 use lib.Seq.{take-at, drop-at, drop-drop}
 use mathlib.Core.Bool.{true, false, not, true≢false}
-use mathlib.Core.List.{List, [], _∷_, _++_, append-assoc}
+use mathlib.Core.List.{List, [], _∷_, _++_}
 use mathlib.Core.Option.{Option, none, some}
 use mathlib.Core.Path.{_≡_, refl, sym, ap, _∙_}
 use native.Mathlib.Omega.{arith}
-
--- Pieces of a record, with two things behind them
-line-behind : (key : String) (v x y : List ℕ) → line key v (x ++ y) ≡ line key v x ++ y
-unfolding line
-line-behind key v x y = simp append-assoc
-
-taxa-behind : (ts : List Taxon) (x y : List ℕ) → spell·taxa ts (x ++ y) ≡ spell·taxa ts x ++ y
-unfolding spell·taxa
-taxa-behind [] x y = refl
-taxa-behind (t ∷ ts) x y = rw (taxa-behind ts x y, line-behind, line-behind)
-
-head-behind : (r : Reading) (x y : List ℕ) → spell·head r (x ++ y) ≡ spell·head r x ++ y
-unfolding spell·head
-head-behind r x y = simp line-behind
-
-taxa-append : (us vs : List Taxon) (x : List ℕ) → spell·taxa (us ++ vs) x ≡ spell·taxa us (spell·taxa vs x)
-unfolding spell·taxa
-taxa-append [] vs x = refl
-taxa-append (u ∷ us) vs x = rw (taxa-append us vs x)
-
-line-length : (key : String) (v x : List ℕ) → length (line key v x) ≡ length (line key v []) + length x
-line-length key v x = ap length (line-behind key v [] x) ∙ length-append (line key v []) x
-
-cells-length : (c x : List ℕ) → length (line "cells=" c x) ≡ 6 + length c + 1 + length x
-unfolding line bytes
-cells-length c x = omega (arith, length-append c (10 ∷ x))
 
 -- The record around a row's cells
 unfoldable row-before : {r : Reading} → Row r → List ℕ
