@@ -188,7 +188,8 @@ Calls·give·back·records·of·texts =
     (text : List ℕ) (r : Reading) → length text ≤ 1048576 → Reads text r → length (form r) ≤ 1048576
     → Read·gives text (spell r) × Write·gives (spell r) (form r) × Read·gives (form r) (spell r)
 
--- Demand 3, of the calls. The same of every record: what write gives for it, read again, gives it back.
+-- Demand 3, of the calls. The same of every record, of a short text or not: what write gives for it, read again, gives it back. What it gives,
+-- and that it gives something wherever the form is at most 1,048,576 bytes, is `Write·gives·the·form`.
 abbrev pub Calls·give·back·records : Type 0
 Calls·give·back·records = (b f : List ℕ) → Write·gives b f → Read·gives f b
 
@@ -256,8 +257,8 @@ Buffers·are·kept =
 abbrev pub refusal·lines : ℕ → ℕ → ℕ → List ℕ
 refusal·lines n l c = line "refused=" (decimal n) (line "line=" (decimal l) (line "column=" (decimal c) []))
 
--- The program. Of more than 1,024 bytes it prints refusal 1, at 0,0; of others the record, or the three lines of the refusal. (That a record
--- of so short a text always fits is not shown; where one did not, 30 would be printed.)
+-- The program. Of more than 1,024 bytes it prints refusal 1, at 0,0; of others the record, or the three lines of the refusal. That the record
+-- of so short a text always fits is not shown, so 30 has its line here.
 pub record Program·prints (input : List ℕ) : Type 0 where
   pub too·long : 1024 < length input → program·prints input ≡ bytes "refused=1\nline=0\ncolumn=0\n"
   pub recorded : (r : Reading) → length input ≤ 1024 → Reads input r → length (spell r) ≤ 65536 → program·prints input ≡ spell r

@@ -15,8 +15,8 @@ use Rattle.record.specs.declared.Answer.{Answer}
 unfoldable pub most·input : ℕ
 most·input = 1024
 
--- Work memory for so many bytes, and a record buffer. No text of 1,024 bytes has so long a record: a character takes at least a byte of the
--- text and at most 51 of the record, where its cell is N of DNA.
+-- Work memory for so many bytes, and a record buffer. It is longer than any record of so short a text: a byte of a text makes at most 51 bytes
+-- of its record, where it is an N of DNA, with the four lines of its character.
 unfoldable pub program·work : ℕ
 program·work = work·needed most·input
 
