@@ -3,7 +3,6 @@ use Prim.Native.Nat.{ℕ}
 use Rattle.block.proofs.ReadingSmall.{reading-small}
 use Rattle.block.proofs.ReadingSound.{reading-sound}
 use Rattle.block.specs.Reading.{Reading}
-use Rattle.lexer.specs.Lexing.{longest}
 use Rattle.record.proofs.Agreement.{one-reading, forms-apart}
 use Rattle.record.proofs.FormRead.{form-read}
 use Rattle.record.proofs.ReadCall.{read-gives, read-gives-the-record}
@@ -13,7 +12,7 @@ use Rattle.record.proofs.WriteCall.{write-gives, write-gives-the-form}
 use Rattle.record.specs.Demands.{Reads, Agree, Records·of·texts·pass, Read·gives, Write·gives, Calls·give·back·records·of·texts, Calls·give·back·records, Calls·tell·texts·apart}
 use Rattle.record.specs.Form.{form}
 use Rattle.record.specs.Spell.{spell}
-use Rattle.record.specs.Unspell.{unspell, most}
+use Rattle.record.specs.Unspell.{unspell}
 use mathlib.Core.List.{List}
 use mathlib.Core.Logic.{_↔_}
 use mathlib.Core.Option.{some, Option·some-injective}
@@ -22,13 +21,11 @@ use native.Mathlib.Omega.{arith}
 
 -- A reading is no larger than its text, so its record is none that is refused.
 pub text-record-passes : Records·of·texts·pass
-unfolding longest most
 text-record-passes text r few h =
     let small = reading-small text r h in
     unspell-spell r (reading-sound text r h) (record { taxa = omega (arith, small .taxa); characters = omega (arith, small .characters) })
 
 pub texts-given-back : Calls·give·back·records·of·texts
-unfolding longest
 texts-given-back text r t h f =
     (read-gives text r t h, write-gives (spell r) r (text-record-passes text r t h) f, read-gives (form r) r f (form-read r (reading-sound text r h)))
 
@@ -41,7 +38,6 @@ records-given-back b f w =
 
 -- What write gives for the record of a text is the form of its reading.
 text-form : (t b f : List ℕ) (r : Reading) → Reads t r → Read·gives t b → Write·gives b f → form r ≡ f
-unfolding longest
 text-form t b f r e g w =
     let k = read-gives-the-record t b .0 g in
     let x = k .1 .0 in

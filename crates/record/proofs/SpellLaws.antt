@@ -17,7 +17,7 @@ use Rattle.record.specs.Decimal.{decimal}
 use Rattle.record.specs.Demands.{Counted}
 use Rattle.block.specs.Sound.{Sound, sound, sound·rows, sound·cells, gap·in}
 use Rattle.record.specs.Spell.{line, type·word, order·word, escaped, spell·cells, spell·taxa, spell·states, spell·character, spell·characters, spell·head, spell}
-use Rattle.record.specs.Unspell.{lines, made, unspell·cells, Head, Draft, Next, datatype·line, taxa·line, characters·line, symbols·line, name·line, cells·line, character·line, label·line, order·line, states·line, no·line, no·taxa, with·taxon, with·character, with·states, line·turn, turns, drafted, shape, if·sound, unspell}
+use Rattle.record.specs.Unspell.{lines, made, unspell·cells, most, Head, Draft, Next, datatype·line, taxa·line, characters·line, symbols·line, name·line, cells·line, character·line, label·line, order·line, states·line, no·line, no·taxa, with·taxon, with·character, with·states, line·turn, turns, drafted, shape, if·sound, unspell}
 use borrow.Author.Tests.{eqb-true, ne-eqb, eq-eqb}
 use lib.Dec.{eqb}
 use lib.ListN.{length, length-append}
@@ -125,7 +125,7 @@ length-some (x ∷ l) h = refl
 
 head-leads : (r : Reading) (rest : List ℕ) {n : Next} → Sound r → Counted r → Leads (name·line (draft (head·of r) [] [])) rest n
     → Leads datatype·line (spell·head r rest) n
-unfolding spell·head line·turn made bind bytes among no·taxa
+unfolding spell·head line·turn made bind bytes among no·taxa most
 head-leads r rest s c h =
     let t = r .data·type in
     let n = length (r .taxa) in

@@ -272,7 +272,7 @@ record Recorded (b : List ℕ) (r : Reading) : Type 0 where
   counted : Counted r
 
 draft-recorded : (n : Next) (r : Reading) → Held n → drafted n ≡ some r → Recorded (spelled n []) r
-unfolding drafted spelled before·character before·taxon head·spelled spell spell·head
+unfolding drafted spelled before·character before·taxon head·spelled spell spell·head most
 draft-recorded datatype·line r held h = absurd (Option·none-ne-some r h)
 draft-recorded (taxa·line t) r held h = absurd (Option·none-ne-some r h)
 draft-recorded (characters·line t n) r held h = absurd (Option·none-ne-some r h)

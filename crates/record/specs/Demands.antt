@@ -7,7 +7,6 @@ use mathlib.Core.Logic.{_↔_}
 use mathlib.Core.Option.{some}
 use mathlib.Core.Path.{_≡_}
 use Rattle.lexer.specs.Base.{bytes, byte}
-use Rattle.lexer.specs.Lexing.{longest}
 use Rattle.lexer.specs.Refusals.{number}
 use Rattle.lexer.specs.Tokens.{tokens}
 use Rattle.lexer.specs.Utf8.{utf8}
@@ -25,7 +24,7 @@ use Rattle.record.specs.Form.{form}
 use Rattle.record.specs.Lookup.{Stretch}
 use Rattle.record.specs.Program.{program·prints}
 use Rattle.record.specs.Spell.{line, escaped, spell·cells, spell·taxa, spell·characters, spell·head, spell}
-use Rattle.record.specs.Unspell.{unspell, most}
+use Rattle.record.specs.Unspell.{unspell}
 use Rattle.record.specs.declared.Answer.{Answer}
 
 -- A text, of any length, has a reading.
@@ -53,8 +52,8 @@ Labels·come·from·tokens = (text : List ℕ) (r : Reading) → Reads text r �
 
 -- The counts of a record are at most 1,048,576.
 pub record Counted (r : Reading) : Type 0 where
-  pub taxa : length (r .taxa) ≤ most
-  pub characters : length (r .characters) ≤ most
+  pub taxa : length (r .taxa) ≤ 1048576
+  pub characters : length (r .characters) ≤ 1048576
 
 -- Demand 3. A record gives back its reading.
 abbrev pub Records·are·read·back : Type 0
@@ -66,7 +65,7 @@ Records·are·spelled = (b : List ℕ) (r : Reading) → unspell b ≡ some r �
 
 -- Demand 3. The record of a text of at most 1,048,576 bytes is never refused (31).
 abbrev pub Records·of·texts·pass : Type 0
-Records·of·texts·pass = (text : List ℕ) (r : Reading) → length text ≤ longest → Reads text r → unspell (spell r) ≡ some r
+Records·of·texts·pass = (text : List ℕ) (r : Reading) → length text ≤ 1048576 → Reads text r → unspell (spell r) ≡ some r
 
 -- Some text's reading, sound and within the counts, spells these bytes.
 abbrev pub Some·reading·spells : List ℕ → Type 0
