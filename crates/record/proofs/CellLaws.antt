@@ -5,11 +5,11 @@ use Rattle.lexer.proofs.Basics.{and-left, and-right, or-both, same-true}
 use Rattle.lexer.specs.Base.{pick, among, empty?, same}
 use Rattle.record.proofs.DecimalLaws.{digit?, all-digits, decimal-digits, decimal-some, undecimal-decimal, decimal-undecimal}
 use Rattle.record.proofs.LineLaws.{made-some}
-use Rattle.record.proofs.PartLaws.{joined, joined-free, Every, every, each, list-read, list-spelled}
+use Rattle.record.proofs.PartLaws.{joined, joined-free, Every, every, list-read, list-spelled}
 use Rattle.record.specs.Decimal.{decimal, undecimal}
 use Rattle.block.specs.Sound.{sound·set, sound·cell, sound·cells, rising}
 use Rattle.record.specs.Spell.{dotted, spell·cell, spell·cells}
-use Rattle.record.specs.Unspell.{parts, numbers, made, unspell·cell, unspell·each, unspell·cells}
+use Rattle.record.specs.Unspell.{numbers, made, unspell·cell, unspell·cells}
 use borrow.Author.Tests.{eqb-true, ne-eqb, not-true, leb-true, lt-leb}
 use lib.Dec.{eqb, leb}
 use mathlib.Core.Bool.{Bool, true, false, true≢false}
@@ -41,23 +41,14 @@ cells-joined [] = refl
 cells-joined (c ∷ []) = refl
 cells-joined (c ∷ d ∷ r) = rw (cells-joined (d ∷ r))
 
-numbers-each : (ps : List (List ℕ)) → numbers ps ≡ each undecimal ps
-unfolding numbers each
-numbers-each [] = refl
-numbers-each (p ∷ ps) = rw (numbers-each ps)
-
-cells-each : (ps : List (List ℕ)) → unspell·each ps ≡ each unspell·cell ps
-unfolding unspell·each each
-cells-each [] = refl
-cells-each (p ∷ ps) = rw (cells-each ps)
-
 -- A set's indices
-set-read : (s : List ℕ) → empty? s ≡ false → numbers (parts 46 (dotted s)) ≡ some s
-unfolding digit?
-set-read s h = rw (dotted-joined s, numbers-each) (list-read undecimal decimal 46 s h (every (decimal-free 46 refl) s) (every undecimal-decimal s))
+set-read : (s : List ℕ) → empty? s ≡ false → numbers (dotted s) ≡ some s
+unfolding numbers digit?
+set-read s h = rw (dotted-joined s) (list-read undecimal decimal 46 s h (every (decimal-free 46 refl) s) (every undecimal-decimal s))
 
-set-spelled : (t s : List ℕ) → numbers (parts 46 t) ≡ some s → dotted s ≡ t
-set-spelled t s h = rw dotted-joined (list-spelled undecimal decimal decimal-undecimal 46 t s (sym (numbers-each (parts 46 t)) ∙ h))
+set-spelled : (t s : List ℕ) → numbers t ≡ some s → dotted s ≡ t
+unfolding numbers
+set-spelled t s h = rw dotted-joined (list-spelled undecimal decimal 46 decimal-undecimal [] t s h)
 
 dotted-free : (b : ℕ) → digit? b ≡ false → eqb b 46 ≡ false → (s : List ℕ) → among b (dotted s) ≡ false
 dotted-free b o d s = rw dotted-joined (joined-free decimal b 46 d s (every (decimal-free b o) s))
@@ -115,13 +106,13 @@ cell-spelled (b ∷ r) c h = go (eqb b 117) refl (eqb b 112) refl (same (b ∷ r
   where
     go : (u : Bool) → eqb b 117 ≡ u → (p : Bool) → eqb b 112 ≡ p → (m : Bool) → same (b ∷ r) (109 ∷ []) ≡ m → (g : Bool)
         → same (b ∷ r) (103 ∷ []) ≡ g
-        → pick u (made uncertain (numbers (parts 46 r))) (pick p (made polymorphic (numbers (parts 46 r))) (pick m (some missing) (pick g (some gap) (made state (undecimal (b ∷ r)))))) ≡ some c
+        → pick u (made uncertain (numbers r)) (pick p (made polymorphic (numbers r)) (pick m (some missing) (pick g (some gap) (made state (undecimal (b ∷ r)))))) ≡ some c
         → spell·cell c ≡ b ∷ r
     go true e p f m k g l h =
-        let s = made-some uncertain (numbers (parts 46 r)) c h in
+        let s = made-some uncertain (numbers r) c h in
         rw (← s .2, set-spelled r (s .0) (s .1), eqb-true b 117 e)
     go false e true f m k g l h =
-        let s = made-some polymorphic (numbers (parts 46 r)) c h in
+        let s = made-some polymorphic (numbers r) c h in
         rw (← s .2, set-spelled r (s .0) (s .1), eqb-true b 112 f)
     go false e false f true k g l h = rw (← Option·some-injective missing c h) (sym (same-true _ _ k))
     go false e false f false k true l h = rw (← Option·some-injective gap c h) (sym (same-true _ _ l))
@@ -131,11 +122,11 @@ cell-spelled (b ∷ r) c h = go (eqb b 117) refl (eqb b 112) refl (same (b ∷ r
 
 pub cells-spelled : (v : List ℕ) (cs : List Cell) → unspell·cells v ≡ some cs → spell·cells cs ≡ v
 unfolding unspell·cells
-cells-spelled v cs h = rw cells-joined (list-spelled unspell·cell spell·cell cell-spelled 32 v cs (sym (cells-each (parts 32 v)) ∙ h))
+cells-spelled v cs h = rw cells-joined (list-spelled unspell·cell spell·cell 32 cell-spelled [] v cs h)
 
 pub cells-read : (count : ℕ) (cs : List Cell) → empty? cs ≡ false → sound·cells count cs ≡ true → unspell·cells (spell·cells cs) ≡ some cs
 unfolding unspell·cells
-cells-read count cs e h = rw (cells-joined cs, cells-each) (list-read unspell·cell spell·cell 32 cs e (every (cell-free 32 (omega arith)) cs) (each-cell-read count cs h))
+cells-read count cs e h = rw (cells-joined cs) (list-read unspell·cell spell·cell 32 cs e (every (cell-free 32 (omega arith)) cs) (each-cell-read count cs h))
 
 pub cells-clean : (cs : List Cell) → among 10 (spell·cells cs) ≡ false
 cells-clean cs = rw cells-joined (joined-free spell·cell 10 32 refl cs (every (cell-free 10 (omega arith)) cs))

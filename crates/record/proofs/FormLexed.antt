@@ -188,7 +188,7 @@ types-parts (c ∷ cs) {r} {ts} e = go (c .ordering) (types-parts cs e)
     go CharacterOrdering.Ordered more = blank-parts (word-lexed (bytes "ORD") refl refl more)
     go CharacterOrdering.Unordered more = blank-parts (word-lexed (bytes "UNORD") refl refl more)
 
-assumptions-lexed : (cs : List Character) → Lexes (form·assumptions cs) (assumptions·tokens cs)
+assumptions-lexed : (cs : List Character) → Lexes (form·assumptions cs []) (assumptions·tokens cs)
 unfolding form·assumptions assumptions·tokens run·tokens
 assumptions-lexed cs =
     let nothing : Lexes [] [] = record { well·formed = refl; tokens = refl } in

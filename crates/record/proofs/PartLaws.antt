@@ -1,65 +1,20 @@
--- A text cut at each byte of a value, and joined again; and values spelled one by one between such bytes. Assumes nothing.
+-- Values spelled one by one with a byte between each two, and read back one by one. Assumes nothing.
 use Prim.Native.Nat.{ℕ}
-use Rattle.lexer.proofs.Basics.{or-both, or-left, or-right, among-append, eqb-same, eqb-sym}
+use Rattle.lexer.proofs.Basics.{or-both, or-left, or-right, among-append, eqb-same, eqb-sym, chosen}
 use Rattle.lexer.specs.Base.{pick, among, empty?}
-use Rattle.record.specs.Unspell.{parts, longer, before}
+use Rattle.record.specs.Unspell.{parts, before}
 use borrow.Author.Tests.{eqb-true}
 use lib.Dec.{eqb}
-use mathlib.Core.Bool.{Bool, true, false, true≢false}
-use mathlib.Core.List.{List, [], _∷_, _++_, map}
+use mathlib.Core.Bool.{true, false, true≢false}
+use mathlib.Core.List.{List, [], _∷_, _++_, map, append-assoc, append-nil}
 use mathlib.Core.Option.{Option, none, some, Option·none-ne-some, Option·some-injective}
-use mathlib.Core.Path.{_≡_, refl, ap, _∙_}
+use mathlib.Core.Path.{_≡_, refl, sym, ap, _∙_}
 
 -- Parts with a byte between each two.
 unfoldable pub joined : ℕ → List (List ℕ) → List ℕ
 joined at [] = []
 joined at (p ∷ []) = p
 joined at (p ∷ q ∷ r) = p ++ (at ∷ joined at (q ∷ r))
-
-joined-longer : (at b : ℕ) (ps : List (List ℕ)) → joined at (longer b ps) ≡ b ∷ joined at ps
-unfolding joined longer
-joined-longer at b [] = refl
-joined-longer at b (p ∷ []) = refl
-joined-longer at b (p ∷ q ∷ r) = refl
-
-joined-more : (at : ℕ) (p : List ℕ) (ps : List (List ℕ)) → empty? ps ≡ false → joined at (p ∷ ps) ≡ p ++ (at ∷ joined at ps)
-unfolding joined empty?
-joined-more at p [] h = absurd (true≢false h)
-joined-more at p (q ∷ r) h = refl
-
-parts-some : (at : ℕ) (t : List ℕ) → empty? (parts at t) ≡ false
-unfolding parts empty? pick longer
-parts-some at [] = refl
-parts-some at (b ∷ r) = go (eqb b at) (parts at r)
-  where
-    go : (c : Bool) (ps : List (List ℕ)) → empty? (pick c ([] ∷ ps) (longer b ps)) ≡ false
-    go true ps = refl
-    go false [] = refl
-    go false (p ∷ ps) = refl
-
-joined-parts : (at : ℕ) (t : List ℕ) → joined at (parts at t) ≡ t
-unfolding parts joined pick
-joined-parts at [] = refl
-joined-parts at (b ∷ r) = go (joined-parts at r) (eqb b at) refl
-  where
-    go : joined at (parts at r) ≡ r → (c : Bool) → eqb b at ≡ c → joined at (pick c ([] ∷ parts at r) (longer b (parts at r))) ≡ b ∷ r
-    go ih true e = rw (joined-more at [] (parts at r) (parts-some at r), ih, eqb-true b at e)
-    go ih false e = joined-longer at b (parts at r) ∙ ap (_∷_ b) ih
-
--- A part in front, of which no byte is cut at
-parts-plain : (at : ℕ) (p : List ℕ) → among at p ≡ false → parts at p ≡ p ∷ []
-unfolding parts among pick longer
-parts-plain at [] h = refl
-parts-plain at (b ∷ p) h =
-    let other : eqb b at ≡ false = eqb-sym b at ∙ or-left _ (among at p) h in
-    rw (other, parts-plain at p (or-right (eqb at b) _ h))
-
-parts-before : (at : ℕ) (p t : List ℕ) → among at p ≡ false → parts at (p ++ (at ∷ t)) ≡ p ∷ parts at t
-unfolding parts among pick longer
-parts-before at [] t h = rw eqb-same
-parts-before at (b ∷ p) t h =
-    let other : eqb b at ≡ false = eqb-sym b at ∙ or-left _ (among at p) h in
-    rw (other, parts-before at p t (or-right (eqb at b) _ h))
 
 -- Something that holds of every one of a list.
 module _ {A : Type 0} where
@@ -73,12 +28,6 @@ module _ {A : Type 0} where
 
 -- Values spelled one by one
 module _ {A : Type 0} (enc : A → List ℕ) where
-  parts-joined : (at : ℕ) (x : A) (l : List A) → Every (λ y. among at (enc y) ≡ false) (x ∷ l)
-      → parts at (joined at (map enc (x ∷ l))) ≡ map enc (x ∷ l)
-  unfolding joined
-  parts-joined at x [] h = parts-plain at (enc x) (h .0)
-  parts-joined at x (y ∷ r) h = rw (parts-before at (enc x) (joined at (map enc (y ∷ r))) (h .0), parts-joined at y r (h .1))
-
   -- a byte that none of them holds, and that does not part them, is not in their spelling
   pub joined-free : (b at : ℕ) → eqb b at ≡ false → (l : List A) → Every (λ y. among b (enc y) ≡ false) l
       → among b (joined at (map enc l)) ≡ false
@@ -88,37 +37,56 @@ module _ {A : Type 0} (enc : A → List ℕ) where
   joined-free b at o (x ∷ y ∷ r) h =
       among-append b (enc x) (at ∷ joined at (map enc (y ∷ r))) ∙ or-both (h .0) (or-both o (joined-free b at o (y ∷ r) (h .1)))
 
--- Texts read one by one.
-module _ {A : Type 0} (dec : List ℕ → Option A) where
-  unfoldable pub each : List (List ℕ) → Option (List A)
-  each [] = some []
-  each (p ∷ r) = before (dec p) (each r)
+-- The first before the others: both are there.
+before-some : {A : Type 0} (o : Option A) (m : Option (List A)) (l : List A) → before o m ≡ some l
+    → (x : A) × (r : List A) × (o ≡ some x) × (m ≡ some r) × (x ∷ r ≡ l)
+unfolding before
+before-some none m l h = absurd (Option·none-ne-some l h)
+before-some (some x) none l h = absurd (Option·none-ne-some l h)
+before-some (some x) (some r) l h = (x, r, refl, refl, Option·some-injective (x ∷ r) l h)
 
-module _ {A : Type 0} (dec : List ℕ → Option A) (enc : A → List ℕ) where
-  each-read : (l : List A) → Every (λ x. dec (enc x) ≡ some x) l → each dec (map enc l) ≡ some l
-  unfolding each before
-  each-read [] h = refl
-  each-read (x ∷ r) h = rw (h .0, each-read r (h .1))
-
-  each-spelled : ((p : List ℕ) (x : A) → dec p ≡ some x → enc x ≡ p) → (ps : List (List ℕ)) (l : List A) → each dec ps ≡ some l
-      → map enc l ≡ ps
-  unfolding each before
-  each-spelled spelled [] l h = rw (← Option·some-injective _ l h)
-  each-spelled spelled (p ∷ ps) l h = go (dec p) (spelled p) (each dec ps) (each-spelled spelled ps) h
-    where
-      go : (o : Option A) → ((x : A) → o ≡ some x → enc x ≡ p) → (m : Option (List A)) → ((r : List A) → m ≡ some r → map enc r ≡ ps)
-          → before o m ≡ some l → map enc l ≡ p ∷ ps
-      go none f m ih g = absurd (Option·none-ne-some l g)
-      go (some x) f none ih g = absurd (Option·none-ne-some l g)
-      go (some x) f (some r) ih g = rw (← Option·some-injective _ l g, f x refl, ih r refl)
+-- The parts of a text, read one by one.
+module _ {A : Type 0} (dec : List ℕ → Option A) (enc : A → List ℕ) (at : ℕ) where
+  -- bytes of the part that is open
+  parts-open : (o p t : List ℕ) → among at p ≡ false → parts dec at o (p ++ t) ≡ parts dec at (o ++ p) t
+  unfolding parts among pick
+  parts-open o [] t h = rw append-nil
+  parts-open o (b ∷ p) t h =
+      let other : eqb b at ≡ false = eqb-sym b at ∙ or-left _ (among at p) h in
+      rw (other, parts-open (o ++ (b ∷ [])) p t (or-right (eqb at b) _ h), append-assoc o (b ∷ []) p)
 
   -- What is spelled with a byte between each two is read back, and the other way round.
-  pub list-read : (at : ℕ) (l : List A) → empty? l ≡ false → Every (λ y. among at (enc y) ≡ false) l → Every (λ x. dec (enc x) ≡ some x) l
-      → each dec (parts at (joined at (map enc l))) ≡ some l
-  unfolding empty?
-  list-read at [] h free read = absurd (true≢false h)
-  list-read at (x ∷ l) h free read = rw (parts-joined enc at x l free) (each-read (x ∷ l) read)
+  pub list-read : (l : List A) → empty? l ≡ false → Every (λ y. among at (enc y) ≡ false) l → Every (λ x. dec (enc x) ≡ some x) l
+      → parts dec at [] (joined at (map enc l)) ≡ some l
+  unfolding empty? joined parts before pick
+  list-read [] h free read = absurd (true≢false h)
+  list-read (x ∷ []) h free read = ap (parts dec at []) (sym (append-nil (enc x))) ∙ parts-open [] (enc x) [] (free .0) ∙ rw (read .0)
+  list-read (x ∷ y ∷ r) h free read =
+      parts-open [] (enc x) (at ∷ joined at (map enc (y ∷ r))) (free .0)
+      ∙ rw (eqb-same, read .0, list-read (y ∷ r) refl (free .1) (read .1))
 
-  pub list-spelled : ((p : List ℕ) (x : A) → dec p ≡ some x → enc x ≡ p) → (at : ℕ) (t : List ℕ) (l : List A)
-      → each dec (parts at t) ≡ some l → joined at (map enc l) ≡ t
-  list-spelled spelled at t l h = rw (each-spelled spelled (parts at t) l h) (joined-parts at t)
+  -- there is at least one part
+  parts-some : (o t : List ℕ) (l : List A) → parts dec at o t ≡ some l → empty? l ≡ false
+  unfolding parts empty?
+  parts-some o [] l h = rw (← before-some (dec o) (some []) l h .4)
+  parts-some o (b ∷ t) l h =
+      chosen (λ (m : Option (List A)). m ≡ some l → empty? l ≡ false) (eqb b at) (λ _ g. rw (← before-some (dec o) (parts dec at [] t) l g .4)) (λ _. parts-some (o ++ (b ∷ [])) t l) h
+
+  joined-more : (x : A) (l : List A) → empty? l ≡ false → joined at (map enc (x ∷ l)) ≡ enc x ++ (at ∷ joined at (map enc l))
+  unfolding joined empty?
+  joined-more x [] h = absurd (true≢false h)
+  joined-more x (y ∷ l) h = refl
+
+  pub list-spelled : ((p : List ℕ) (x : A) → dec p ≡ some x → enc x ≡ p) → (o t : List ℕ) (l : List A) → parts dec at o t ≡ some l
+      → joined at (map enc l) ≡ o ++ t
+  unfolding parts joined
+  list-spelled spelled o [] l h =
+      let p = before-some (dec o) (some []) l h in
+      rw (← p .4, ← Option·some-injective [] (p .1) (p .3), append-nil) (spelled o (p .0) (p .2))
+  list-spelled spelled o (b ∷ t) l h =
+      chosen (λ (m : Option (List A)). m ≡ some l → joined at (map enc l) ≡ o ++ (b ∷ t)) (eqb b at) (λ e g. cut e (before-some (dec o) (parts dec at [] t) l g) (list-spelled spelled [] t)) (λ _ g. list-spelled spelled (o ++ (b ∷ [])) t l g ∙ append-assoc o (b ∷ []) t) h
+    where
+      cut : eqb b at ≡ true → (x : A) × (r : List A) × (dec o ≡ some x) × (parts dec at [] t ≡ some r) × (x ∷ r ≡ l)
+          → ((r : List A) → parts dec at [] t ≡ some r → joined at (map enc r) ≡ t) → joined at (map enc l) ≡ o ++ (b ∷ t)
+      cut e p more =
+          rw (← p .4, joined-more (p .0) (p .1) (parts-some [] t (p .1) (p .3)), spelled o (p .0) (p .2), more (p .1) (p .3), eqb-true b at e)

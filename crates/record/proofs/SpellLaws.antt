@@ -16,8 +16,8 @@ use Rattle.record.proofs.WordLaws.{order-read, order-clean, decimal-cle
 use Rattle.record.specs.Decimal.{decimal}
 use Rattle.record.specs.Demands.{Counted}
 use Rattle.block.specs.Sound.{Sound, sound, sound·rows, sound·cells, gap·in}
-use Rattle.record.specs.Spell.{line, type·word, order·word, escaped, spell·cells, spell·taxa, spell·states, spell·characters, spell·head, spell}
-use Rattle.record.specs.Unspell.{lines, made, unspell·cells, Head, Draft, Next, datatype·line, taxa·line, characters·line, symbols·line, name·line, cells·line, character·line, label·line, order·line, states·line, no·line, no·taxa, with·taxon, with·character, with·states, line·turn, turns, drafted, shape, if·sound, unspell}
+use Rattle.record.specs.Spell.{line, type·word, order·word, escaped, spell·cells, spell·taxa, spell·states, spell·character, spell·characters, spell·head, spell}
+use Rattle.record.specs.Unspell.{lines, made, unspell·cells, most, Head, Draft, Next, datatype·line, taxa·line, characters·line, symbols·line, name·line, cells·line, character·line, label·line, order·line, states·line, no·line, no·taxa, with·taxon, with·character, with·states, line·turn, turns, drafted, shape, if·sound, unspell}
 use borrow.Author.Tests.{eqb-true, ne-eqb, eq-eqb}
 use lib.Dec.{eqb}
 use lib.ListN.{length, length-append}
@@ -77,13 +77,8 @@ states-lead d l o done (x ∷ s) rest {n} h =
 
 character-leads : (d : Draft) (c : Character) (rest : List ℕ) {n : Next}
     → Leads (with·character d (c .label) (c .ordering) (c .states)) rest n
-    → Leads (character·line d)
-    (line "character=" (decimal (suc (length (d .characters))))
-    (line "label=" (escaped (c .label))
-    (line "order=" (order·word (c .ordering))
-    (line "states=" (decimal (length (c .states)))
-    (spell·states (c .states) rest))))) n
-unfolding line·turn made bind bytes among pick
+    → Leads (character·line d) (spell·character (suc (length (d .characters))) c rest) n
+unfolding spell·character line·turn made bind bytes among pick
 character-leads d c rest h =
     leads-line "character=" (decimal (suc (length (d .characters)))) _ {m = label·line d} refl (decimal-clean _) (rw (value-key "character=" (decimal (suc (length (d .characters)))), undecimal-decimal, eqb-same))
     (leads-line "label=" (escaped (c .label)) _ {m = order·line d (c .label)} refl (escaped-clean _) (rw (value-key "label=" (escaped (c .label)), unescaped-escaped))
@@ -101,24 +96,24 @@ character-more : (h : Head) (ts : List Taxon) (cs : List Character) (c : Charact
 unfolding with·character pick
 character-more h ts cs c e = rw (ne-eqb (length (cs ++ (c ∷ []))) (h .characters) (λ q. omega (arith, length-append cs (c ∷ []))))
 
-characters-lead : (h : Head) (ts : List Taxon) (done : List Character) (c : Character) (cs : List Character) {n : Next}
-    → length done + suc (length cs) ≡ h .characters → Leads (no·line (draft h ts (done ++ (c ∷ cs)))) [] n
-    → Leads (character·line (draft h ts done)) (spell·characters (suc (length done)) (c ∷ cs)) n
+characters-lead : (h : Head) (ts : List Taxon) (done : List Character) (c : Character) (cs : List Character) (rest : List ℕ) {n : Next}
+    → length done + suc (length cs) ≡ h .characters → Leads (no·line (draft h ts (done ++ (c ∷ cs)))) rest n
+    → Leads (character·line (draft h ts done)) (spell·characters (suc (length done)) (c ∷ cs) rest) n
 unfolding spell·characters
-characters-lead h ts done c [] e l = character-leads (draft h ts done) c [] (rw (character-last h ts done c e) l)
-characters-lead h ts done c (b ∷ bs) {n} e l =
+characters-lead h ts done c [] rest e l = character-leads (draft h ts done) c rest (rw (character-last h ts done c e) l)
+characters-lead h ts done c (b ∷ bs) rest {n} e l =
     let grown : length (done ++ (c ∷ [])) ≡ length done + 1 = length-append done (c ∷ []) in
     let next : suc (length (done ++ (c ∷ []))) ≡ suc (suc (length done)) = omega arith in
-    let m : Leads (no·line (draft h ts ((done ++ (c ∷ [])) ++ (b ∷ bs)))) [] n = rw (append-assoc done (c ∷ []) (b ∷ bs)) l in
-    let more = characters-lead h ts (done ++ (c ∷ [])) b bs {n = n} (omega arith) m in
-    let rest : Leads (character·line (draft h ts (done ++ (c ∷ [])))) (spell·characters (suc (suc (length done))) (b ∷ bs)) n = rw next at more in
-    character-leads (draft h ts done) c (spell·characters (suc (suc (length done))) (b ∷ bs)) (rw (character-more h ts done c (omega arith)) rest)
+    let m : Leads (no·line (draft h ts ((done ++ (c ∷ [])) ++ (b ∷ bs)))) rest n = rw (append-assoc done (c ∷ []) (b ∷ bs)) l in
+    let more = characters-lead h ts (done ++ (c ∷ [])) b bs rest {n = n} (omega arith) m in
+    let behind : Leads (character·line (draft h ts (done ++ (c ∷ [])))) (spell·characters (suc (suc (length done))) (b ∷ bs) rest) n = rw next at more in
+    character-leads (draft h ts done) c (spell·characters (suc (suc (length done))) (b ∷ bs) rest) (rw (character-more h ts done c (omega arith)) behind)
 
 -- The head
 abbrev head·of : Reading → Head
 head·of r = record { data·type = r .data·type; taxa = length (r .taxa); characters = length (r .characters); symbols = r .symbols }
 
-some-length : {A : Type 0} (l : List A) → empty? l ≡ false → 1 ≤ length l
+pub some-length : {A : Type 0} (l : List A) → empty? l ≡ false → 1 ≤ length l
 unfolding empty?
 some-length [] h = absurd (true≢false h)
 some-length (x ∷ l) h = omega arith
@@ -130,7 +125,7 @@ length-some (x ∷ l) h = refl
 
 head-leads : (r : Reading) (rest : List ℕ) {n : Next} → Sound r → Counted r → Leads (name·line (draft (head·of r) [] [])) rest n
     → Leads datatype·line (spell·head r rest) n
-unfolding spell·head line·turn made bind bytes among no·taxa
+unfolding spell·head line·turn made bind bytes among no·taxa most
 head-leads r rest s c h =
     let t = r .data·type in
     let n = length (r .taxa) in
@@ -151,13 +146,13 @@ rows-read count k l (t ∷ ts) long sound =
 
 record-leads : (h : Head) (ts : List Taxon) (cs : List Character) → empty? ts ≡ false → empty? cs ≡ false → Every Cells·read ts
     → length ts ≡ h .taxa → length cs ≡ h .characters
-    → Leads (name·line (draft h [] [])) (spell·taxa ts (spell·characters 1 cs)) (no·line (draft h ts cs))
+    → Leads (name·line (draft h [] [])) (spell·taxa ts (spell·characters 1 cs [])) (no·line (draft h ts cs))
 unfolding empty? bind lines turns
 record-leads h [] cs st sc read et ec = absurd (true≢false st)
 record-leads h (t ∷ ts) [] st sc read et ec = absurd (true≢false sc)
 record-leads h (t ∷ ts) (c ∷ cs) st sc read et ec =
-    taxa-lead h [] t ts (spell·characters 1 (c ∷ cs)) read (omega arith)
-    (characters-lead h (t ∷ ts) [] c cs (omega arith) (record { reached = refl }))
+    taxa-lead h [] t ts (spell·characters 1 (c ∷ cs) []) read (omega arith)
+    (characters-lead h (t ∷ ts) [] c cs [] (omega arith) (record { reached = refl }))
 
 pub unspell-spell : (r : Reading) → Sound r → Counted r → unspell (spell r) ≡ some r
 unfolding unspell shape bind spell drafted if·sound pick
@@ -165,5 +160,5 @@ unspell-spell r s c =
     let long = some-length (r .characters) (s .some·character) in
     let read = rows-read (length (r .symbols)) (length (r .characters)) long (r .taxa) (s .rows·long) (s .cells·sound) in
     let body = record-leads (head·of r) (r .taxa) (r .characters) (s .some·taxon) (s .some·character) read refl refl in
-    let all = head-leads r (spell·taxa (r .taxa) (spell·characters 1 (r .characters))) s c body in
+    let all = head-leads r (spell·taxa (r .taxa) (spell·characters 1 (r .characters) [])) s c body in
     rw (all .reached, sound-test r s)

@@ -15,7 +15,7 @@ use Rattle.record.proofs.WordLaws.{type-spelled, order-spelled, number-
 use Rattle.record.specs.Decimal.{decimal, undecimal}
 use Rattle.record.specs.Demands.{Counted}
 use Rattle.block.specs.Sound.{Sound, sound}
-use Rattle.record.specs.Spell.{line, type·word, order·word, escaped, spell·cells, spell·taxa, spell·states, spell·characters, spell·head, spell}
+use Rattle.record.specs.Spell.{line, type·word, order·word, escaped, spell·cells, spell·taxa, spell·states, spell·character, spell·characters, spell·head, spell}
 use Rattle.record.specs.Unspell.{lines, value, made, unescaped, unspell·cells, type·of, order·of, most, count·of, Head, Draft, Next, datatype·line, taxa·line, characters·line, symbols·line, name·line, cells·line, character·line, label·line, order·line, states·line, state·line, no·line, no·taxa, with·taxon, with·character, with·states, line·turn, turns, drafted, shape, if·sound, unspell}
 use borrow.Author.Tests.{eqb-true}
 use lib.Dec.{eqb}
@@ -57,23 +57,11 @@ head·spelled h behind =
     (line "characters=" (decimal (h .characters))
     (line "symbols=" (h .symbols) behind)))
 
-unfoldable character·spelled : ℕ → Character → List ℕ → List ℕ
-character·spelled k c behind =
-    line "character=" (decimal k)
-    (line "label=" (escaped (c .label))
-    (line "order=" (order·word (c .ordering))
-    (line "states=" (decimal (length (c .states)))
-    (spell·states (c .states) behind))))
-
-unfoldable characters·spelled : ℕ → List Character → List ℕ → List ℕ
-characters·spelled k [] behind = behind
-characters·spelled k (c ∷ r) behind = character·spelled k c (characters·spelled (suc k) r behind)
-
 unfoldable before·taxon : Draft → List ℕ → List ℕ
 before·taxon d behind = head·spelled (d .head) (spell·taxa (d .taxa) behind)
 
 unfoldable before·character : Draft → List ℕ → List ℕ
-before·character d behind = before·taxon d (characters·spelled 1 (d .characters) behind)
+before·character d behind = before·taxon d (spell·characters 1 (d .characters) behind)
 
 unfoldable before·label : Draft → List ℕ → List ℕ
 before·label d behind = before·character d (line "character=" (decimal (suc (length (d .characters)))) behind)
@@ -148,20 +136,15 @@ states-snoc [] x behind = refl
 states-snoc (y ∷ s) x behind = rw (states-snoc s x behind)
 
 characters-snoc : (k n : ℕ) (cs : List Character) (c : Character) (behind : List ℕ) → k + length cs ≡ n
-    → characters·spelled k (cs ++ (c ∷ [])) behind ≡ characters·spelled k cs (character·spelled n c behind)
-unfolding characters·spelled
-characters-snoc k n [] c behind e = ap (λ i. character·spelled i c behind) (omega arith)
+    → spell·characters k (cs ++ (c ∷ [])) behind ≡ spell·characters k cs (spell·character n c behind)
+unfolding spell·characters
+characters-snoc k n [] c behind e = ap (λ i. spell·character i c behind) (omega arith)
 characters-snoc k n (b ∷ cs) c behind e = rw (characters-snoc (suc k) n cs c behind (omega arith))
-
-characters-last : (k : ℕ) (cs : List Character) → characters·spelled k cs [] ≡ spell·characters k cs
-unfolding characters·spelled spell·characters character·spelled
-characters-last k [] = refl
-characters-last k (c ∷ cs) = rw (characters-last (suc k) cs)
 
 -- Behind a taxon
 taxon-known : (d : Draft) (n : List ℕ) (cells : List Cell) → Opened d
     → Known (λ behind. before·taxon d (line "name=" (escaped n) (line "cells=" (spell·cells cells) behind))) (with·taxon d n cells)
-unfolding with·taxon pick spelled before·character before·taxon characters·spelled
+unfolding with·taxon pick spelled before·character before·taxon spell·characters
 taxon-known d n cells o = go (eqb (length (e .taxa)) (d .head .taxa)) refl
   where
     e : Draft
@@ -178,7 +161,7 @@ taxon-known d n cells o = go (eqb (length (e .taxa)) (d .head .taxa)) refl
 -- Behind a character, and before a state line of it or its end
 character-known : (d : Draft) (l : List ℕ) (o : CharacterOrdering) (s : List (List ℕ)) → Taxed d
     → Known (before·state d l o 0 s) (with·character d l o s)
-unfolding with·character pick spelled before·taxon before·character before·label before·order before·states before·state character·spelled
+unfolding with·character pick spelled before·taxon before·character before·label before·order before·states before·state spell·character
 character-known d l o s t = go (eqb (length (e .characters)) (d .head .characters)) refl
   where
     c : Character
@@ -289,7 +272,7 @@ record Recorded (b : List ℕ) (r : Reading) : Type 0 where
   counted : Counted r
 
 draft-recorded : (n : Next) (r : Reading) → Held n → drafted n ≡ some r → Recorded (spelled n []) r
-unfolding drafted spelled before·character before·taxon head·spelled spell spell·head
+unfolding drafted spelled before·character before·taxon head·spelled spell spell·head most
 draft-recorded datatype·line r held h = absurd (Option·none-ne-some r h)
 draft-recorded (taxa·line t) r held h = absurd (Option·none-ne-some r h)
 draft-recorded (characters·line t n) r held h = absurd (Option·none-ne-some r h)
@@ -303,7 +286,7 @@ draft-recorded (states·line d x o) r held h = absurd (Option·none-ne-some r h)
 draft-recorded (state·line d x o k s) r held h = absurd (Option·none-ne-some r h)
 draft-recorded (no·line d) r held h =
     subst (Recorded (before·character d [])) (Option·some-injective _ r h)
-    (record { whole = rw (held .0 .1, held .1, characters-last 1 (d .characters)); counted = record { taxa = rw (held .0 .1) (held .0 .0 .taxa); characters = rw (held .1) (held .0 .0 .characters) } })
+    (record { whole = rw (held .0 .1, held .1); counted = record { taxa = rw (held .0 .1) (held .0 .0 .taxa); characters = rw (held .1) (held .0 .0 .characters) } })
 
 pub spell-unspell : (b : List ℕ) (r : Reading) → unspell b ≡ some r → (spell r ≡ b) × Sound r × Counted r
 unfolding unspell shape if·sound spelled

@@ -1,23 +1,31 @@
 -- What the definitions promise, statement by statement. proofs/Demands.antt names the proof of each.
-use Prim.Native.Nat.{ℕ, _≤_}
-use lib.ListN.{length}
-use mathlib.Core.List.{List, map}
+use Prim.Native.Nat.{ℕ, _+_, _*_, _≤_, _<_}
+use lib.ListN.{length, take, drop}
+use mathlib.Core.Bool.{true, false}
+use mathlib.Core.List.{List, [], _∷_, _++_, map}
 use mathlib.Core.Logic.{_↔_}
 use mathlib.Core.Option.{some}
 use mathlib.Core.Path.{_≡_}
-use Rattle.lexer.specs.Lexing.{longest}
+use Rattle.lexer.specs.Base.{bytes, byte}
+use Rattle.lexer.specs.Refusals.{number}
 use Rattle.lexer.specs.Tokens.{tokens}
+use Rattle.lexer.specs.Utf8.{utf8}
 use Rattle.lexer.specs.Words.{numbered}
-use Rattle.block.specs.Parse.{reading, read}
+use Rattle.block.specs.Parse.{reading, fault, read}
 use Rattle.block.specs.Reading.{Taxon, Character, Reading}
 use Rattle.block.specs.Sequential.{names}
 use Rattle.block.specs.Sound.{label·texts, Sound}
 use Rattle.block.specs.TaxonOrder.{commands·of, Matrix·of, Follows, all·named}
+use Rattle.lexer.specs.declared.Place.{Place}
 use Rattle.lexer.specs.declared.refusal.Refusal.{Refusal}
-use Rattle.record.specs.Calls.{refuse, write·result, not·found, lookup·answer}
+use Rattle.record.specs.Calls.{read·answer, read·leaves, write·answer, write·leaves, Found, lookup·answer}
+use Rattle.record.specs.Decimal.{decimal}
 use Rattle.record.specs.Form.{form}
-use Rattle.record.specs.Spell.{spell}
-use Rattle.record.specs.Unspell.{unspell, most}
+use Rattle.record.specs.Lookup.{Stretch}
+use Rattle.record.specs.Program.{program·prints}
+use Rattle.record.specs.Spell.{line, escaped, spell·cells, spell·taxa, spell·characters, spell·head, spell}
+use Rattle.record.specs.Unspell.{unspell}
+use Rattle.record.specs.declared.Answer.{Answer}
 
 -- A text, of any length, has a reading.
 abbrev pub Reads : List ℕ → Reading → Type 0
@@ -44,8 +52,8 @@ Labels·come·from·tokens = (text : List ℕ) (r : Reading) → Reads text r �
 
 -- The counts of a record are at most 1,048,576.
 pub record Counted (r : Reading) : Type 0 where
-  pub taxa : length (r .taxa) ≤ most
-  pub characters : length (r .characters) ≤ most
+  pub taxa : length (r .taxa) ≤ 1048576
+  pub characters : length (r .characters) ≤ 1048576
 
 -- Demand 3. A record gives back its reading.
 abbrev pub Records·are·read·back : Type 0
@@ -57,7 +65,7 @@ Records·are·spelled = (b : List ℕ) (r : Reading) → unspell b ≡ some r �
 
 -- Demand 3. The record of a text of at most 1,048,576 bytes is never refused (31).
 abbrev pub Records·of·texts·pass : Type 0
-Records·of·texts·pass = (text : List ℕ) (r : Reading) → length text ≤ longest → Reads text r → unspell (spell r) ≡ some r
+Records·of·texts·pass = (text : List ℕ) (r : Reading) → length text ≤ 1048576 → Reads text r → unspell (spell r) ≡ some r
 
 -- Some text's reading, sound and within the counts, spells these bytes.
 abbrev pub Some·reading·spells : List ℕ → Type 0
@@ -67,14 +75,6 @@ Some·reading·spells b = (text : List ℕ) × (r : Reading) × Reads text r × 
 -- refused if and only if some text's reading, sound and within the counts, spells them.
 abbrev pub Not·refused·is·some·reading : Type 0
 Not·refused·is·some·reading = (b : List ℕ) → ((r : Reading) × (unspell b ≡ some r)) ↔ Some·reading·spells b
-
--- Demands 2 and 3. The same of the calls: what write comes to, and what a lookup of any name answers, is refusal 31 if and only if no such
--- reading spells the bytes.
-abbrev pub Refused·is·no·reading : Type 0
-Refused·is·no·reading =
-    (b name : List ℕ) →
-    ((write·result b ≡ refuse Refusal.NotRecord) ↔ ¬ (Some·reading·spells b))
-    × ((lookup·answer name b ≡ not·found Refusal.NotRecord) ↔ ¬ (Some·reading·spells b))
 
 -- Demand 3. The written form is read again, whatever its length.
 abbrev pub Forms·are·read·again : Type 0
@@ -98,3 +98,171 @@ Forms·tell·readings·apart = (r s : Reading) → Sound r → Sound s → (form
 -- Demand 3. Two texts that are read have written forms with the same bytes exactly when their readings agree.
 abbrev pub Forms·tell·texts·apart : Type 0
 Forms·tell·texts·apart = (t u : List ℕ) (r s : Reading) → Reads t r → Reads u s → (form r ≡ form s) ↔ Agree r s
+
+-- Two bytes are the same, ASCII case ignored: they are equal, or one is a capital, A to Z, and the other its small letter, 32 more.
+pub data Same·letter (a b : ℕ) : Type 0 where
+  equal : a ≡ b → Same·letter a b
+  capital : 65 ≤ a → a ≤ 90 → b ≡ a + 32 → Same·letter a b
+  small : 65 ≤ b → b ≤ 90 → a ≡ b + 32 → Same·letter a b
+
+abbrev pub Alike : List ℕ → List ℕ → Type 0
+Alike [] [] = Unit {0}
+Alike [] (b ∷ r) = ⊥
+Alike (a ∷ l) [] = ⊥
+Alike (a ∷ l) (b ∷ r) = Same·letter a b × Alike l r
+
+-- A row of a reading: a taxon, with the taxa above it and below it.
+pub record Row (r : Reading) : Type 0 where
+  pub above : List Taxon
+  pub taxon : Taxon
+  pub below : List Taxon
+  pub all : above ++ (taxon ∷ below) ≡ r .taxa
+
+-- A stretch of a record is the cells of a row. Before it stand the head, the rows above, the line of this row's name and the key `cells=`;
+-- behind it the LF, the rows below and the characters. It is never empty.
+pub record Cells·of {r : Reading} (row : Row r) (b : List ℕ) (s : Stretch) : Type 0 where
+  pub before : take (s .start) b ≡ spell·head r (spell·taxa (row .above) (line "name=" (escaped (row .taxon .name)) (bytes "cells=")))
+  pub cells : take (s .size) (drop (s .start) b) ≡ spell·cells (row .taxon .cells)
+  pub behind : drop (s .start + s .size) b ≡ byte "\n" ∷ spell·taxa (row .below) (spell·characters 1 (r .characters) [])
+  pub some : 1 ≤ s .size
+
+-- A lookup that is refused with a number hands back an empty stretch.
+abbrev pub nothing·found : ℕ → Found
+nothing·found n = record { refused = n; stretch = record { start = 0; size = 0 } }
+
+-- The lookup. 31 with an empty stretch stands exactly where the bytes are no record.
+abbrev pub Lookup·refuses·other·bytes : Type 0
+Lookup·refuses·other·bytes = (name b : List ℕ) → (lookup·answer name b ≡ nothing·found 31) ↔ ¬ (Some·reading·spells b)
+
+-- The lookup. In a record, a name that some row has, ASCII case ignored, is found: the number is 0, and the stretch is the cells of that row.
+abbrev pub Lookup·finds·the·row : Type 0
+Lookup·finds·the·row =
+    (name b : List ℕ) (r : Reading) → unspell b ≡ some r → (row : Row r) → Alike name (row .taxon .name)
+    → (lookup·answer name b .refused ≡ 0) × Cells·of row b (lookup·answer name b .stretch)
+
+-- The lookup. In a record, 33 with an empty stretch stands exactly where no row has the name.
+abbrev pub Lookup·refuses·other·names : Type 0
+Lookup·refuses·other·names =
+    (name b : List ℕ) (r : Reading) → unspell b ≡ some r
+    → (lookup·answer name b ≡ nothing·found 33) ↔ ((row : Row r) → ¬ (Alike name (row .taxon .name)))
+
+-- A call that is lent this buffer leaves these bytes: it answers their length, the buffer then begins with them, and behind them it is as it
+-- was.
+pub record Left (bs buffer : List ℕ) (a : Answer) (after : List ℕ) : Type 0 where
+  pub counted : a ≡ Answer.Length (length bs)
+  pub result : take (length bs) after ≡ bs
+  pub rest : drop (length bs) after ≡ drop (length bs) buffer
+
+-- Read gives these bytes for a text, and write for a record: with work memory of 4n + 64 numbers or more and a buffer of their length or
+-- more, whatever it held, the call leaves them.
+abbrev pub Read·gives : List ℕ → List ℕ → Type 0
+Read·gives text bs =
+    (work : ℕ) (buffer : List ℕ) → 4 * length text + 64 ≤ work → length bs ≤ length buffer
+    → Left bs buffer (read·answer text work (length buffer)) (read·leaves text work buffer)
+
+abbrev pub Write·gives : List ℕ → List ℕ → Type 0
+Write·gives b bs =
+    (buffer : List ℕ) → length bs ≤ length buffer → Left bs buffer (write·answer b (length buffer)) (write·leaves b buffer)
+
+-- Demands 2 and 3, of the calls. Read gives the record of a text's reading, and nothing else, for texts of at most 1,048,576 bytes.
+abbrev pub Read·gives·the·record : Type 0
+Read·gives·the·record =
+    (text b : List ℕ) → Read·gives text b ↔ (length text ≤ 1048576) × ((r : Reading) × Reads text r × (spell r ≡ b))
+
+-- Demand 3, of the calls. Write gives the form of a record's reading, and nothing else, for forms of at most 1,048,576 bytes.
+abbrev pub Write·gives·the·form : Type 0
+Write·gives·the·form =
+    (b f : List ℕ) → Write·gives b f ↔ (length f ≤ 1048576) × ((r : Reading) × (unspell b ≡ some r) × (form r ≡ f))
+
+-- Demand 3, of the calls. What one call left, any call with memory long enough gives.
+abbrev pub What·is·left·is·given : Type 0
+What·is·left·is·given =
+    ((text : List ℕ) (work : ℕ) (buffer : List ℕ) (n : ℕ) → read·answer text work (length buffer) ≡ Answer.Length n
+    → Read·gives text (take n (read·leaves text work buffer)))
+    × ((b buffer : List ℕ) (n : ℕ) → write·answer b (length buffer) ≡ Answer.Length n → Write·gives b (take n (write·leaves b buffer)))
+
+-- Demand 3, of the calls. A text is read, its record written, and what was written is read again: that gives back the record byte for byte.
+abbrev pub Calls·give·back·records·of·texts : Type 0
+Calls·give·back·records·of·texts =
+    (text : List ℕ) (r : Reading) → length text ≤ 1048576 → Reads text r → length (form r) ≤ 1048576
+    → Read·gives text (spell r) × Write·gives (spell r) (form r) × Read·gives (form r) (spell r)
+
+-- Demand 3, of the calls. The same of every record, of a short text or not: what write gives for it, read again, gives it back. What it gives,
+-- and that it gives something wherever the form is at most 1,048,576 bytes, is `Write·gives·the·form`.
+abbrev pub Calls·give·back·records : Type 0
+Calls·give·back·records = (b f : List ℕ) → Write·gives b f → Read·gives f b
+
+-- Demand 3, of the calls. Two texts are read and their records written: the written bytes are the same exactly when the readings agree.
+abbrev pub Calls·tell·texts·apart : Type 0
+Calls·tell·texts·apart =
+    (t u b c f g : List ℕ) (r s : Reading) → Reads t r → Reads u s → Read·gives t b → Read·gives u c → Write·gives b f → Write·gives c g
+    → (f ≡ g) ↔ Agree r s
+
+-- An answer is a refusal with this number, at this line and column.
+abbrev pub Refuses : Answer → ℕ → ℕ → ℕ → Type 0
+Refuses a n l c = (why : Refusal) × (number why ≡ n) × (a ≡ Answer.Refused why (record { line = l; column = c }))
+
+-- The text is of at most 1,048,576 bytes, and work memory is long enough.
+abbrev pub Taken : List ℕ → ℕ → Type 0
+Taken text work = (length text ≤ 1048576) × (4 * length text + 64 ≤ work)
+
+-- Demand 1, of the calls. What read refuses, in order, and where.
+pub record Read·refuses (text : List ℕ) (work room : ℕ) : Type 0 where
+  -- 1: the text is longer than 1,048,576 bytes
+  pub too·long : Refuses (read·answer text work room) 1 0 0 ↔ 1048576 < length text
+  -- 2: it is not, and work memory is short
+  pub memory·short : Refuses (read·answer text work room) 2 0 0 ↔ (length text ≤ 1048576) × (work < 4 * length text + 64)
+  -- 3: neither, and the text is not UTF-8
+  pub not·utf8 : Refuses (read·answer text work room) 3 0 0 ↔ Taken text work × (utf8 text ≡ false)
+  -- 4 to 29: nothing of these, and the text itself is refused, at the place of its fault, which has a line
+  pub faulty : (n : Refusal) (p : Place) → 1 ≤ p .line → (read·answer text work room ≡ Answer.Refused n p) ↔ Taken text work × (read text ≡ fault n p)
+  pub placed : (n : Refusal) (p : Place) → utf8 text ≡ true → read text ≡ fault n p → 1 ≤ p .line
+  -- 30: nothing of these, and the record is longer than the buffer
+  pub no·room : Refuses (read·answer text work room) 30 0 0 ↔ Taken text work × ((r : Reading) × Reads text r × (room < length (spell r)))
+  -- else the answer is the record's length
+  pub answers : (n : ℕ) → (read·answer text work room ≡ Answer.Length n) ↔ (n ≤ room) × Taken text work × ((r : Reading) × Reads text r × (length (spell r) ≡ n))
+
+abbrev pub Read·refuses·in·order : Type 0
+Read·refuses·in·order = (text : List ℕ) (work room : ℕ) → Read·refuses text work room
+
+-- Demand 1, of the calls. What write refuses, in order, all at 0,0.
+pub record Write·refuses (b : List ℕ) (room : ℕ) : Type 0 where
+  -- 31: the bytes are not a record
+  pub not·record : Refuses (write·answer b room) 31 0 0 ↔ ¬ (Some·reading·spells b)
+  -- 32: they are, and the form is longer than 1,048,576 bytes
+  pub form·long : Refuses (write·answer b room) 32 0 0 ↔ ((r : Reading) × (unspell b ≡ some r) × (1048576 < length (form r)))
+  -- 30: neither, and the form is longer than the buffer
+  pub no·room : Refuses (write·answer b room) 30 0 0 ↔ ((r : Reading) × (unspell b ≡ some r) × (length (form r) ≤ 1048576) × (room < length (form r)))
+  -- else the answer is the form's length
+  pub answers : (n : ℕ) → (write·answer b room ≡ Answer.Length n) ↔ (n ≤ room) × (n ≤ 1048576) × ((r : Reading) × (unspell b ≡ some r) × (length (form r) ≡ n))
+  pub nowhere : (n : Refusal) (p : Place) → write·answer b room ≡ Answer.Refused n p → (p .line ≡ 0) × (p .column ≡ 0)
+
+abbrev pub Write·refuses·in·order : Type 0
+Write·refuses·in·order = (b : List ℕ) (room : ℕ) → Write·refuses b room
+
+-- A refusal leaves the buffer as it was; success touches only the result's bytes, and they lie in the buffer.
+pub record Kept (buffer : List ℕ) (a : Answer) (after : List ℕ) : Type 0 where
+  pub refused : (n : Refusal) (p : Place) → a ≡ Answer.Refused n p → after ≡ buffer
+  pub answered : (n : ℕ) → a ≡ Answer.Length n → (n ≤ length buffer) × (drop n after ≡ drop n buffer)
+  pub room : length after ≡ length buffer
+
+-- Demand 1, of the calls. Buffers are kept.
+abbrev pub Buffers·are·kept : Type 0
+Buffers·are·kept =
+    ((text : List ℕ) (work : ℕ) (buffer : List ℕ) → Kept buffer (read·answer text work (length buffer)) (read·leaves text work buffer))
+    × ((b buffer : List ℕ) → Kept buffer (write·answer b (length buffer)) (write·leaves b buffer))
+
+-- The lines of a refusal.
+abbrev pub refusal·lines : ℕ → ℕ → ℕ → List ℕ
+refusal·lines n l c = line "refused=" (decimal n) (line "line=" (decimal l) (line "column=" (decimal c) []))
+
+-- The program. Of more than 1,024 bytes it prints refusal 1, at 0,0; of others the record, or the three lines of the refusal. That the record
+-- of so short a text always fits is not shown, so 30 has its line here.
+pub record Program·prints (input : List ℕ) : Type 0 where
+  pub too·long : 1024 < length input → program·prints input ≡ bytes "refused=1\nline=0\ncolumn=0\n"
+  pub recorded : (r : Reading) → length input ≤ 1024 → Reads input r → length (spell r) ≤ 65536 → program·prints input ≡ spell r
+  pub no·room : (r : Reading) → length input ≤ 1024 → Reads input r → 65536 < length (spell r) → program·prints input ≡ bytes "refused=30\nline=0\ncolumn=0\n"
+  pub faulty : (n : Refusal) (p : Place) → length input ≤ 1024 → read input ≡ fault n p → program·prints input ≡ refusal·lines (number n) (p .line) (p .column)
+
+abbrev pub The·program·prints : Type 0
+The·program·prints = (input : List ℕ) → Program·prints input

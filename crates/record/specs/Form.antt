@@ -122,10 +122,10 @@ unfoldable pub form·types : List Character → List ℕ → List ℕ
 form·types [] behind = behind
 form·types (c ∷ r) behind = byte " " ∷ order·word (c .ordering) ++ form·types r behind
 
-unfoldable pub form·assumptions : List Character → List ℕ
-form·assumptions cs =
-    let types = bytes "BEGIN ASSUMPTIONS;\nTYPESET * w (VECTOR) =" ++ form·types cs (bytes ";\nEND;\n") in
-    pick (has·ordered cs) types []
+unfoldable pub form·assumptions : List Character → List ℕ → List ℕ
+form·assumptions cs behind =
+    let types = bytes "BEGIN ASSUMPTIONS;\nTYPESET * w (VECTOR) =" ++ form·types cs (bytes ";\nEND;\n" ++ behind) in
+    pick (has·ordered cs) types behind
 
 unfoldable pub form·dimensions : Reading → List ℕ → List ℕ
 form·dimensions r behind =
@@ -140,4 +140,4 @@ form r =
     (form·labels (r .characters)
     (bytes "MATRIX\n"
     ++ form·rows (r .data·type) (r .symbols) (r .taxa)
-    (bytes ";\nEND;\n" ++ form·assumptions (r .characters)))))
+    (bytes ";\nEND;\n" ++ form·assumptions (r .characters) []))))

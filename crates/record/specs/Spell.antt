@@ -59,15 +59,19 @@ unfoldable pub spell·states : List (List ℕ) → List ℕ → List ℕ
 spell·states [] behind = behind
 spell·states (s ∷ r) behind = line "state=" (escaped s) (spell·states r behind)
 
--- The characters, the first of them with this number.
-unfoldable pub spell·characters : ℕ → List Character → List ℕ
-spell·characters k [] = []
-spell·characters k (c ∷ r) =
+-- The character with this number.
+unfoldable pub spell·character : ℕ → Character → List ℕ → List ℕ
+spell·character k c behind =
     line "character=" (decimal k)
     (line "label=" (escaped (c .label))
     (line "order=" (order·word (c .ordering))
     (line "states=" (decimal (length (c .states)))
-    (spell·states (c .states) (spell·characters (suc k) r)))))
+    (spell·states (c .states) behind))))
+
+-- The characters, the first of them with this number.
+unfoldable pub spell·characters : ℕ → List Character → List ℕ → List ℕ
+spell·characters k [] behind = behind
+spell·characters k (c ∷ r) behind = spell·character k c (spell·characters (suc k) r behind)
 
 -- The record's first four lines.
 unfoldable pub spell·head : Reading → List ℕ → List ℕ
@@ -78,4 +82,4 @@ spell·head r behind =
     (line "symbols=" (r .symbols) behind)))
 
 unfoldable pub spell : Reading → List ℕ
-spell r = spell·head r (spell·taxa (r .taxa) (spell·characters 1 (r .characters)))
+spell r = spell·head r (spell·taxa (r .taxa) (spell·characters 1 (r .characters) []))

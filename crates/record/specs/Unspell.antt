@@ -56,19 +56,6 @@ unescaped (b ∷ c ∷ r) =
     let other = with·byte b (unescaped (c ∷ r)) in
     pick (eqb b (byte "\\")) (pick (eqb c (byte "0")) lf (pick (eqb c (byte "1")) backslash none)) other
 
--- A text cut at each byte that is a given one, which is left out; there is at least one part.
-unfoldable pub longer : ℕ → List (List ℕ) → List (List ℕ)
-longer b [] = (b ∷ []) ∷ []
-longer b (p ∷ r) = (b ∷ p) ∷ r
-
-unfoldable pub parts : ℕ → List ℕ → List (List ℕ)
-parts at [] = [] ∷ []
-parts at (b ∷ r) =
-    let more = parts at r in
-    let cut = [] ∷ more in
-    let same = longer b more in
-    pick (eqb b at) cut same
-
 module _ {A : Type 0} where
   -- The first before the others, if all are there.
   unfoldable pub before : Option A → Option (List A) → Option (List A)
@@ -76,9 +63,19 @@ module _ {A : Type 0} where
   before (some a) none = none
   before (some a) (some r) = some (a ∷ r)
 
-unfoldable pub numbers : List (List ℕ) → Option (List ℕ)
-numbers [] = some []
-numbers (p ∷ r) = let more = numbers r in before (undecimal p) more
+module _ {A : Type 0} (part : List ℕ → Option A) (between : ℕ) where
+  -- The parts of a text with a byte between each two, one by one: the bytes so far of the part that is open, then the rest of the text.
+  -- There is at least one part.
+  unfoldable pub parts : List ℕ → List ℕ → Option (List A)
+  parts so·far [] = before (part so·far) (some [])
+  parts so·far (b ∷ r) =
+      let next = before (part so·far) (parts [] r) in
+      let longer = parts (so·far ++ (b ∷ [])) r in
+      pick (eqb b between) next longer
+
+-- Indices joined by dots.
+unfoldable pub numbers : List ℕ → Option (List ℕ)
+numbers v = parts undecimal (byte ".") [] v
 
 module _ {A B : Type 0} where
   unfoldable pub made : (A → B) → Option A → Option B
@@ -88,8 +85,8 @@ module _ {A B : Type 0} where
 unfoldable pub unspell·cell : List ℕ → Option Cell
 unspell·cell [] = none
 unspell·cell (b ∷ r) =
-    let unsure = made uncertain (numbers (parts (byte ".") r)) in
-    let several = made polymorphic (numbers (parts (byte ".") r)) in
+    let unsure = made uncertain (numbers r) in
+    let several = made polymorphic (numbers r) in
     let index = made state (undecimal (b ∷ r)) in
     let only = same (b ∷ r) in
     pick (eqb b (byte "u")) unsure
@@ -98,12 +95,9 @@ unspell·cell (b ∷ r) =
     (pick (only (byte "g" ∷ [])) (some gap)
     index)))
 
-unfoldable pub unspell·each : List (List ℕ) → Option (List Cell)
-unspell·each [] = some []
-unspell·each (p ∷ r) = let more = unspell·each r in before (unspell·cell p) more
-
+-- Cells parted by one blank.
 unfoldable pub unspell·cells : List ℕ → Option (List Cell)
-unspell·cells v = unspell·each (parts (byte " ") v)
+unspell·cells v = parts unspell·cell (byte " ") [] v
 
 unfoldable pub type·of : List ℕ → Option DataType
 type·of v =
