@@ -1,11 +1,17 @@
+pub mod BlockFaults
 pub mod BlocksKept
 pub mod Cases
 pub mod ChunkSound
 pub mod CommandWords
+pub mod DeclaredFaults
 pub mod DeclaredHeld
 pub mod DimensionsFew
+pub mod FaultPlaces
+pub mod Faulted
 pub mod FormatSound
+pub mod LabelFaults
 pub mod LabelsSound
+pub mod MatrixFaults
 pub mod MatrixParts
 pub mod MatrixSound
 pub mod NamesFromTokens
@@ -22,4 +28,7 @@ pub mod RowsSmall
 pub mod RowsSound
 pub mod SoundParts
 pub mod TaxaFollow
+pub mod TokenFaults
+pub mod ToldFaults
+pub mod TypeFaults
 pub mod Weights

@@ -1,5 +1,6 @@
 -- The promises of specs/Demands.antt, each with its proof. Assumes nothing.
 use Prim.Native.Nat.{ℕ}
+use Rattle.block.proofs.FaultPlaces.{fault-at, said-first}
 use Rattle.block.proofs.NamesFromTokens.{names-from-tokens, labels-from-tokens}
 use Rattle.block.proofs.ReadingSmall.{reading-small}
 use Rattle.block.proofs.ReadingSound.{reading-sound}
@@ -15,7 +16,7 @@ use Rattle.record.proofs.FormLexed.{form-lexed, form-utf8}
 use Rattle.record.proofs.FormParsed.{form-parsed}
 use Rattle.record.proofs.SpellLaws.{unspell-spell}
 use Rattle.record.proofs.UnspellLaws.{spell-unspell}
-use Rattle.record.specs.Demands.{Reads, Agree, Every·reading·is·sound, Taxa·follow·the·declaration, Names·come·from·tokens, Labels·come·from·tokens, Records·are·read·back, Records·are·spelled, Records·of·texts·pass, Some·reading·spells, Not·refused·is·some·reading, Refused·is·no·reading, Forms·are·read·again, Forms·tell·readings·apart, Forms·tell·texts·apart}
+use Rattle.record.specs.Demands.{Reads, Agree, Faults·have·their·place, Faults·come·in·order, Every·reading·is·sound, Taxa·follow·the·declaration, Names·come·from·tokens, Labels·come·from·tokens, Records·are·read·back, Records·are·spelled, Records·of·texts·pass, Some·reading·spells, Not·refused·is·some·reading, Refused·is·no·reading, Forms·are·read·again, Forms·tell·readings·apart, Forms·tell·texts·apart}
 use Rattle.record.specs.Calls.{bytes·of, refuse, written, write·result, not·found, found, looked·up, lookup·answer}
 use Rattle.record.specs.Form.{form}
 use Rattle.record.specs.Lookup.{Stretch, lookup}
@@ -28,6 +29,12 @@ use mathlib.Core.Logic.{_↔_}
 use mathlib.Core.Option.{Option, none, some, Option·none-ne-some}
 use mathlib.Core.Path.{_≡_, refl, sym, ap, _∙_, subst}
 use native.Mathlib.Omega.{arith}
+
+pub faults-have-their-place : Faults·have·their·place
+faults-have-their-place = fault-at
+
+pub faults-come-in-order : Faults·come·in·order
+faults-come-in-order = said-first
 
 pub every-reading-is-sound : Every·reading·is·sound
 every-reading-is-sound = reading-sound

@@ -8,11 +8,13 @@ use mathlib.Core.Path.{_≡_}
 use Rattle.lexer.specs.Lexing.{longest}
 use Rattle.lexer.specs.Tokens.{tokens}
 use Rattle.lexer.specs.Words.{numbered}
-use Rattle.block.specs.Parse.{reading, read}
+use Rattle.block.specs.Faults.{Fault·at, Said·first}
+use Rattle.block.specs.Parse.{reading, fault, read}
 use Rattle.block.specs.Reading.{Taxon, Character, Reading}
 use Rattle.block.specs.Sequential.{names}
 use Rattle.block.specs.Sound.{label·texts, Sound}
 use Rattle.block.specs.TaxonOrder.{commands·of, Matrix·of, Follows, all·named}
+use Rattle.lexer.specs.declared.Place.{Place}
 use Rattle.lexer.specs.declared.refusal.Refusal.{Refusal}
 use Rattle.record.specs.Calls.{refuse, write·result, not·found, lookup·answer}
 use Rattle.record.specs.Form.{form}
@@ -22,6 +24,15 @@ use Rattle.record.specs.Unspell.{unspell, most}
 -- A text, of any length, has a reading.
 abbrev pub Reads : List ℕ → Reading → Type 0
 Reads text r = read text ≡ reading r
+
+-- Demand 1. Every fault of a text, of any length, has its number and place: 3 at 0,0; 4 and 5 at the opening mark; 6 at 1,1 where there is no
+-- token; and 6 to 29 at the place of a token of the text, one that the number may stand at (`May·stand·at`).
+abbrev pub Faults·have·their·place : Type 0
+Faults·have·their·place = (text : List ℕ) (n : Refusal) (p : Place) → read text ≡ fault n p → Fault·at text n p
+
+-- Demand 1. 3 comes first, then 4 or 5, and nothing else of a text that is one of them.
+abbrev pub Faults·come·in·order : Type 0
+Faults·come·in·order = (text : List ℕ) → Said·first text
 
 -- Demand 2. Every reading is sound: its conditions are the fields of `Sound`.
 abbrev pub Every·reading·is·sound : Type 0
