@@ -4,13 +4,13 @@ use Rattle.block.proofs.DeclaredFaults.{Name·faults, Dimension·faults
 use Rattle.block.proofs.Faulted.{Ends, gives, refuses, either, both, needed, then-ends}
 use Rattle.block.proofs.LabelFaults.{Labelling·faults, labels-faults}
 use Rattle.block.proofs.MatrixFaults.{Matrix·faults, Line·faults, sequential-faults, interleaved-faults}
+use Rattle.block.proofs.OpenedFaults.{Opens, Labels·told, Opened, Opened·in, taxa-filled, unfilled, miscounted, words-faults}
 use Rattle.block.proofs.OutcomeLaws.{All, Any, all-one, all-map}
-use Rattle.block.proofs.ToldFaults.{Told, at·token, Command·of, Behind, Shown, Shown·line, lines-shown, first, taxlabels-told, dimensions-told, format-told, matrix-told, types-told, options-told, told-first, told-words, labelling-told}
+use Rattle.block.proofs.ToldFaults.{Told, Command·of, Behind, Shown, Shown·line, lines-shown, first, taxlabels-told, dimensions-told, format-told, matrix-told, types-told, options-told, told-first, told-words, labelling-told}
 use Rattle.block.proofs.TypeFaults.{Type·faults, typeset-faults}
-use Rattle.block.specs.Blocks.{Data, Phase, outside, in·taxa, in·data, in·assumptions, in·trees, State, in·phase, begin·assumptions, no·data, begin·block, begin·words, taxa·count, taxa·step, declared·count, agrees, row·of, arranged, in·order, rows, matrix·reading, matrix·shape, matrix, labelling, labelled·by, with·dimensions, with·format, with·taxa, with·matrix, label·step, data·command, data·step, options, characters·in, assumption·step, taxa·end, data·end, end·block, inner·step, ends, block·step, outside?, step}
+use Rattle.block.specs.Blocks.{Data, Phase, outside, in·taxa, in·data, in·assumptions, in·trees, State, in·phase, taxa·count, taxa·step, declared·count, agrees, row·of, arranged, in·order, rows, matrix·reading, matrix·shape, matrix, labelling, labelled·by, with·dimensions, with·format, with·taxa, with·matrix, label·step, data·command, data·step, options, characters·in, assumption·step, taxa·end, data·end, end·block, inner·step, ends, block·step, outside?, step}
 use Rattle.block.specs.Commands.{command, words}
-use Rattle.block.specs.Faults.{Token·of, Block·name, any, filled·block, known·block, May·stand·at, unended·block, words·after·end, not·begin, wrong·block, wrong·command, no·taxa·count, not·ready, not·filled, taxa·dimension, matrix·count, type·count, wrong·symbols, no·row, type·form}
-use Rattle.block.specs.Faults as Faults
+use Rattle.block.specs.Faults.{Token·of, any, filled·block, known·block, First·word, open·name, May·stand·at, words·after·end, wrong·command, no·taxa·count, not·ready, taxa·dimension, matrix·count, type·count, wrong·symbols, no·row, type·form}
 use Rattle.block.specs.Interleaved.{lines}
 use Rattle.block.specs.Labels.{LabelCommand}
 use Rattle.block.specs.Reading.{Taxon, Reading}
@@ -20,84 +20,24 @@ use Rattle.block.specs.Typeset as Typeset
 use Rattle.block.specs.declared.dimension.Dimensions.{Dimensions}
 use Rattle.block.specs.declared.labels.Labelling.{Labelling}
 use Rattle.block.specs.declared.model.CharacterOrdering.{CharacterOrdering}
-use Rattle.lexer.proofs.Basics.{or-first, or-second, and-left}
+use Rattle.lexer.proofs.Basics.{and-left}
 use Rattle.lexer.specs.Base.{bytes, byte, empty?, given}
 use Rattle.lexer.specs.Words.{Numbered, is, punct}
 use Rattle.lexer.specs.declared.refusal.Refusal.{Refusal}
 use lib.Dec.{eqb}
 use lib.ListN.{length}
-use mathlib.Core.Bool.{Bool, true, false, _&&_, _||_, not}
+use mathlib.Core.Bool.{true, false, _&&_, _||_, not}
 use mathlib.Core.List.{List, [], _∷_}
 use mathlib.Core.Option.{Option, none, some}
 use mathlib.Core.Path.{_≡_, refl}
 
--- What an open block may be refused for at its name, and its label commands.
-module _ (text : List ℕ) where
-  abbrev pub Opened : Phase → Type 0
-  Opened outside = Unit {0}
-  Opened (in·taxa b count names) = Told text Refusal.UnendedBlock b × Told text Refusal.Absent b × Told text Refusal.Count b
-  Opened (in·data b d) = Told text Refusal.UnendedBlock b × Told text Refusal.Absent b × All (Labelling·faults (Told text)) (d .labels)
-  Opened (in·assumptions b default set) = Told text Refusal.UnendedBlock b
-  Opened (in·trees b) = Told text Refusal.UnendedBlock b
-
-  abbrev pub Opened·in : State → Type 0
-  Opened·in s = Opened (s .phase)
-
-  abbrev Labels·told : Data → Type 0
-  Labels·told d = All (Labelling·faults (Told text)) (d .labels)
-
-module _ (text : List ℕ) (h : Numbered) (raw : List Numbered) (c : Command·of text h raw) where
+-- A command inside a block.
+module _ (text : List ℕ) (h : Numbered) (raw : List Numbered) (c : Command·of text h raw) (inside : outside? (c .comes .state .phase) ≡ false) where
   at-first : {n : Refusal} → May·stand·at text n h → Told text n (h .index)
   at-first s = told-first c s
 
   misplaced : Told text Refusal.Command (h .index)
-  misplaced = at-first (wrong·command (first c any refl))
-
-  -- BEGIN
-  module _ (s : State) (b : Numbered) (begins : is (bytes "BEGIN") h ≡ true) (alone : words raw ≡ b ∷ []) (token : Token·of text b) where
-    name : (kind : Numbered → Bool) → kind b ≡ true → Block·name text kind b
-    name kind e = record { first = h; behind = raw; here = c .here; begins = begins; alone = alone; of·kind = e }
-
-    at-name : {n : Refusal} → May·stand·at text n b → Told text n (b .index)
-    at-name f = at·token b token f
-
-    wrong : Told text Refusal.Block (b .index)
-    wrong = at-name (wrong·block (name any refl))
-
-    assumptions-faults : (seen : Bool) (m : Option Reading) → is (bytes "ASSUMPTIONS") b ≡ true → Ends (Told text) (Opened·in text) (begin·assumptions s (b .index) seen m)
-    unfolding begin·assumptions in·phase known·block
-    assumptions-faults true m e = refuses wrong
-    assumptions-faults false none e = refuses wrong
-    assumptions-faults false (some r) e = gives (at-name (unended·block (name known·block (or-second (filled·block b) _ (or-first (is (bytes "ASSUMPTIONS") b) _ e)))))
-
-    filled : filled·block b ≡ true → Told text Refusal.UnendedBlock (b .index) × Told text Refusal.Absent (b .index)
-    unfolding known·block
-    filled e = (at-name (unended·block (name known·block (or-first (filled·block b) _ e))), at-name (not·filled (name filled·block e)))
-
-    begin-faults : Ends (Told text) (Opened·in text) (begin·block s b)
-    unfolding begin·block in·phase no·data filled·block known·block
-    begin-faults =
-        either (Told text) (is (bytes "TAXA") b) (λ e. both (Told text) (given (s .taxa) || given (s .matrix)) (refuses wrong) (gives (taxa e)))
-        (λ n. either (Told text) (is (bytes "DATA") b || is (bytes "CHARACTERS") b) (λ e. both (Told text) (given (s .matrix)) (refuses wrong) (gives (rows e)))
-        (λ o. either (Told text) (is (bytes "ASSUMPTIONS") b) (λ e. assumptions-faults (s .assumptions) (s .matrix) e)
-        (λ p. either (Told text) (is (bytes "TREES") b)
-        (λ e. gives (at-name (unended·block (name known·block (or-second (filled·block b) _ (or-second (is (bytes "ASSUMPTIONS") b) _ e))))))
-        (λ q. refuses wrong))))
-      where
-        taxa : is (bytes "TAXA") b ≡ true → Opened text (in·taxa (b .index) 0 none)
-        taxa e = let f = filled (or-first (is (bytes "TAXA") b) _ e) in (f .0, f .1, at-name (Faults.taxa·count (name (is (bytes "TAXA")) e)))
-
-        rows : is (bytes "DATA") b || is (bytes "CHARACTERS") b ≡ true → Opened text (in·data (b .index) (no·data (s .taxa)))
-        rows e = let f = filled (or-second (is (bytes "TAXA") b) _ e) in (f .0, f .1, tt)
-
-  not-begin : ((b : Numbered) → words raw ≡ b ∷ [] → is (bytes "BEGIN") h ≡ false) → Told text Refusal.NotBegin (h .index)
-  not-begin f = at-first (not·begin (first c any refl) f)
-
-  words-faults : (s : State) (ws : List Numbered) → words raw ≡ ws → All (Token·of text) ws → Ends (Told text) (Opened·in text) (begin·words s h ws)
-  unfolding begin·words
-  words-faults s [] at q = refuses (not-begin (λ b e. cc))
-  words-faults s (b ∷ []) at q = either (Told text) (is (bytes "BEGIN") h) (λ e. begin-faults s b e at (q .0)) (λ e. refuses (not-begin (λ o p. e)))
-  words-faults s (b ∷ d ∷ r) at q = refuses (not-begin (λ o e. cc))
+  misplaced = at-first (wrong·command (first c any refl) inside)
 
   -- TAXA
   sizes : is (bytes "DIMENSIONS") h ≡ true → All (Dimension·faults (Told text)) (words raw)
@@ -121,7 +61,7 @@ module _ (text : List ℕ) (h : Numbered) (raw : List Numbered) (c : Command·of
 
   -- MATRIX
   module _ (e : is (bytes "MATRIX") h ≡ true) where
-    at-matrix : Faults.First·word text (is (bytes "MATRIX")) h
+    at-matrix : First·word text (is (bytes "MATRIX")) h
     at-matrix = first c (is (bytes "MATRIX")) e
 
     -- What the word MATRIX may be refused for once the shape is known.
@@ -210,7 +150,7 @@ module _ (text : List ℕ) (h : Numbered) (raw : List Numbered) (c : Command·of
       (refuses misplaced)
   options-faults e (a ∷ b ∷ t ∷ f ∷ r) q = refuses misplaced
 
-  assumption-faults : (s : State) (b : ℕ) (default : Option CharacterOrdering) (set : Option Types) → Told text Refusal.UnendedBlock b
+  assumption-faults : (s : State) (b : ℕ) (default : Option CharacterOrdering) (set : Option Types) → Opens text known·block b
       → Ends (Told text) (Opened text) (assumption·step s h (words raw) b default set)
   unfolding assumption·step
   assumption-faults s b default set p =
@@ -228,35 +168,47 @@ module _ (text : List ℕ) (h : Numbered) (raw : List Numbered) (c : Command·of
           (told-words c (Type·faults (Told text)) (λ w q. types-told c w q e))
 
   -- END
-  end-faults : (s : State) (p : Phase) → Opened·in text s → Opened text p → Ends (Told text) (Opened·in text) (end·block s p)
-  unfolding end·block in·phase taxa·end data·end
-  end-faults s outside q k = gives q
-  end-faults s (in·taxa b count ns) q k = taxa-end ns
-    where
-      taxa-end : (ns : Option (List (List ℕ))) → Ends (Told text) (Opened·in text) (taxa·end s b count ns)
-      taxa-end none = refuses (k .1)
-      taxa-end (some ns) = both (Told text) (eqb (length ns) count) (gives tt) (refuses (k .2))
-  end-faults s (in·data b d) q k = data-end (d .matrix)
-    where
-      data-end : (m : Option Reading) → Ends (Told text) (Opened·in text) (data·end s b m)
-      data-end none = refuses (k .1)
-      data-end (some r) = gives tt
-  end-faults s (in·assumptions b default set) q k = gives tt
-  end-faults s (in·trees b) q k = gives tt
+  module _ (e : ends h ≡ true) where
+    abbrev end-word : First·word text ends h
+    end-word = first c ends e
+
+    taxa-end-faults : (s : State) (b count : ℕ) (ns : Option (List (List ℕ))) → Opens text (is (bytes "TAXA")) b → open·name (c .comes .state .phase) ≡ some b → Ends (Told text) (Opened·in text) (taxa·end s b count ns)
+    unfolding taxa·end
+    taxa-end-faults s b count none k o = refuses (unfilled text h end-word b (taxa-filled text b k) o)
+    taxa-end-faults s b count (some ns) k o = both (Told text) (eqb (length ns) count) (gives tt) (refuses (miscounted text h end-word b k o))
+
+    data-end-faults : (s : State) (b : ℕ) (m : Option Reading) → Opens text filled·block b → open·name (c .comes .state .phase) ≡ some b → Ends (Told text) (Opened·in text) (data·end s b m)
+    unfolding data·end
+    data-end-faults s b none k o = refuses (unfilled text h end-word b k o)
+    data-end-faults s b (some r) k o = gives tt
+
+    end-faults : (s : State) (p : Phase) → c .comes .state .phase ≡ p → Opened·in text s → Opened text p → Ends (Told text) (Opened·in text) (end·block s p)
+    unfolding end·block in·phase open·name
+    end-faults s outside at q k = gives q
+    end-faults s (in·taxa b count ns) at q k = taxa-end-faults s b count ns k (rw at refl)
+    end-faults s (in·data b d) at q k = data-end-faults s b (d .matrix) (k .0) (rw at refl)
+    end-faults s (in·assumptions b default set) at q k = gives tt
+    end-faults s (in·trees b) at q k = gives tt
 
   inner-faults : (s : State) (p : Phase) → Opened text p → Ends (Told text) (Opened text) (inner·step s h raw p)
   unfolding inner·step data·step
   inner-faults s outside k = gives tt
   inner-faults s (in·taxa b count ns) k = taxa-faults b count ns k
   inner-faults s (in·data b d) k =
-      both (Told text) (given (d .matrix)) (refuses misplaced) (then-ends (Told text) (data-faults d (k .2)) (λ x q. gives {a = in·data b x} (k .0, k .1, q)))
+      both (Told text) (given (d .matrix)) (refuses misplaced) (then-ends (Told text) (data-faults d (k .1)) (λ x q. gives {a = in·data b x} (k .0, q)))
   inner-faults s (in·assumptions b default set) k = assumption-faults s b default set k
   inner-faults s (in·trees b) k = gives k
 
-  pub command-faults : (s : State) → Opened·in text s → Ends (Told text) (Opened·in text) (step s (command h raw))
-  unfolding step block·step in·phase
-  command-faults s k =
-      both (Told text) (outside? (s .phase)) (words-faults s (words raw) refl (told-words c (Token·of text) (λ w q. q .0 .0)))
-      (either (Told text) (ends h)
-      (λ e. either (Told text) (empty? (words raw)) (λ f. end-faults s (s .phase) k k) (λ f. refuses (at-first (words·after·end (first c ends e) f))))
-      (λ e. then-ends (Told text) (inner-faults s (s .phase) k) (λ p q. gives q)))
+  block-faults : Opened·in text (c .comes .state) → Ends (Told text) (Opened·in text) (block·step (c .comes .state) h raw)
+  unfolding block·step in·phase
+  block-faults k =
+      let s = c .comes .state in
+      either (Told text) (ends h)
+      (λ e. either (Told text) (empty? (words raw)) (λ f. end-faults e s (s .phase) refl k k) (λ f. refuses (at-first (words·after·end (first c ends e) inside f))))
+      (λ e. then-ends (Told text) (inner-faults s (s .phase) k) (λ p q. gives q))
+
+pub command-faults : (text : List ℕ) (h : Numbered) (raw : List Numbered) (c : Command·of text h raw) → Opened·in text (c .comes .state) → Ends (Told text) (Opened·in text) (step (c .comes .state) (command h raw))
+unfolding step
+command-faults text h raw c k =
+    let s = c .comes .state in
+    either (Told text) (outside? (s .phase)) (λ top. words-faults text h raw c top s (words raw) refl (told-words c (Token·of text) (λ w q. q .0 .0))) (λ inside. block-faults text h raw c inside k)

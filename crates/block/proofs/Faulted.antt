@@ -1,14 +1,14 @@
 -- What an outcome comes to: a value with a property, or a refusal at an index that may be refused so. Assumes nothing.
 use Prim.Native.Nat.{ℕ}
-use Rattle.block.proofs.OutcomeLaws.{All}
+use Rattle.block.proofs.OutcomeLaws.{All, fold-one}
 use Rattle.block.specs.Outcome.{Outcome, done, refused, then, fold, need}
 use Rattle.lexer.proofs.Basics.{chosen}
 use Rattle.lexer.specs.Base.{pick}
 use Rattle.lexer.specs.declared.refusal.Refusal.{Refusal}
 use mathlib.Core.Bool.{Bool, true, false}
-use mathlib.Core.List.{List, [], _∷_}
+use mathlib.Core.List.{List, [], _∷_, _++_, append-assoc, append-nil}
 use mathlib.Core.Option.{Option, none, some}
-use mathlib.Core.Path.{_≡_, refl}
+use mathlib.Core.Path.{_≡_, refl, sym, _∙_}
 
 -- Which refusals may name which index.
 abbrev pub Faults : Type 1
@@ -33,6 +33,11 @@ module _ (R : Faults) where
     needed none n i f g = refuses (f refl)
     needed (some a) n i f g = gives (g a refl)
 
+    -- a value that the outcome came to
+    come : {o : Outcome A} → Ends R P o → Ends R (λ a. P a × (o ≡ done a)) o
+    come (gives p) = gives (p, refl)
+    come (refuses r) = refuses r
+
   module _ {A B : Type 0} {P : A → Type 0} {S : B → Type 0} where
     pub then-ends : {o : Outcome A} {f : A → Outcome B} → Ends R P o → ((a : A) → P a → Ends R S (f a)) → Ends R S (then o f)
     unfolding then
@@ -44,3 +49,15 @@ module _ (R : Faults) where
     unfolding fold
     fold-ends s [] p q = gives p
     fold-ends s (w ∷ ws) p q = then-ends (keeps s w p (q .0)) (λ t k. fold-ends t ws k (q .1))
+
+  -- The same where each turn may speak of the words before it and behind it, and what holds at the end of the turns that led there.
+  module _ {A W : Type 0} (P : A → Type 0) (turn : A → W → Outcome A) (start : A) (all : List W) (keeps : (before : List W) (w : W) (after : List W) (s : A) → all ≡ before ++ (w ∷ after) → fold turn start before ≡ done s → P s → Ends R P (turn s w)) where
+    from-ends : (before ws : List W) (s : A) → all ≡ before ++ ws → fold turn start before ≡ done s → P s → Ends R (λ t. P t × (fold turn start all ≡ done t)) (fold turn s ws)
+    unfolding fold
+    from-ends before [] s e r p = gives (p, rw (e, append-nil before) r)
+    from-ends before (w ∷ ws) s e r p =
+        then-ends (come (keeps before w ws s e r p)) (λ t k. from-ends (before ++ (w ∷ [])) ws t (e ∙ sym (append-assoc before (w ∷ []) ws)) (fold-one turn start before w s t r (k .1)) (k .0))
+
+    pub reached-ends : P start → Ends R (λ t. P t × (fold turn start all ≡ done t)) (fold turn start all)
+    unfolding fold
+    reached-ends p = from-ends [] all start refl refl p

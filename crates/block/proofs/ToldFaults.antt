@@ -7,9 +7,8 @@ use Rattle.block.proofs.OutcomeLaws.{All, all-map}
 use Rattle.block.proofs.TypeFaults.{Type·faults}
 use Rattle.block.specs.Blocks.{labelling}
 use Rattle.block.specs.Commands.{command, words, newline}
-use Rattle.block.specs.Faults.{Token·of, leading, First·word, Later·word, label·word, taxon·word, name·word, count·word, May·stand·at, dimension, label·count, not·name, taxon·twice, no·count, no·value, format·option, cell·symbol, state·set, wrong·row, row·count, no·entry, label·entry, type·word, default·type, character·list}
+use Rattle.block.specs.Faults.{Token·of, leading, Comes·to, First·word, Later·word, label·word, taxon·word, name·word, count·word, May·stand·at, dimension, label·count, not·name, taxon·twice, no·count, no·value, format·option, cell·symbol, state·set, wrong·row, row·count, no·entry, label·entry, type·word, default·type, character·list}
 use Rattle.block.specs.Interleaved.{Line, to·newline, lines·from, lines}
-use Rattle.block.specs.TaxonOrder.{commands·of}
 use Rattle.block.specs.declared.labels.Labelling.{Labelling}
 use Rattle.lexer.proofs.Basics.{by-test, or-first, or-second}
 use Rattle.lexer.specs.Base.{pick, bytes, given}
@@ -64,17 +63,17 @@ Behind text raw w = Token·of text w × List·Memᴰ w raw
 
 -- A command of the text, and its tokens.
 pub record Command·of (text : List ℕ) (h : Numbered) (raw : List Numbered) : Type 0 where
-  pub here : List·Memᴰ (command h raw) (commands·of text)
+  pub comes : Comes·to text (command h raw)
   pub head : Token·of text h
   pub behind : All (Behind text raw) raw
 
 module _ {text : List ℕ} {h : Numbered} {raw : List Numbered} (c : Command·of text h raw) where
   abbrev pub first : (kind : Numbered → Bool) → kind h ≡ true → First·word text kind h
-  first kind e = record { behind = raw; here = c .here; of·kind = e }
+  first kind e = record { behind = raw; comes = c .comes; of·kind = e }
 
   module _ (w : Numbered) (q : Shown (Behind text raw) w) where
     later : (kind : Numbered → Bool) → kind h ≡ true → Later·word text kind w
-    later kind e = record { first = h; behind = raw; here = c .here; of·kind = e; among = q .0 .1; shown = q .1 }
+    later kind e = record { first = h; behind = raw; comes = c .comes; of·kind = e; among = q .0 .1; shown = q .1 }
 
     told : {n : Refusal} → May·stand·at text n w → Told text n (w .index)
     told s = at·token w (q .0 .0) s

@@ -2,7 +2,7 @@
 use Prim.Native.Nat.{ℕ, _≤_, _<_}
 use lib.ListN.{length, getD}
 use mathlib.Core.Bool.{Bool, true, false, _||_}
-use mathlib.Core.List.{List, [], _∷_, List·Memᴰ}
+use mathlib.Core.List.{List, [], _∷_, _++_, List·Memᴰ}
 use mathlib.Core.Logic.{_↔_}
 use mathlib.Core.Option.{Option, none, some}
 use mathlib.Core.Path.{_≡_}
@@ -15,10 +15,12 @@ use Rattle.lexer.specs.Utf8.{utf8}
 use Rattle.lexer.specs.Words.{Numbered, numbered, is, label}
 use Rattle.lexer.specs.declared.Place.{Place}
 use Rattle.lexer.specs.declared.refusal.Refusal.{Refusal}
-use Rattle.block.specs.Blocks.{labelling, ends}
-use Rattle.block.specs.Commands.{command, empty, unended, words, newline, semicolon}
+use Rattle.block.specs.Blocks.{Phase, outside, in·taxa, in·data, in·assumptions, in·trees, State, at·start, labelling, ends, outside?, step, orderable}
+use Rattle.block.specs.Commands.{Command, command, empty, unended, words, newline, semicolon}
 use Rattle.block.specs.Format.{key}
+use Rattle.block.specs.Outcome.{done, fold}
 use Rattle.block.specs.Parse.{fault, read}
+use Rattle.block.specs.Reading.{Reading}
 use Rattle.block.specs.TaxonOrder.{commands·of}
 use Rattle.block.specs.declared.formats.Key.{Key}
 
@@ -34,29 +36,58 @@ leading (w ∷ r) = let later = leading r in pick (newline w) later (some w)
 abbrev pub Header : List ℕ → Numbered → Type 0
 Header text w = leading (numbered 0 (tokens text)) ≡ some w
 
--- The first word of a command of the text, which is of this kind.
+-- A command of the text to which reading comes: the commands before it are taken, and lead to a state.
+pub record Comes·to (text : List ℕ) (c : Command) : Type 0 where
+  pub before : List Command
+  pub after : List Command
+  pub here : commands·of text ≡ before ++ (c ∷ after)
+  pub state : State
+  pub reached : fold step at·start before ≡ done state
+
+-- All commands of the text are taken, and lead to a state.
+pub record Comes·to·end (text : List ℕ) : Type 0 where
+  pub state : State
+  pub reached : fold step at·start (commands·of text) ≡ done state
+
+-- The first word of such a command, which is of this kind.
 pub record First·word (text : List ℕ) (kind : Numbered → Bool) (w : Numbered) : Type 0 where
   pub behind : List Numbered
-  pub here : List·Memᴰ (command w behind) (commands·of text)
+  pub comes : Comes·to text (command w behind)
   pub of·kind : kind w ≡ true
 
--- A word behind the first word of such a command: any token up to its `;` but a newline.
+-- A word behind the first word of a command of this kind: any token up to its `;` but a newline.
 pub record Later·word (text : List ℕ) (kind : Numbered → Bool) (w : Numbered) : Type 0 where
   pub first : Numbered
   pub behind : List Numbered
-  pub here : List·Memᴰ (command first behind) (commands·of text)
+  pub comes : Comes·to text (command first behind)
   pub of·kind : kind first ≡ true
   pub among : List·Memᴰ w behind
   pub shown : newline w ≡ false
 
--- The name of a block of this kind: the one word behind BEGIN.
+-- The name of a block of this kind: the one word behind a BEGIN outside a block.
 pub record Block·name (text : List ℕ) (kind : Numbered → Bool) (w : Numbered) : Type 0 where
   pub first : Numbered
   pub behind : List Numbered
-  pub here : List·Memᴰ (command first behind) (commands·of text)
+  pub comes : Comes·to text (command first behind)
+  pub top : outside? (comes .state .phase) ≡ true
   pub begins : is (bytes "BEGIN") first ≡ true
   pub alone : words behind ≡ w ∷ []
   pub of·kind : kind w ≡ true
+
+-- The index of the name of the block that is open.
+unfoldable pub open·name : Phase → Option ℕ
+open·name outside = none
+open·name (in·taxa b count names) = some b
+open·name (in·data b d) = some b
+open·name (in·assumptions b default set) = some b
+open·name (in·trees b) = some b
+
+-- The name of a block of this kind that END ends.
+pub record Ended·name (text : List ℕ) (kind : Numbered → Bool) (w : Numbered) : Type 0 where
+  pub name : Block·name text kind w
+  pub end : Numbered
+  pub first : First·word text ends end
+  pub opened : open·name (first .comes .state .phase) ≡ some (w .index)
 
 -- Kinds of words: any; a block that may be read; one that must hold something when it ends; the label commands; the commands with names, and
 -- with names of taxa; the options of DIMENSIONS that take a value.
@@ -98,29 +129,30 @@ pub data May·stand·at (text : List ℕ) : Refusal → Numbered → Type 0 wher
   -- 6: the first token that is no newline, where it is not #NEXUS
   not·nexus : {w : Numbered} → Header text w → is (bytes "#NEXUS") w ≡ false → May·stand·at text Refusal.NoNexus w
   -- 7: a `;` with no command before it
-  empty·command : {w : Numbered} → semicolon w ≡ true → List·Memᴰ (empty (w .index)) (commands·of text) → May·stand·at text Refusal.EmptyCommand w
+  empty·command : {w : Numbered} → semicolon w ≡ true → Comes·to text (empty (w .index)) → May·stand·at text Refusal.EmptyCommand w
   -- 8: the first word of a command that no `;` ends
-  unended·command : {w : Numbered} → newline w ≡ false → semicolon w ≡ false → List·Memᴰ (unended (w .index)) (commands·of text) → May·stand·at text Refusal.UnendedCommand w
-  -- 9: the name of a block
-  unended·block : {w : Numbered} → Block·name text known·block w → May·stand·at text Refusal.UnendedBlock w
-  -- 10: END or ENDBLOCK with words behind it
-  words·after·end : {w : Numbered} (f : First·word text ends w) → empty? (words (f .behind)) ≡ false → May·stand·at text Refusal.WordsAfterEnd w
-  -- 11: the first word of a command that is not BEGIN and a name
-  not·begin : {w : Numbered} (f : First·word text any w) → ((b : Numbered) → words (f .behind) ≡ b ∷ [] → is (bytes "BEGIN") w ≡ false) → May·stand·at text Refusal.NotBegin w
+  unended·command : {w : Numbered} → newline w ≡ false → semicolon w ≡ false → Comes·to text (unended (w .index)) → May·stand·at text Refusal.UnendedCommand w
+  -- 9: the name of the block that is open at the end
+  unended·block : {w : Numbered} (e : Comes·to·end text) → Block·name text known·block w → open·name (e .state .phase) ≡ some (w .index) → May·stand·at text Refusal.UnendedBlock w
+  -- 10: END or ENDBLOCK with words behind it, in a block
+  words·after·end : {w : Numbered} (f : First·word text ends w) → outside? (f .comes .state .phase) ≡ false → empty? (words (f .behind)) ≡ false → May·stand·at text Refusal.WordsAfterEnd w
+  -- 11: the first word of a command outside a block that is not BEGIN and a name
+  not·begin : {w : Numbered} (f : First·word text any w) → outside? (f .comes .state .phase) ≡ true → ((b : Numbered) → words (f .behind) ≡ b ∷ [] → is (bytes "BEGIN") w ≡ false) → May·stand·at text Refusal.NotBegin w
   -- 12: the name of any block
   wrong·block : {w : Numbered} → Block·name text any w → May·stand·at text Refusal.Block w
-  -- 13: the first word of a command
-  wrong·command : {w : Numbered} → First·word text any w → May·stand·at text Refusal.Command w
-  -- 14: the word DIMENSIONS (of TAXA) or MATRIX; the name of a block that needs names or a matrix; #NEXUS, where the text has no matrix
+  -- 13: the first word of a command in a block
+  wrong·command : {w : Numbered} (f : First·word text any w) → outside? (f .comes .state .phase) ≡ false → May·stand·at text Refusal.Command w
+  -- 14: the word DIMENSIONS (of TAXA) or MATRIX; the name of a block that must hold something when it ends; #NEXUS, where no command is refused
+  -- and there is no matrix
   no·taxa·count : {w : Numbered} → First·word text (is (bytes "DIMENSIONS")) w → May·stand·at text Refusal.Absent w
   not·ready : {w : Numbered} → First·word text (is (bytes "MATRIX")) w → May·stand·at text Refusal.Absent w
-  not·filled : {w : Numbered} → Block·name text filled·block w → May·stand·at text Refusal.Absent w
-  no·matrix : {w : Numbered} → Header text w → is (bytes "#NEXUS") w ≡ true → May·stand·at text Refusal.Absent w
+  not·filled : {w : Numbered} → Ended·name text filled·block w → May·stand·at text Refusal.Absent w
+  no·matrix : {w : Numbered} (e : Comes·to·end text) → e .state .matrix ≡ none → Header text w → is (bytes "#NEXUS") w ≡ true → May·stand·at text Refusal.Absent w
   -- 15: the word DIMENSIONS (of TAXA) or one behind it
   taxa·dimension : {w : Numbered} → First·word text (is (bytes "DIMENSIONS")) w → May·stand·at text Refusal.Dimension w
   dimension : {w : Numbered} → Later·word text (is (bytes "DIMENSIONS")) w → May·stand·at text Refusal.Dimension w
-  -- 16: the name of a TAXA block; the word MATRIX, CHARLABELS or TYPESET; a word of a matrix
-  taxa·count : {w : Numbered} → Block·name text (is (bytes "TAXA")) w → May·stand·at text Refusal.Count w
+  -- 16: the name of a TAXA block that ends; the word MATRIX, CHARLABELS or TYPESET; a word of a matrix
+  taxa·count : {w : Numbered} → Ended·name text (is (bytes "TAXA")) w → May·stand·at text Refusal.Count w
   matrix·count : {w : Numbered} → First·word text (is (bytes "MATRIX")) w → May·stand·at text Refusal.Count w
   row·count : {w : Numbered} → Later·word text (is (bytes "MATRIX")) w → May·stand·at text Refusal.Count w
   label·count : {w : Numbered} → First·word text (is (bytes "CHARLABELS")) w → May·stand·at text Refusal.Count w
@@ -149,8 +181,8 @@ pub data May·stand·at (text : List ℕ) : Refusal → Numbered → Type 0 wher
   default·type : {w : Numbered} → Later·word text (is (bytes "OPTIONS")) w → May·stand·at text Refusal.TypeSet w
   -- 28: a word behind TYPESET
   character·list : {w : Numbered} → Later·word text (is (bytes "TYPESET")) w → May·stand·at text Refusal.CharacterList w
-  -- 29: #NEXUS
-  ordered·dna : {w : Numbered} → Header text w → is (bytes "#NEXUS") w ≡ true → May·stand·at text Refusal.OrderedDna w
+  -- 29: #NEXUS, where no command is refused and DNA has an ordered character
+  ordered·dna : {w : Numbered} {r : Reading} (e : Comes·to·end text) → e .state .matrix ≡ some r → orderable (r .data·type) (r .characters) ≡ false → Header text w → is (bytes "#NEXUS") w ≡ true → May·stand·at text Refusal.OrderedDna w
 
 -- The text is UTF-8 and leaves no quote or comment open.
 pub record Whole (text : List ℕ) : Type 0 where
