@@ -1,11 +1,12 @@
 -- Every fault of a text stands at its place: 0,0, an opening mark, or a token. Assumes nothing.
 use Prim.Native.Nat.{ℕ, suc, _≤_, _<_}
 use Rattle.block.proofs.Faulted.{Ends, gives, refuses}
+use Rattle.block.proofs.OpenMarks.{quote-mark, comment-mark}
 use Rattle.block.proofs.OutcomeLaws.{All, Any, all-member}
-use Rattle.block.proofs.ToldFaults.{Told, at·none}
+use Rattle.block.proofs.ToldFaults.{Told}
 use Rattle.block.proofs.ToldFaults as Told
-use Rattle.block.proofs.TokenFaults.{parse-faults}
-use Rattle.block.specs.Faults.{Token·of, May·stand·at, not·nexus, empty·command, unended·command, unended·block, words·after·end, not·begin, wrong·block, wrong·command, no·taxa·count, not·ready, not·filled, no·matrix, taxa·dimension, dimension, taxa·count, matrix·count, row·count, label·count, type·count, not·name, taxon·twice, no·count, no·value, format·option, wrong·symbols, cell·symbol, state·set, wrong·row, no·row, no·entry, label·entry, type·form, type·word, default·type, character·list, ordered·dna, Whole, Begins, Fault·at, not·utf8, open·quote, open·comment, no·token, at·token, Said·first}
+use Rattle.block.proofs.TokenFaults.{Met, met, at·none, parse-faults}
+use Rattle.block.specs.Faults.{Token·of, May·stand·at, not·nexus, empty·command, unended·command, unended·block, words·after·end, not·begin, wrong·block, wrong·command, no·taxa·count, not·ready, not·filled, no·matrix, taxa·dimension, dimension, taxa·count, matrix·count, row·count, label·count, type·count, not·name, taxon·twice, no·count, no·value, format·option, wrong·symbols, cell·symbol, state·set, wrong·row, no·row, no·entry, label·entry, type·form, type·word, default·type, character·list, ordered·dna, Stops, Whole, Begins, Fault·at, not·utf8, open·quote, open·comment, no·token, at·token, Said·first}
 use Rattle.block.specs.Outcome.{Outcome, refused}
 use Rattle.block.specs.Parse.{fault, placed, place·of, parse, read·tokens, read}
 use Rattle.block.specs.Reading.{Reading}
@@ -106,20 +107,24 @@ no-token-first text whole =
     let all : length (starts text) ≤ length (tokens text) = omega (arith, stored-count text (whole .closed)) in
     rw (List·getD-eq-default (starts text) 0 all)
 
-told-fault : (text : List ℕ) (n : Refusal) (i : ℕ) → Whole text → Told text n i → Fault·at text n (place·of text i)
+told-fault : (text : List ℕ) (n : Refusal) (i : ℕ) → Whole text → Told text n i → Stops text n i → Fault·at text n (place·of text i)
 unfolding place·of
-told-fault text n i whole (Told.at·token w token stands) =
+told-fault text n i whole (Told.at·token w token stands) stops =
     let k = stands-number text n w stands in
-    at·token w whole (k .0) (k .1) stands (begins text w whole token)
-told-fault text n i whole (at·none e) = rw (no-token-first text whole) (no·token whole e)
+    at·token w whole (k .0) (k .1) stops stands (begins text w whole token)
 
-placed-fault : (text : List ℕ) (o : Outcome Reading) (n : Refusal) (p : Place) → Whole text → Ends (Told text) Any o → placed text o ≡ fault n p → Fault·at text n p
+met-fault : (text : List ℕ) (n : Refusal) (i : ℕ) → Whole text → Met text n i → Fault·at text n (place·of text i)
+unfolding place·of
+met-fault text n i whole (met t stops) = told-fault text n i whole t stops
+met-fault text n i whole (at·none e) = rw (no-token-first text whole) (no·token whole e)
+
+placed-fault : (text : List ℕ) (o : Outcome Reading) (n : Refusal) (p : Place) → Whole text → Ends (Met text) Any o → placed text o ≡ fault n p → Fault·at text n p
 unfolding placed
 placed-fault text o n p whole (gives g) e = absurd (let z : _≡_ {A = ℕ} 0 1 = cc in omega arith)
 placed-fault text o n p whole (refuses {n = m} {i = i} t) e =
     let same : m ≡ n = cc in
     let here : place·of text i ≡ p = cc in
-    rw (← same, ← here) (told-fault text m i whole t)
+    rw (← same, ← here) (met-fault text m i whole t)
 
 -- What a text leaves open is a quote or a comment.
 module _ (P : Refusal → Type 0) (quote : P Refusal.OpenQuote) (comment : P Refusal.OpenComment) where
@@ -154,7 +159,7 @@ module _ (text : List ℕ) where
 
   open-fault : (n : Refusal) → utf8 text ≡ true → left·open (tokens text) ≡ some n → Fault·at text n (place text (opened text))
   open-fault n u e =
-      open-refusals (λ m. left·open (tokens text) ≡ some m → Fault·at text m (place text (opened text))) (open·quote u) (open·comment u) (tokens text) n e e
+      open-refusals (λ m. left·open (tokens text) ≡ some m → Fault·at text m (place text (opened text))) (λ q. open·quote u q (quote-mark text q)) (λ q. open·comment u q (comment-mark text q)) (tokens text) n e e
 
   -- Two ways to say what the text is refused for.
   said : (m n : Refusal) (p q : Place) → read text ≡ fault m p → Fault·at text m p → read text ≡ fault n q → Fault·at text n q
@@ -172,15 +177,15 @@ module _ (text : List ℕ) where
 
   utf8-said : (p : Place) → Fault·at text Refusal.NotUtf8 p → utf8 text ≡ false
   utf8-said p (not·utf8 e) = e
-  utf8-said p (at·token w whole low high stands b) = absurd (omega arith)
+  utf8-said p (at·token w whole low high stops stands b) = absurd (omega arith)
 
   quote-said : (p : Place) → Fault·at text Refusal.OpenQuote p → (utf8 text ≡ true) × (left·open (tokens text) ≡ some Refusal.OpenQuote)
-  quote-said p (open·quote u e) = (u, e)
-  quote-said p (at·token w whole low high stands b) = absurd (omega arith)
+  quote-said p (open·quote u e m) = (u, e)
+  quote-said p (at·token w whole low high stops stands b) = absurd (omega arith)
 
   comment-said : (p : Place) → Fault·at text Refusal.OpenComment p → (utf8 text ≡ true) × (left·open (tokens text) ≡ some Refusal.OpenComment)
-  comment-said p (open·comment u e) = (u, e)
-  comment-said p (at·token w whole low high stands b) = absurd (omega arith)
+  comment-said p (open·comment u e m) = (u, e)
+  comment-said p (at·token w whole low high stops stands b) = absurd (omega arith)
 
   pub said-first : Said·first text
   said-first =

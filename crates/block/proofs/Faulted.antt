@@ -18,6 +18,11 @@ pub data Ends (R : Faults) {A : Type 0} (P : A → Type 0) : Outcome A → Type 
   gives : {a : A} → P a → Ends R P (done a)
   refuses : {n : Refusal} {i : ℕ} → R n i → Ends R P (refused n i)
 
+-- What else is known of an outcome that is a refusal.
+pub refusals : (R S : Faults) {A : Type 0} {P : A → Type 0} {o : Outcome A} → ((n : Refusal) (i : ℕ) → o ≡ refused n i → R n i → S n i) → Ends R P o → Ends S P o
+refusals R S f (gives p) = gives p
+refusals R S f (refuses {n = n} {i = i} r) = refuses (f n i refl r)
+
 module _ (R : Faults) where
   module _ {A : Type 0} {P : A → Type 0} where
     -- a choice between two outcomes, each under its test

@@ -16,6 +16,7 @@ pub mod MatrixParts
 pub mod MatrixSound
 pub mod NamesFromTokens
 pub mod NamesSound
+pub mod OpenMarks
 pub mod OpenedFaults
 pub mod OutcomeLaws
 pub mod PagesSmall

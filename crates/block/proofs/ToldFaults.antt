@@ -7,24 +7,22 @@ use Rattle.block.proofs.OutcomeLaws.{All, all-map}
 use Rattle.block.proofs.TypeFaults.{Type·faults}
 use Rattle.block.specs.Blocks.{labelling}
 use Rattle.block.specs.Commands.{command, words, newline}
-use Rattle.block.specs.Faults.{Token·of, leading, Comes·to, First·word, Later·word, label·word, taxon·word, name·word, count·word, May·stand·at, dimension, label·count, not·name, taxon·twice, no·count, no·value, format·option, cell·symbol, state·set, wrong·row, row·count, no·entry, label·entry, type·word, default·type, character·list}
+use Rattle.block.specs.Faults.{Token·of, Comes·to, First·word, Later·word, label·word, taxon·word, name·word, count·word, May·stand·at, dimension, label·count, not·name, taxon·twice, no·count, no·value, format·option, cell·symbol, state·set, wrong·row, row·count, no·entry, label·entry, type·word, default·type, character·list}
 use Rattle.block.specs.Interleaved.{Line, to·newline, lines·from, lines}
 use Rattle.block.specs.declared.labels.Labelling.{Labelling}
 use Rattle.lexer.proofs.Basics.{by-test, or-first, or-second}
 use Rattle.lexer.specs.Base.{pick, bytes, given}
 use Rattle.lexer.specs.Tokens.{tokens}
-use Rattle.lexer.specs.Words.{Numbered, numbered, is, label}
+use Rattle.lexer.specs.Words.{Numbered, is, label}
 use Rattle.lexer.specs.declared.refusal.Refusal.{Refusal}
-use lib.ListN.{length}
 use mathlib.Core.Bool.{Bool, true, false}
 use mathlib.Core.List.{List, [], _∷_, List·Memᴰ}
 use mathlib.Core.Option.{none, some}
 use mathlib.Core.Path.{_≡_, ap, _∙_}
 
--- A refusal and the index that it names: of a token where it may stand; or, where the text has none but newlines, the count of the tokens.
+-- A refusal and the index that it names, of a token where it may stand.
 pub data Told (text : List ℕ) : Refusal → ℕ → Type 0 where
   at·token : {n : Refusal} (w : Numbered) → Token·of text w → May·stand·at text n w → Told text n (w .index)
-  at·none : leading (numbered 0 (tokens text)) ≡ none → Told text Refusal.NoNexus (length (tokens text))
 
 -- What holds of all tokens of a command holds of its words, and of the words of its lines, and none of these is a newline.
 module _ (Q : Numbered → Type 0) where

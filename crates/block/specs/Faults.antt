@@ -1,5 +1,5 @@
 -- Where a text is refused: at 0,0, at an opening mark, or at a token, and which token each number may name.
-use Prim.Native.Nat.{ℕ, _≤_, _<_}
+use Prim.Native.Nat.{ℕ, zero, suc, _+_, _≤_, _<_}
 use lib.ListN.{length, getD}
 use mathlib.Core.Bool.{Bool, true, false, _||_}
 use mathlib.Core.List.{List, [], _∷_, _++_, List·Memᴰ}
@@ -7,18 +7,20 @@ use mathlib.Core.Logic.{_↔_}
 use mathlib.Core.Option.{Option, none, some}
 use mathlib.Core.Path.{_≡_}
 use Rattle.lexer.specs.Base.{pick, bytes, empty?, given}
+use Rattle.lexer.specs.Classes.{symbol}
 use Rattle.lexer.specs.Lexing.{token·at}
-use Rattle.lexer.specs.Places.{place, starts, opened}
+use Rattle.lexer.specs.Places.{place, starts, first·byte}
 use Rattle.lexer.specs.Refusals.{number}
-use Rattle.lexer.specs.Tokens.{tokens, left·open}
+use Rattle.lexer.specs.Tokens.{next, unclosed, tokens, unmarked, left·open}
 use Rattle.lexer.specs.Utf8.{utf8}
 use Rattle.lexer.specs.Words.{Numbered, numbered, is, label}
+use Rattle.lexer.specs.declared.Mode.{Mode}
 use Rattle.lexer.specs.declared.Place.{Place}
 use Rattle.lexer.specs.declared.refusal.Refusal.{Refusal}
-use Rattle.block.specs.Blocks.{Phase, outside, in·taxa, in·data, in·assumptions, in·trees, State, at·start, labelling, ends, outside?, step, orderable}
+use Rattle.block.specs.Blocks.{Phase, outside, in·taxa, in·data, in·assumptions, in·trees, State, at·start, labelling, ends, outside?, step, orderable, finish}
 use Rattle.block.specs.Commands.{Command, command, empty, unended, words, newline, semicolon}
 use Rattle.block.specs.Format.{key}
-use Rattle.block.specs.Outcome.{done, fold}
+use Rattle.block.specs.Outcome.{done, refused, fold}
 use Rattle.block.specs.Parse.{fault, read}
 use Rattle.block.specs.Reading.{Reading}
 use Rattle.block.specs.TaxonOrder.{commands·of}
@@ -184,6 +186,12 @@ pub data May·stand·at (text : List ℕ) : Refusal → Numbered → Type 0 wher
   -- 29: #NEXUS, where no command is refused and DNA has an ordered character
   ordered·dna : {w : Numbered} {r : Reading} (e : Comes·to·end text) → e .state .matrix ≡ some r → orderable (r .data·type) (r .characters) ≡ false → Header text w → is (bytes "#NEXUS") w ≡ true → May·stand·at text Refusal.OrderedDna w
 
+-- Where reading stops, with this number at the token of this index: at the first token; at a command, the first that is refused; or at the end.
+pub data Stops (text : List ℕ) : Refusal → ℕ → Type 0 where
+  at·front : {w : Numbered} → Header text w → is (bytes "#NEXUS") w ≡ false → Stops text Refusal.NoNexus (w .index)
+  at·command : {n : Refusal} {i : ℕ} {c : Command} (m : Comes·to text c) → step (m .state) c ≡ refused n i → Stops text n i
+  at·end : {n : Refusal} {i : ℕ} {w : Numbered} (e : Comes·to·end text) → Header text w → finish (w .index) (e .state) ≡ refused n i → Stops text n i
+
 -- The text is UTF-8 and leaves no quote or comment open.
 pub record Whole (text : List ℕ) : Type 0 where
   pub utf : utf8 text ≡ true
@@ -197,17 +205,37 @@ pub record Begins (text : List ℕ) (w : Numbered) (at : ℕ) : Type 0 where
   pub inside : at < length text
   pub same : token·at text at ≡ w .token
 
+-- What the lexer is inside of after so many bytes of a rest.
+unfoldable pub mode·after : Mode → List ℕ → ℕ → Mode
+mode·after m [] k = m
+mode·after m (b ∷ r) zero = m
+mode·after m (b ∷ r) (suc k) = mode·after (next m (symbol b r)) r k
+
+-- The opening mark of the quote that stays open: the last token begins there.
+pub record Quote·mark (text : List ℕ) (at : ℕ) : Type 0 where
+  pub earlier : List ℕ
+  pub last : starts text ≡ earlier ++ (at ∷ [])
+
+-- The opening mark of the comment that stays open, the outermost: before it, so many bytes behind a byte order mark, nothing is open, and from
+-- there to the end a comment is.
+pub record Comment·mark (text : List ℕ) (at : ℕ) : Type 0 where
+  pub passed : ℕ
+  pub stands : at ≡ first·byte text + passed
+  pub inside : passed < length (unmarked text)
+  pub before : unclosed (mode·after Mode.Between (unmarked text) passed) ≡ []
+  pub behind : (k : ℕ) → passed < k → k ≤ length (unmarked text) → left·open (unclosed (mode·after Mode.Between (unmarked text) k)) ≡ some Refusal.OpenComment
+
 -- A refusal and its place.
 pub data Fault·at (text : List ℕ) : Refusal → Place → Type 0 where
   -- 3, at 0,0: the text is not UTF-8
   not·utf8 : utf8 text ≡ false → Fault·at text Refusal.NotUtf8 (record { line = 0; column = 0 })
   -- 4 and 5, at the opening mark: the text is UTF-8 and leaves a quote or a comment open
-  open·quote : utf8 text ≡ true → left·open (tokens text) ≡ some Refusal.OpenQuote → Fault·at text Refusal.OpenQuote (place text (opened text))
-  open·comment : utf8 text ≡ true → left·open (tokens text) ≡ some Refusal.OpenComment → Fault·at text Refusal.OpenComment (place text (opened text))
+  open·quote : {at : ℕ} → utf8 text ≡ true → left·open (tokens text) ≡ some Refusal.OpenQuote → Quote·mark text at → Fault·at text Refusal.OpenQuote (place text at)
+  open·comment : {at : ℕ} → utf8 text ≡ true → left·open (tokens text) ≡ some Refusal.OpenComment → Comment·mark text at → Fault·at text Refusal.OpenComment (place text at)
   -- 6, at 1,1: the text has no token but newlines
   no·token : Whole text → leading (numbered 0 (tokens text)) ≡ none → Fault·at text Refusal.NoNexus (record { line = 1; column = 1 })
   -- 6 to 29, at the token that is refused
-  at·token : {n : Refusal} {at : ℕ} (w : Numbered) → Whole text → 6 ≤ number n → number n ≤ 29 → May·stand·at text n w → Begins text w at → Fault·at text n (place text at)
+  at·token : {n : Refusal} {at : ℕ} (w : Numbered) → Whole text → 6 ≤ number n → number n ≤ 29 → Stops text n (w .index) → May·stand·at text n w → Begins text w at → Fault·at text n (place text at)
 
 -- 3 is said exactly where the text is not UTF-8, 4 and 5 exactly where it is and leaves a quote or a comment open. So a text that is read, or
 -- is refused by another number, is UTF-8 and leaves nothing open.

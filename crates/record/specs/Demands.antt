@@ -25,12 +25,13 @@ use Rattle.record.specs.Unspell.{unspell, most}
 abbrev pub Reads : List ℕ → Reading → Type 0
 Reads text r = read text ≡ reading r
 
--- Demand 1. Every fault of a text, of any length, has its number and place: 3 at 0,0; 4 and 5 at the opening mark; 6 at 1,1 where there is no
--- token; and 6 to 29 at the place of a token of the text, one that the number may stand at (`May·stand·at`).
+-- Demand 1. Every fault of a text, of any length, has its number and place (`Fault·at`): 3 at 0,0; 4 and 5 at the opening mark, of nested
+-- comments the outermost; 6 at 1,1 where there is no token; and 6 to 29 at a token of the text, where the number may stand (`May·stand·at`) and
+-- reading stops, everything before it being taken (`Stops`).
 abbrev pub Faults·have·their·place : Type 0
 Faults·have·their·place = (text : List ℕ) (n : Refusal) (p : Place) → read text ≡ fault n p → Fault·at text n p
 
--- Demand 1. 3 comes first, then 4 or 5, and nothing else of a text that is one of them.
+-- Demand 1. 3 comes first, then 4 or 5, then the rest: each of these is said of a text exactly where it applies.
 abbrev pub Faults·come·in·order : Type 0
 Faults·come·in·order = (text : List ℕ) → Said·first text
 
