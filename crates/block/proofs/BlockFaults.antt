@@ -10,13 +10,14 @@ use Rattle.block.proofs.ToldFaults.{Told, Command·of, Behind, Shown, S
 use Rattle.block.proofs.TypeFaults.{Type·faults, typeset-faults}
 use Rattle.block.specs.Blocks.{Data, Phase, outside, in·taxa, in·data, in·assumptions, in·trees, State, in·phase, taxa·count, taxa·step, declared·count, agrees, row·of, arranged, in·order, rows, matrix·reading, matrix·shape, matrix, labelling, labelled·by, with·dimensions, with·format, with·taxa, with·matrix, label·step, data·command, data·step, options, characters·in, assumption·step, taxa·end, data·end, end·block, inner·step, ends, block·step, outside?, step}
 use Rattle.block.specs.Commands.{command, words}
-use Rattle.block.specs.Faults.{Token·of, any, filled·block, known·block, First·word, open·name, May·stand·at, words·after·end, wrong·command, no·taxa·count, not·ready, taxa·dimension, matrix·count, type·count, wrong·symbols, no·row, type·form}
+use Rattle.block.specs.Faults.{Token·of, any, filled·block, known·block, First·word, format·in, open·name, May·stand·at, words·after·end, wrong·command, no·taxa·count, not·ready, taxa·dimension, matrix·count, type·count, wrong·symbols, no·row, type·form}
+use Rattle.block.specs.Format.{default·format}
 use Rattle.block.specs.Interleaved.{lines}
 use Rattle.block.specs.Labels.{LabelCommand}
 use Rattle.block.specs.Reading.{Taxon, Reading}
 use Rattle.block.specs.Sequential.{Shape}
-use Rattle.block.specs.Typeset.{Types, ordering}
 use Rattle.block.specs.Typeset as Typeset
+use Rattle.block.specs.Typeset.{Types, ordering}
 use Rattle.block.specs.declared.dimension.Dimensions.{Dimensions}
 use Rattle.block.specs.declared.labels.Labelling.{Labelling}
 use Rattle.block.specs.declared.model.CharacterOrdering.{CharacterOrdering}
@@ -28,7 +29,7 @@ use lib.Dec.{eqb}
 use lib.ListN.{length}
 use mathlib.Core.Bool.{true, false, _&&_, _||_, not}
 use mathlib.Core.List.{List, [], _∷_}
-use mathlib.Core.Option.{Option, none, some}
+use mathlib.Core.Option.{Option, none, some, Option·getD}
 use mathlib.Core.Path.{_≡_, refl}
 
 -- A command inside a block.
@@ -59,23 +60,26 @@ module _ (text : List ℕ) (h : Numbered) (raw : List Numbered) (c : Command·of
   taxa-faults b (suc n) none p =
       either (Told text) (is (bytes "TAXLABELS") h) (λ e. then-ends (Told text) (unique-names-faults (Told text) (words raw) (names e)) (λ ns k. gives p)) (λ e. refuses misplaced)
 
-  -- MATRIX
+  -- MATRIX: its words are read by the format of the open block.
+  abbrev Formatted : Data → Type 0
+  Formatted d = format·in (c .comes .state .phase) ≡ Option·getD (d .format) default·format
+
   module _ (e : is (bytes "MATRIX") h ≡ true) where
     at-matrix : First·word text (is (bytes "MATRIX")) h
     at-matrix = first c (is (bytes "MATRIX")) e
 
-    -- What the word MATRIX may be refused for once the shape is known.
+    -- What the word MATRIX may be refused for once the shape is known, and by which format its words are read.
     abbrev Shaped : Shape → Type 0
-    Shaped sh = Told text Refusal.Count (sh .head) × Told text Refusal.TaxonAbsent (sh .head)
+    Shaped sh = Told text Refusal.Count (sh .head) × Told text Refusal.TaxonAbsent (sh .head) × (format·in (c .comes .state .phase) ≡ sh .format)
 
-    shape-faults : (d : Data) (dims : Dimensions) → Ends (Told text) Shaped (matrix·shape d dims (h .index))
+    shape-faults : (d : Data) (dims : Dimensions) → Formatted d → Ends (Told text) Shaped (matrix·shape d dims (h .index))
     unfolding matrix·shape
-    shape-faults d dims =
+    shape-faults d dims by =
         let n = declared·count (d .taxa) (dims .taxa) in
         both (Told text) (eqb (dims .characters) 0 || eqb n 0) (refuses (at-first (not·ready at-matrix)))
         (both (Told text) (not (agrees (d .taxa) n)) (refuses (at-first (matrix·count at-matrix)))
         (both (Told text) (dims .«new_taxa» && eqb (dims .taxa) 0) (refuses (at-first (not·ready at-matrix)))
-        (gives (at-first (matrix·count at-matrix), at-first (no·row at-matrix)))))
+        (gives (at-first (matrix·count at-matrix), at-first (no·row at-matrix), by))))
 
     arranged-faults : (head : ℕ) (taken : List Taxon) (ns : List (List ℕ)) → Told text Refusal.TaxonAbsent head → Ends (Told text) Any (arranged head taken ns)
     unfolding arranged
@@ -93,22 +97,22 @@ module _ (text : List ℕ) (h : Numbered) (raw : List Numbered) (c : Command·of
     unfolding rows
     rows-faults sh p =
         both (Told text) (sh .format .interleave) (interleaved-faults (Told text) sh raw (p .0) paged)
-        (sequential-faults (Told text) sh (words raw) (p .0) (told-words c (Matrix·faults (Told text)) word))
+        (sequential-faults (Told text) sh (words raw) (p .0) (told-words c (Matrix·faults (Told text) (sh .format)) word))
       where
-        word : (w : Numbered) → Shown (Behind text raw) w → Matrix·faults (Told text) w
-        word w q = matrix-told c w q e
+        word : (w : Numbered) → Shown (Behind text raw) w → Matrix·faults (Told text) (sh .format) w
+        word w q = rw (p .2) at (matrix-told c w q e)
 
-        paged : All (Line·faults (Told text)) (lines raw)
+        paged : All (Line·faults (Told text) (sh .format)) (lines raw)
         paged =
-            all-map (Shown·line (Behind text raw)) (Line·faults (Told text))
-            (λ l q. (word (l .first) (q .0), all-map (Shown (Behind text raw)) (Matrix·faults (Told text)) word (l .rest) (q .1)))
+            all-map (Shown·line (Behind text raw)) (Line·faults (Told text) (sh .format))
+            (λ l q. (word (l .first) (q .0), all-map (Shown (Behind text raw)) (Matrix·faults (Told text) (sh .format)) word (l .rest) (q .1)))
             (lines raw) (lines-shown (Behind text raw) raw (c .behind))
 
-    matrix-faults : (d : Data) → Labels·told text d → Ends (Told text) Any (matrix d h raw)
+    matrix-faults : (d : Data) → Formatted d → Labels·told text d → Ends (Told text) Any (matrix d h raw)
     unfolding matrix matrix·reading
-    matrix-faults d q =
+    matrix-faults d by q =
         then-ends (Told text) {P = Any} (needed (Told text) (d .dimensions) Refusal.Absent (h .index) (λ n. at-first (not·ready at-matrix)) (λ x n. tt))
-        (λ dims n. then-ends (Told text) (shape-faults d dims)
+        (λ dims n. then-ends (Told text) (shape-faults d dims by)
         (λ sh p. then-ends (Told text) (rows-faults sh p)
         (λ taken k. then-ends (Told text) (order-faults (sh .head) (d .taxa) taken (p .1))
         (λ taxa m. then-ends (Told text) (labels-faults (Told text) (length (sh .format .symbols)) (sh .characters) (d .labels) q) (λ cs f. gives tt)))))
@@ -122,9 +126,9 @@ module _ (text : List ℕ) (h : Numbered) (raw : List Numbered) (c : Command·of
       both (Told text) (labelled·by l (d .labels)) (refuses misplaced)
       (gives (all-one (Labelling·faults (Told text)) (d .labels) one q (labelling-told c l e)))
 
-  data-faults : (d : Data) → Labels·told text d → Ends (Told text) (Labels·told text) (data·command d h raw)
+  data-faults : (d : Data) → Formatted d → Labels·told text d → Ends (Told text) (Labels·told text) (data·command d h raw)
   unfolding data·command with·dimensions with·format with·taxa with·matrix
-  data-faults d q =
+  data-faults d by q =
       either (Told text) (is (bytes "DIMENSIONS") h)
       (λ e. both (Told text) (given (d .dimensions)) (refuses misplaced) (then-ends (Told text) (dimensions-faults (Told text) (words raw) (sizes e)) (λ x k. gives q)))
       (λ n. either (Told text) (is (bytes "FORMAT") h)
@@ -132,7 +136,7 @@ module _ (text : List ℕ) (h : Numbered) (raw : List Numbered) (c : Command·of
       (λ o. either (Told text) (is (bytes "TAXLABELS") h)
       (λ e. both (Told text) (given (d .taxa)) (refuses misplaced) (then-ends (Told text) (unique-names-faults (Told text) (words raw) (names e)) (λ x k. gives q)))
       (λ p. either (Told text) (is (bytes "MATRIX") h)
-      (λ e. then-ends (Told text) (matrix-faults e d q) (λ x k. gives q))
+      (λ e. then-ends (Told text) (matrix-faults e d by q) (λ x k. gives q))
       (λ r. label-faults d (labelling h) refl q))))
     where
       formats : is (bytes "FORMAT") h ≡ true → All (Format·faults (Told text)) (words raw)
@@ -190,14 +194,14 @@ module _ (text : List ℕ) (h : Numbered) (raw : List Numbered) (c : Command·of
     end-faults s (in·assumptions b default set) at q k = gives tt
     end-faults s (in·trees b) at q k = gives tt
 
-  inner-faults : (s : State) (p : Phase) → Opened text p → Ends (Told text) (Opened text) (inner·step s h raw p)
-  unfolding inner·step data·step
-  inner-faults s outside k = gives tt
-  inner-faults s (in·taxa b count ns) k = taxa-faults b count ns k
-  inner-faults s (in·data b d) k =
-      both (Told text) (given (d .matrix)) (refuses misplaced) (then-ends (Told text) (data-faults d (k .1)) (λ x q. gives {a = in·data b x} (k .0, q)))
-  inner-faults s (in·assumptions b default set) k = assumption-faults s b default set k
-  inner-faults s (in·trees b) k = gives k
+  inner-faults : (s : State) (p : Phase) → c .comes .state .phase ≡ p → Opened text p → Ends (Told text) (Opened text) (inner·step s h raw p)
+  unfolding inner·step data·step format·in
+  inner-faults s outside at k = gives tt
+  inner-faults s (in·taxa b count ns) at k = taxa-faults b count ns k
+  inner-faults s (in·data b d) at k =
+      both (Told text) (given (d .matrix)) (refuses misplaced) (then-ends (Told text) (data-faults d (rw at refl) (k .1)) (λ x q. gives {a = in·data b x} (k .0, q)))
+  inner-faults s (in·assumptions b default set) at k = assumption-faults s b default set k
+  inner-faults s (in·trees b) at k = gives k
 
   block-faults : Opened·in text (c .comes .state) → Ends (Told text) (Opened·in text) (block·step (c .comes .state) h raw)
   unfolding block·step in·phase
@@ -205,7 +209,7 @@ module _ (text : List ℕ) (h : Numbered) (raw : List Numbered) (c : Command·of
       let s = c .comes .state in
       either (Told text) (ends h)
       (λ e. either (Told text) (empty? (words raw)) (λ f. end-faults e s (s .phase) refl k k) (λ f. refuses (at-first (words·after·end (first c ends e) inside f))))
-      (λ e. then-ends (Told text) (inner-faults s (s .phase) k) (λ p q. gives q))
+      (λ e. then-ends (Told text) (inner-faults s (s .phase) refl k) (λ p q. gives q))
 
 pub command-faults : (text : List ℕ) (h : Numbered) (raw : List Numbered) (c : Command·of text h raw) → Opened·in text (c .comes .state) → Ends (Told text) (Opened·in text) (step (c .comes .state) (command h raw))
 unfolding step

@@ -3,10 +3,10 @@ use Prim.Native.Nat.{ℕ, suc, _≤_, _<_}
 use Rattle.block.proofs.Faulted.{Ends, gives, refuses}
 use Rattle.block.proofs.OpenMarks.{quote-mark, comment-mark}
 use Rattle.block.proofs.OutcomeLaws.{All, Any, all-member}
-use Rattle.block.proofs.ToldFaults.{Told}
-use Rattle.block.proofs.ToldFaults as Told
 use Rattle.block.proofs.TokenFaults.{Met, met, at·none, parse-faults}
-use Rattle.block.specs.Faults.{Token·of, May·stand·at, not·nexus, empty·command, unended·command, unended·block, words·after·end, not·begin, wrong·block, wrong·command, no·taxa·count, not·ready, not·filled, no·matrix, taxa·dimension, dimension, taxa·count, matrix·count, row·count, label·count, type·count, not·name, taxon·twice, no·count, no·value, format·option, wrong·symbols, cell·symbol, state·set, wrong·row, no·row, no·entry, label·entry, type·form, type·word, default·type, character·list, ordered·dna, Stops, Whole, Begins, Fault·at, not·utf8, open·quote, open·comment, no·token, at·token, Said·first}
+use Rattle.block.proofs.ToldFaults as Told
+use Rattle.block.proofs.ToldFaults.{Told}
+use Rattle.block.specs.Faults.{Token·of, May·stand·at, not·nexus, empty·command, unended·command, unended·block, words·after·end, not·begin, wrong·block, wrong·command, no·taxa·count, not·ready, not·filled, no·matrix, taxa·dimension, dimension, taxa·count, matrix·count, row·count, label·count, type·count, not·name, taxon·twice, no·count, no·value, format·option, wrong·symbols, cell·symbol, open·set, not·states, wrong·row, no·row, no·entry, label·entry, type·form, type·word, default·type, character·list, ordered·dna, Stops, Whole, Begins, Fault·at, not·utf8, open·quote, open·comment, no·token, at·token, Said·first}
 use Rattle.block.specs.Outcome.{Outcome, refused}
 use Rattle.block.specs.Parse.{fault, placed, place·of, parse, read·tokens, read}
 use Rattle.block.specs.Reading.{Reading}
@@ -58,8 +58,9 @@ stands-number text n w (no·count a b) = (omega arith, omega arith)
 stands-number text n w (no·value a b) = (omega arith, omega arith)
 stands-number text n w (format·option a) = (omega arith, omega arith)
 stands-number text n w (wrong·symbols a) = (omega arith, omega arith)
-stands-number text n w (cell·symbol a) = (omega arith, omega arith)
-stands-number text n w (state·set a) = (omega arith, omega arith)
+stands-number text n w (cell·symbol a b) = (omega arith, omega arith)
+stands-number text n w (open·set a b) = (omega arith, omega arith)
+stands-number text n w (not·states a b c) = (omega arith, omega arith)
 stands-number text n w (wrong·row a) = (omega arith, omega arith)
 stands-number text n w (no·row a) = (omega arith, omega arith)
 stands-number text n w (no·entry a) = (omega arith, omega arith)

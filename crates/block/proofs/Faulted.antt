@@ -39,7 +39,7 @@ module _ (R : Faults) where
     needed (some a) n i f g = gives (g a refl)
 
     -- a value that the outcome came to
-    come : {o : Outcome A} → Ends R P o → Ends R (λ a. P a × (o ≡ done a)) o
+    pub come : {o : Outcome A} → Ends R P o → Ends R (λ a. P a × (o ≡ done a)) o
     come (gives p) = gives (p, refl)
     come (refuses r) = refuses r
 

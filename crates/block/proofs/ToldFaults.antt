@@ -7,7 +7,7 @@ use Rattle.block.proofs.OutcomeLaws.{All, all-map}
 use Rattle.block.proofs.TypeFaults.{Type·faults}
 use Rattle.block.specs.Blocks.{labelling}
 use Rattle.block.specs.Commands.{command, words, newline}
-use Rattle.block.specs.Faults.{Token·of, Comes·to, First·word, Later·word, label·word, taxon·word, name·word, count·word, May·stand·at, dimension, label·count, not·name, taxon·twice, no·count, no·value, format·option, cell·symbol, state·set, wrong·row, row·count, no·entry, label·entry, type·word, default·type, character·list}
+use Rattle.block.specs.Faults.{Token·of, Comes·to, First·word, Later·word, label·word, taxon·word, name·word, count·word, May·stand·at, dimension, label·count, not·name, taxon·twice, no·count, no·value, format·option, format·in, cell·symbol, open·set, not·states, wrong·row, row·count, no·entry, label·entry, type·word, default·type, character·list}
 use Rattle.block.specs.Interleaved.{Line, to·newline, lines·from, lines}
 use Rattle.block.specs.declared.labels.Labelling.{Labelling}
 use Rattle.lexer.proofs.Basics.{by-test, or-first, or-second}
@@ -70,7 +70,7 @@ module _ {text : List ℕ} {h : Numbered} {raw : List Numbered} (c : Command·of
   first kind e = record { behind = raw; comes = c .comes; of·kind = e }
 
   module _ (w : Numbered) (q : Shown (Behind text raw) w) where
-    later : (kind : Numbered → Bool) → kind h ≡ true → Later·word text kind w
+    abbrev later : (kind : Numbered → Bool) → kind h ≡ true → Later·word text kind w
     later kind e = record { first = h; behind = raw; comes = c .comes; of·kind = e; among = q .0 .1; shown = q .1 }
 
     told : {n : Refusal} → May·stand·at text n w → Told text n (w .index)
@@ -106,14 +106,15 @@ module _ {text : List ℕ} {h : Numbered} {raw : List Numbered} (c : Command·of
         let l = later (is (bytes "FORMAT")) e in
         record { value = λ p. told (no·value l p); format = told (format·option l) }
 
-    pub matrix-told : is (bytes "MATRIX") h ≡ true → Matrix·faults (Told text) w
+    pub matrix-told : is (bytes "MATRIX") h ≡ true → Matrix·faults (Told text) (format·in (c .comes .state .phase)) w
     unfolding taxon·word
     matrix-told e =
         let l = later (is (bytes "MATRIX")) e in
         record {
           count = told (row·count l);
-          symbol = told (cell·symbol l);
-          set = told (state·set l);
+          symbol = λ p. told (cell·symbol l p);
+          opened = λ p. told (open·set l p);
+          states = λ cells p n. told (not·states l p n);
           row = told (wrong·row l);
           name = names-told (or-second (is (bytes "TAXLABELS") h) _ e);
         }

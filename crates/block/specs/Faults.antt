@@ -4,22 +4,24 @@ use lib.ListN.{length, getD}
 use mathlib.Core.Bool.{Bool, true, false, _||_}
 use mathlib.Core.List.{List, [], _∷_, _++_, List·Memᴰ}
 use mathlib.Core.Logic.{_↔_}
-use mathlib.Core.Option.{Option, none, some}
+use mathlib.Core.Option.{Option, none, some, Option·getD}
 use mathlib.Core.Path.{_≡_}
-use Rattle.lexer.specs.Base.{pick, bytes, empty?, given}
+use Rattle.lexer.specs.Base.{pick, bytes, byte, empty?, given}
 use Rattle.lexer.specs.Classes.{symbol}
 use Rattle.lexer.specs.Lexing.{token·at}
 use Rattle.lexer.specs.Places.{place, starts, first·byte}
 use Rattle.lexer.specs.Refusals.{number}
 use Rattle.lexer.specs.Tokens.{next, unclosed, tokens, unmarked, left·open}
 use Rattle.lexer.specs.Utf8.{utf8}
-use Rattle.lexer.specs.Words.{Numbered, numbered, is, label}
+use Rattle.lexer.specs.Words.{Numbered, numbered, is, punct, label}
 use Rattle.lexer.specs.declared.Mode.{Mode}
 use Rattle.lexer.specs.declared.Place.{Place}
 use Rattle.lexer.specs.declared.refusal.Refusal.{Refusal}
 use Rattle.block.specs.Blocks.{Phase, outside, in·taxa, in·data, in·assumptions, in·trees, State, at·start, labelling, ends, outside?, step, orderable, finish}
 use Rattle.block.specs.Commands.{Command, command, empty, unended, words, newline, semicolon}
-use Rattle.block.specs.Format.{key}
+use Rattle.block.specs.Chunk.{symbols, only·states}
+use Rattle.block.specs.Cell.{Cell}
+use Rattle.block.specs.Format.{Format, default·format, key}
 use Rattle.block.specs.Outcome.{done, refused, fold}
 use Rattle.block.specs.Parse.{fault, read}
 use Rattle.block.specs.Reading.{Reading}
@@ -114,6 +116,18 @@ name·word w = taxon·word w || (label·word w || is (bytes "TYPESET") w)
 unfoldable pub count·word : Numbered → Bool
 count·word w = is (bytes "NTAX") w || is (bytes "NCHAR") w
 
+-- The marks that open a set of states.
+unfoldable pub set·mark : Numbered → Bool
+set·mark w = punct (byte "{") w || punct (byte "(") w
+
+-- The format of the data block that is open.
+unfoldable pub format·in : Phase → Format
+format·in outside = default·format
+format·in (in·taxa b count names) = default·format
+format·in (in·data b d) = Option·getD (d .format) default·format
+format·in (in·assumptions b default set) = default·format
+format·in (in·trees b) = default·format
+
 -- The options of FORMAT that take a value.
 unfoldable pub valued·key : Key → Bool
 valued·key Key.DataType = true
@@ -169,9 +183,12 @@ pub data May·stand·at (text : List ℕ) : Refusal → Numbered → Type 0 wher
   -- 20: a word behind FORMAT; 21: the word FORMAT
   format·option : {w : Numbered} → Later·word text (is (bytes "FORMAT")) w → May·stand·at text Refusal.FormatOption w
   wrong·symbols : {w : Numbered} → First·word text (is (bytes "FORMAT")) w → May·stand·at text Refusal.Symbols w
-  -- 22, 23, 24: a word of a matrix; 25: the word MATRIX
-  cell·symbol : {w : Numbered} → Later·word text (is (bytes "MATRIX")) w → May·stand·at text Refusal.CellSymbol w
-  state·set : {w : Numbered} → Later·word text (is (bytes "MATRIX")) w → May·stand·at text Refusal.StateSet w
+  -- 22: a word of a matrix that is no cells by the block's format
+  cell·symbol : {w : Numbered} (l : Later·word text (is (bytes "MATRIX")) w) → symbols (format·in (l .comes .state .phase)) w ≡ refused Refusal.CellSymbol (w .index) → May·stand·at text Refusal.CellSymbol w
+  -- 23: a mark that opens a set, or a word of cells that are not all states
+  open·set : {w : Numbered} → Later·word text (is (bytes "MATRIX")) w → set·mark w ≡ true → May·stand·at text Refusal.StateSet w
+  not·states : {w : Numbered} {cells : List Cell} (l : Later·word text (is (bytes "MATRIX")) w) → symbols (format·in (l .comes .state .phase)) w ≡ done cells → only·states cells ≡ none → May·stand·at text Refusal.StateSet w
+  -- 24: a word of a matrix; 25: the word MATRIX
   wrong·row : {w : Numbered} → Later·word text (is (bytes "MATRIX")) w → May·stand·at text Refusal.Row w
   no·row : {w : Numbered} → First·word text (is (bytes "MATRIX")) w → May·stand·at text Refusal.TaxonAbsent w
   -- 26: the first word of a label command, or one behind it
