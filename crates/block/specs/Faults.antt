@@ -18,9 +18,9 @@ use Rattle.lexer.specs.declared.Mode.{Mode}
 use Rattle.lexer.specs.declared.Place.{Place}
 use Rattle.lexer.specs.declared.refusal.Refusal.{Refusal}
 use Rattle.block.specs.Blocks.{Phase, outside, in·taxa, in·data, in·assumptions, in·trees, State, at·start, labelling, ends, outside?, step, orderable, finish}
-use Rattle.block.specs.Commands.{Command, command, empty, unended, words, newline, semicolon}
-use Rattle.block.specs.Chunk.{symbols, only·states}
 use Rattle.block.specs.Cell.{Cell}
+use Rattle.block.specs.Chunk.{symbols, only·states}
+use Rattle.block.specs.Commands.{Command, command, empty, unended, words, newline, semicolon}
 use Rattle.block.specs.Format.{Format, default·format, key}
 use Rattle.block.specs.Outcome.{done, refused, fold}
 use Rattle.block.specs.Parse.{fault, read}
@@ -93,8 +93,8 @@ pub record Ended·name (text : List ℕ) (kind : Numbered → Bool) (w : Numbere
   pub first : First·word text ends end
   pub opened : open·name (first .comes .state .phase) ≡ some (w .index)
 
--- Kinds of words: any; a block that may be read; one that must hold something when it ends; the label commands; the commands with names, and
--- with names of taxa; the options of DIMENSIONS that take a value.
+-- Kinds of words: any; a block that must hold something when it ends, and one that may be read; the label commands; the commands with names of
+-- taxa, and with names of any kind; the options of DIMENSIONS that take a value.
 abbrev pub any : Numbered → Bool
 any w = true
 
