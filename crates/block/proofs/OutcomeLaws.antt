@@ -5,7 +5,8 @@ use Rattle.lexer.specs.Base.{pick}
 use Rattle.lexer.specs.declared.refusal.Refusal.{Refusal}
 use lib.ListN.{getD, set, replicate}
 use mathlib.Core.Bool.{Bool, true, false}
-use mathlib.Core.List.{List, [], _∷_, _++_, append-assoc, append-nil, List·Memᴰ, List·Memᴰ·head, List·Memᴰ·tail}
+use mathlib.Core.List.{List, [], _∷_, _++_, append-assoc, append-nil, List·Memᴰ, List·Memᴰ·head, List·Memᴰ·tail, List·Memᴰ·cases-cons, List·Memᴰ·not-nil}
+use mathlib.Core.Logic.{⊎-elim}
 use mathlib.Core.Option.{Option, none, some}
 use mathlib.Core.Path.{_≡_, refl}
 use native.Mathlib.Omega.{arith}
@@ -68,6 +69,15 @@ module _ {A : Type 0} where
   pub all-map : (P Q : A → Type 0) → ((a : A) → P a → Q a) → (l : List A) → All P l → All Q l
   all-map P Q f [] p = tt
   all-map P Q f (a ∷ l) p = (f a (p .0), all-map P Q f l (p .1))
+
+  pub all-both : (P Q : A → Type 0) (l : List A) → All P l → All Q l → All (λ a. P a × Q a) l
+  all-both P Q [] p q = tt
+  all-both P Q (a ∷ l) p q = ((p .0, q .0), all-both P Q l (p .1) (q .1))
+
+  -- what holds of all holds of each
+  pub all-member : (P : A → Type 0) (l : List A) (a : A) → All P l → List·Memᴰ a l → P a
+  all-member P [] a p m = absurd (List·Memᴰ·not-nil m)
+  all-member P (b ∷ l) a p m = ⊎-elim (λ e. rw e (p .0)) (λ n. all-member P l a (p .1) n) (List·Memᴰ·cases-cons m)
 
   -- every member is found among them
   pub members : (l : List A) → All (λ a. List·Memᴰ a l) l

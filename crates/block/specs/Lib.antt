@@ -23,4 +23,5 @@ pub mod Blocks
 pub mod Parse
 pub mod Sound
 pub mod TaxonOrder
+pub mod Faults
 pub mod Run

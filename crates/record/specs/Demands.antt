@@ -11,6 +11,7 @@ use Rattle.lexer.specs.Refusals.{number}
 use Rattle.lexer.specs.Tokens.{tokens}
 use Rattle.lexer.specs.Utf8.{utf8}
 use Rattle.lexer.specs.Words.{numbered}
+use Rattle.block.specs.Faults.{Fault·at, Said·first}
 use Rattle.block.specs.Parse.{reading, fault, read}
 use Rattle.block.specs.Reading.{Taxon, Character, Reading}
 use Rattle.block.specs.Sequential.{names}
@@ -30,6 +31,16 @@ use Rattle.record.specs.declared.Answer.{Answer}
 -- A text, of any length, has a reading.
 abbrev pub Reads : List ℕ → Reading → Type 0
 Reads text r = read text ≡ reading r
+
+-- Demand 1. Every fault of a text, of any length, has its number and place (`Fault·at`): 3 at 0,0; 4 and 5 at the opening mark, of nested
+-- comments the outermost; 6 at 1,1 where there is no token; and 6 to 29 at a token of the text, where the number may stand (`May·stand·at`) and
+-- reading stops, everything before it being taken (`Stops`).
+abbrev pub Faults·have·their·place : Type 0
+Faults·have·their·place = (text : List ℕ) (n : Refusal) (p : Place) → read text ≡ fault n p → Fault·at text n p
+
+-- Demand 1. 3 comes first, then 4 or 5, then the rest: each of these is said of a text exactly where it applies.
+abbrev pub Faults·come·in·order : Type 0
+Faults·come·in·order = (text : List ℕ) → Said·first text
 
 -- Demand 2. Every reading is sound: its conditions are the fields of `Sound`.
 abbrev pub Every·reading·is·sound : Type 0
