@@ -17,4 +17,5 @@ pub mod Blocks
 pub mod Parse
 pub mod Sound
 pub mod TaxonOrder
+pub mod LabelOrder
 pub mod Run
