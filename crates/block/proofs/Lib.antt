@@ -4,6 +4,7 @@ pub mod ChunkSound
 pub mod CommandWords
 pub mod DeclaredHeld
 pub mod DimensionsFew
+pub mod EntriesCut
 pub mod FormatSound
 pub mod LabelsSound
 pub mod MatrixParts
