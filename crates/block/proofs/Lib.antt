@@ -6,6 +6,7 @@ pub mod DeclaredHeld
 pub mod DimensionsFew
 pub mod EntriesCut
 pub mod FormatSound
+pub mod LabelsGained
 pub mod LabelsSound
 pub mod MatrixParts
 pub mod MatrixSound
