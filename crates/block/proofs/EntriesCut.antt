@@ -61,7 +61,7 @@ entry-only o e p x =
 
 -- Words before a comma, and those behind it.
 module _ (c : Numbered) (ws : List Numbered) (parts : comma c ≡ true) where
-  first-entry : (o : List Numbered) → no·comma o ≡ true → Entry·of (o ++ (c ∷ ws)) o
+  pub first-entry : (o : List Numbered) → no·comma o ≡ true → Entry·of (o ++ (c ∷ ws)) o
   unfolding comma·last comma·first
   first-entry o p = record { before = []; after = c ∷ ws; here = refl; begins = refl; ends = parts; whole = p }
 
@@ -76,7 +76,7 @@ module _ (c : Numbered) (ws : List Numbered) (parts : comma c ≡ true) where
   last-after (v ∷ []) b e = last-behind b e
   last-after (v ∷ x ∷ o) b e = last-after (x ∷ o) b e
 
-  later-entry : (o e : List Numbered) → Entry·of ws e → Entry·of (o ++ (c ∷ ws)) e
+  pub later-entry : (o e : List Numbered) → Entry·of ws e → Entry·of (o ++ (c ∷ ws)) e
   later-entry o e x =
       record {
         before = o ++ (c ∷ x .before);
@@ -114,7 +114,7 @@ module _ (c : Numbered) (ws : List Numbered) (parts : comma c ≡ true) where
       let tail : e ≡ o = up-to-comma o e after (no-comma-behind v o p) (no-comma-behind x e q) f (tail-eq-of-cons-eq h) in
       cc
 
-  cut-entry : (o e : List Numbered) → no·comma o ≡ true → Entry·of (o ++ (c ∷ ws)) e → (e ≡ o) ⊎ Entry·of ws e
+  pub cut-entry : (o e : List Numbered) → no·comma o ≡ true → Entry·of (o ++ (c ∷ ws)) e → (e ≡ o) ⊎ Entry·of ws e
   cut-entry o e p x = go (front o (x .before) (e ++ x .after) p (x .begins) (x .here))
     where
       go : (x .before ≡ []) ⊎ ((b : List Numbered) × (comma·last b ≡ true) × (ws ≡ b ++ (e ++ x .after))) → (e ≡ o) ⊎ Entry·of ws e
