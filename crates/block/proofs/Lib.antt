@@ -5,6 +5,7 @@ pub mod CommandWords
 pub mod DeclaredHeld
 pub mod DimensionsFew
 pub mod EntriesCut
+pub mod EntriesFollow
 pub mod EntryWords
 pub mod FormatSound
 pub mod LabelsGained
