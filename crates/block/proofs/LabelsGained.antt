@@ -62,7 +62,7 @@ gained-none {cs} {G} f = record { sized = refl; has = λ g l u. (λ h. inl h, λ
 
 -- What is not given is none.
 module _ {A : Type 0} where
-  not-given : {X : Type 0} (o : Option A) (a : A) → given o ≡ false → o ≡ some a → X
+  pub not-given : {X : Type 0} (o : Option A) (a : A) → given o ≡ false → o ≡ some a → X
   unfolding given
   not-given o a e h = not-both e (ap given h)
 

@@ -8,6 +8,7 @@ pub mod EntriesCut
 pub mod EntriesFollow
 pub mod EntryWords
 pub mod FormatSound
+pub mod LabelsApplied
 pub mod LabelsGained
 pub mod LabelsSound
 pub mod MatrixParts
