@@ -26,7 +26,7 @@ use mathlib.Core.Option.{Option, none, some}
 use mathlib.Core.Path.{_≡_, refl, sym, ap, _∙_}
 
 -- A word is at most one keyword.
-other-word : {X : Type 0} (k l : List ℕ) (h : Numbered) → alike k l ≡ false → is k h ≡ true → is l h ≡ true → X
+pub other-word : {X : Type 0} (k l : List ℕ) (h : Numbered) → alike k l ≡ false → is k h ≡ true → is l h ≡ true → X
 unfolding is
 other-word k l h e p q =
     let w = word? (h .token .kind) in

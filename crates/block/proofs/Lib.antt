@@ -1,3 +1,4 @@
+pub mod BlockMoves
 pub mod BlocksKept
 pub mod Cases
 pub mod ChunkSound
