@@ -46,7 +46,7 @@ pub data Move (s : State) (h : Numbered) (raw : List Numbered) (t : State) : Typ
   typed : (default : Option CharacterOrdering) (set : Option Types) → Away (s .phase) → Away (t .phase) → t .matrix ≡ matrix·typed default set (s .matrix) → Move s h raw t
   begins : (b : ℕ) → Away (s .phase) → given (s .matrix) ≡ false → t .phase ≡ in·data b (no·data (s .taxa)) → Move s h raw t
   left : (b : ℕ) (d : Data) (r : Reading) → s .phase ≡ in·data b d → d .matrix ≡ some r → No·labels h → Away (t .phase) → t .matrix ≡ some r → Move s h raw t
-  labels : (b : ℕ) (d e : Data) (l : Labelling) → s .phase ≡ in·data b d → given (d .matrix) ≡ false → is (keyword l) h ≡ true → t .phase ≡ in·data b e
+  labels : (b : ℕ) (d e : Data) (l : Labelling) → s .phase ≡ in·data b d → given (d .matrix) ≡ false → labelled·by l (d .labels) ≡ false → is (keyword l) h ≡ true → t .phase ≡ in·data b e
       → e .labels ≡ d .labels ++ (record { what = l; head = h .index; words = words raw } ∷ []) → e .matrix ≡ d .matrix → Move s h raw t
   reads : (b : ℕ) (d e : Data) (r : Reading) → s .phase ≡ in·data b d → matrix d h raw ≡ done r → No·labels h → t .phase ≡ in·data b e
       → e .labels ≡ d .labels → e .matrix ≡ some r → Move s h raw t
@@ -59,6 +59,18 @@ unfolding keyword
 unlike k h c s b p Labelling.CharLabels q = other-word k (bytes "CHARLABELS") h c p q
 unlike k h c s b p Labelling.StateLabels q = other-word k (bytes "STATELABELS") h s p q
 unlike k h c s b p Labelling.CharStateLabels q = other-word k (bytes "CHARSTATELABELS") h b p q
+
+pub keyword-once : (l m : Labelling) (h : Numbered) → is (keyword l) h ≡ true → is (keyword m) h ≡ true → l ≡ m
+unfolding keyword alike bytes lower pick
+keyword-once Labelling.CharLabels Labelling.CharLabels h p q = refl
+keyword-once Labelling.CharLabels Labelling.StateLabels h p q = other-word (bytes "CHARLABELS") (bytes "STATELABELS") h refl p q
+keyword-once Labelling.CharLabels Labelling.CharStateLabels h p q = other-word (bytes "CHARLABELS") (bytes "CHARSTATELABELS") h refl p q
+keyword-once Labelling.StateLabels Labelling.CharLabels h p q = other-word (bytes "STATELABELS") (bytes "CHARLABELS") h refl p q
+keyword-once Labelling.StateLabels Labelling.StateLabels h p q = refl
+keyword-once Labelling.StateLabels Labelling.CharStateLabels h p q = other-word (bytes "STATELABELS") (bytes "CHARSTATELABELS") h refl p q
+keyword-once Labelling.CharStateLabels Labelling.CharLabels h p q = other-word (bytes "CHARSTATELABELS") (bytes "CHARLABELS") h refl p q
+keyword-once Labelling.CharStateLabels Labelling.StateLabels h p q = other-word (bytes "CHARSTATELABELS") (bytes "STATELABELS") h refl p q
+keyword-once Labelling.CharStateLabels Labelling.CharStateLabels h p q = refl
 
 labelling-word : (h : Numbered) (l : Labelling) → labelling h ≡ some l → is (keyword l) h ≡ true
 unfolding labelling keyword pick
@@ -140,8 +152,9 @@ module _ (s : State) (h : Numbered) (raw : List Numbered) where
     unfolding label·step in·phase
     label-move none e free is p = refused-done Refusal.Command (h .index) e p
     label-move (some l) e free is p =
-        let new = done-inj (pick-else (labelled·by l (d .labels)) Refusal.Command (h .index) _ e p .1) in
-        labels b d e l inside free (labelling-word h l is) refl (ap (λ x. x .labels) (sym new)) (ap (λ x. x .matrix) (sym new))
+        let first = pick-else (labelled·by l (d .labels)) Refusal.Command (h .index) _ e p in
+        let new = done-inj (first .1) in
+        labels b d e l inside free (first .0) (labelling-word h l is) refl (ap (λ x. x .labels) (sym new)) (ap (λ x. x .matrix) (sym new))
 
     data-move : (e : Data) → given (d .matrix) ≡ false → data·command d h raw ≡ done e → Move s h raw (in·phase (in·data b e) s)
     unfolding data·command with·dimensions with·format with·taxa with·matrix in·phase alike bytes lower pick

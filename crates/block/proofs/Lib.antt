@@ -11,6 +11,7 @@ pub mod EntryWords
 pub mod FormatSound
 pub mod LabelsApplied
 pub mod LabelsGained
+pub mod LabelsHeld
 pub mod LabelsSound
 pub mod MatrixParts
 pub mod MatrixSound
