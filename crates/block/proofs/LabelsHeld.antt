@@ -1,26 +1,19 @@
--- A data block keeps exactly its label commands, each once, and its matrix is labelled by them. Assumes nothing.
+-- The label commands of a data block are kept, each kind once, and no other command is. Assumes nothing.
 use Prim.Native.Nat.{ℕ}
-use Rattle.block.proofs.BlockMoves.{Away, Move, elsewhere, typed, begins, left, labels, reads, declares, keyword-once, command-move}
-use Rattle.block.proofs.DeclaredHeld.{last-or-before, nothing-declared}
-use Rattle.block.proofs.MatrixParts.{matrix-parts}
-use Rattle.block.proofs.OutcomeLaws.{refused-done, done-inj, Opt, fold-history}
-use Rattle.block.specs.Blocks.{Data, Phase, outside, in·taxa, in·data, in·assumptions, in·trees, State, at·start, no·data, unordered, same·labelling, labelled·by, retyped, with·types, matrix·typed, step}
-use Rattle.block.specs.Commands.{Command, command, empty, unended, words}
+use Rattle.block.proofs.BlockMoves.{keyword-once}
+use Rattle.block.proofs.DeclaredHeld.{last-or-before}
+use Rattle.block.proofs.OutcomeLaws.{done-inj}
+use Rattle.block.specs.Blocks.{Data, in·data, State, at·start, same·labelling, labelled·by, step}
+use Rattle.block.specs.Commands.{Command, command, words}
 use Rattle.block.specs.LabelOrder.{keyword, Label·command}
-use Rattle.block.specs.Labels.{Labelled, LabelCommand, apply·labels}
+use Rattle.block.specs.Labels.{LabelCommand}
 use Rattle.block.specs.Outcome.{done, fold}
-use Rattle.block.specs.Reading.{Character, Reading}
-use Rattle.block.specs.Typeset.{Types}
 use Rattle.block.specs.declared.labels.Labelling.{Labelling}
-use Rattle.block.specs.declared.model.CharacterOrdering.{CharacterOrdering}
 use Rattle.lexer.proofs.Basics.{not-both, or-first, or-second}
-use Rattle.lexer.specs.Base.{given}
 use Rattle.lexer.specs.Words.{Numbered, is}
-use Rattle.lexer.specs.declared.refusal.Refusal.{Refusal}
 use mathlib.Core.Bool.{true, false, _||_}
 use mathlib.Core.List.{List, [], _∷_, _++_, append-assoc, List·Memᴰ, List·Memᴰ·head, List·Memᴰ·append-cases, List·Memᴰ·eq-of-singleton, List·Memᴰ·cases-cons, List·Memᴰ·not-nil, Memᴰ·append-left, Memᴰ·append-right}
 use mathlib.Core.Logic.{_⊎_, inl, inr, ⊎-elim}
-use mathlib.Core.Option.{Option, none, some, Option·getD}
 use mathlib.Core.Path.{_≡_, refl, sym, ap, _∙_, subst}
 
 -- These are the label commands among the commands, each kind once.
@@ -65,11 +58,11 @@ kept-kind (d ∷ r) c m =
 module _ (cs : List Command) (s : State) (reached : fold step at·start cs ≡ done s) (h : Numbered) (raw : List Numbered) where
   -- A label command among these and one more is among these, or is that one.
   pub record Last (l : Labelling) (ws : List Numbered) : Type 0 where
-    word : is (keyword l) h ≡ true
-    words : words raw ≡ ws
-    block : ℕ
-    block·data : Data
-    inside : s .phase ≡ in·data block block·data
+    pub word : is (keyword l) h ≡ true
+    pub words : words raw ≡ ws
+    pub block : ℕ
+    pub block·data : Data
+    pub inside : s .phase ≡ in·data block block·data
 
   abbrev Earlier : (l : Labelling) (ws : List Numbered) → List Command → Type 0
   Earlier l ws before = (d : Label·command cs l ws) × (d .before ≡ before)

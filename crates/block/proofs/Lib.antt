@@ -10,6 +10,7 @@ pub mod EntriesFollow
 pub mod EntryWords
 pub mod FormatSound
 pub mod LabelsApplied
+pub mod LabelsFollow
 pub mod LabelsGained
 pub mod LabelsHeld
 pub mod LabelsSound

@@ -132,3 +132,8 @@ pub record Labelled·by (cs : List Command) (k : ℕ) (c : Character) : Type 0 w
   pub label·given : ¬ (c .label ≡ []) → Label·given cs k (c .label)
   pub states : (s : List (List ℕ)) → States·given cs k s → c .states ≡ s
   pub states·given : ¬ (c .states ≡ []) → States·given cs k (c .states)
+
+-- The labels of these characters are those of the label commands among these commands, of which there is at most one of each kind.
+pub record Labels·follow (cs : List Command) (characters : List Character) : Type 0 where
+  pub once : (what : Labelling) (ws vs : List Numbered) (c : Label·command cs what ws) (d : Label·command cs what vs) → c .before ≡ d .before
+  pub each : (k : ℕ) (c : Character) → Kth characters k c → Labelled·by cs k c

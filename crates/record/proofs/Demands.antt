@@ -1,5 +1,6 @@
 -- The promises of specs/Demands.antt, each with its proof. Assumes nothing.
 use Prim.Native.Nat.{ℕ}
+use Rattle.block.proofs.LabelsFollow.{labels-follow}
 use Rattle.block.proofs.NamesFromTokens.{names-from-tokens, labels-from-tokens}
 use Rattle.block.proofs.ReadingSmall.{reading-small}
 use Rattle.block.proofs.ReadingSound.{reading-sound}
@@ -15,7 +16,7 @@ use Rattle.record.proofs.FormLexed.{form-lexed, form-utf8}
 use Rattle.record.proofs.FormParsed.{form-parsed}
 use Rattle.record.proofs.SpellLaws.{unspell-spell}
 use Rattle.record.proofs.UnspellLaws.{spell-unspell}
-use Rattle.record.specs.Demands.{Reads, Agree, Every·reading·is·sound, Taxa·follow·the·declaration, Names·come·from·tokens, Labels·come·from·tokens, Records·are·read·back, Records·are·spelled, Records·of·texts·pass, Some·reading·spells, Not·refused·is·some·reading, Refused·is·no·reading, Forms·are·read·again, Forms·tell·readings·apart, Forms·tell·texts·apart}
+use Rattle.record.specs.Demands.{Reads, Agree, Every·reading·is·sound, Taxa·follow·the·declaration, Names·come·from·tokens, Labels·come·from·tokens, Labels·follow·the·commands, Records·are·read·back, Records·are·spelled, Records·of·texts·pass, Some·reading·spells, Not·refused·is·some·reading, Refused·is·no·reading, Forms·are·read·again, Forms·tell·readings·apart, Forms·tell·texts·apart}
 use Rattle.record.specs.Calls.{bytes·of, refuse, written, write·result, not·found, found, looked·up, lookup·answer}
 use Rattle.record.specs.Form.{form}
 use Rattle.record.specs.Lookup.{Stretch, lookup}
@@ -40,6 +41,9 @@ names-come-from-tokens = names-from-tokens
 
 pub labels-come-from-tokens : Labels·come·from·tokens
 labels-come-from-tokens = labels-from-tokens
+
+pub labels-follow-the-commands : Labels·follow·the·commands
+labels-follow-the-commands = labels-follow
 
 pub records-are-read-back : Records·are·read·back
 records-are-read-back = unspell-spell
