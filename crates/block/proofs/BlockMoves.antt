@@ -8,12 +8,10 @@ use Rattle.block.specs.Commands.{command, words}
 use Rattle.block.specs.Dimensions.{dimensions}
 use Rattle.block.specs.Format.{format}
 use Rattle.block.specs.LabelOrder.{keyword}
-use Rattle.block.specs.Labels.{LabelCommand}
 use Rattle.block.specs.Names.{unique·names}
 use Rattle.block.specs.Outcome.{Outcome, done, refused, then}
 use Rattle.block.specs.Reading.{Reading}
-use Rattle.block.specs.Typeset.{Types, Typeset, typeset}
-use Rattle.block.specs.declared.dimension.Dimensions.{Dimensions}
+use Rattle.block.specs.Typeset.{Types, typeset}
 use Rattle.block.specs.declared.labels.Labelling.{Labelling}
 use Rattle.block.specs.declared.model.CharacterOrdering.{CharacterOrdering}
 use Rattle.lexer.proofs.Basics.{by-test}
@@ -25,7 +23,7 @@ use lib.ListN.{length}
 use mathlib.Core.Bool.{Bool, true, false, _&&_, _||_, not, true≢false}
 use mathlib.Core.List.{List, [], _∷_, _++_}
 use mathlib.Core.Option.{Option, none, some}
-use mathlib.Core.Path.{_≡_, refl, sym, ap, _∙_, subst}
+use mathlib.Core.Path.{_≡_, refl, sym, ap, _∙_}
 
 -- No data block is open.
 abbrev pub Away : Phase → Type 0

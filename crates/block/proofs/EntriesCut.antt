@@ -1,10 +1,10 @@
 -- The entries of a list of words: words without a comma are one entry, and those before a comma are one more than those behind it. Assumes nothing.
 use Rattle.block.specs.LabelOrder.{comma, no·comma, comma·last, comma·first, Entry·of}
-use Rattle.lexer.proofs.Basics.{and-left, and-right, and-both, not-both}
+use Rattle.lexer.proofs.Basics.{and-left, and-right, not-both}
 use Rattle.lexer.specs.Words.{Numbered}
 use borrow.Author.Tests.{not-true}
-use mathlib.Core.Bool.{true, false, _&&_, not}
-use mathlib.Core.List.{List, [], _∷_, _++_, append-assoc, append-nil, head-eq-of-cons-eq, tail-eq-of-cons-eq, nil≢cons, cons≢nil}
+use mathlib.Core.Bool.{true, false, not}
+use mathlib.Core.List.{List, [], _∷_, _++_, append-assoc, append-nil, head-eq-of-cons-eq, tail-eq-of-cons-eq, cons≢nil}
 use mathlib.Core.Logic.{_⊎_, inl, inr}
 use mathlib.Core.Path.{_≡_, refl, sym, ap, _∙_}
 

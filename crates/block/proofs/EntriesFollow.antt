@@ -7,7 +7,7 @@ use Rattle.block.proofs.LabelsGained.{Item, its·label, its·states, Ga
 use Rattle.block.proofs.OutcomeLaws.{then-done, need-done, pick-else, pick-when, refused-done, done-inj}
 use Rattle.block.specs.LabelOrder.{comma, slash, no·comma, before·states, Entry·states}
 use Rattle.block.specs.Labels.{Labelled, LabelCommand, Entry, first, next, numbered, labelled, states, Entries, at, character, with·label, with·states, begin·states, entry·number, entry·begins, entry·label, entry·states, state·label, entry·turn, entry·end, label·entries}
-use Rattle.block.specs.Outcome.{Outcome, done, refused, then, fold, need}
+use Rattle.block.specs.Outcome.{Outcome, done, fold, need}
 use Rattle.block.specs.declared.labels.Labelling.{Labelling}
 use Rattle.lexer.proofs.Basics.{and-left, and-right, by-test, not-both}
 use Rattle.lexer.specs.Base.{pick, given}
@@ -16,8 +16,8 @@ use Rattle.lexer.specs.declared.refusal.Refusal.{Refusal}
 use borrow.Author.Tests.{leb-true}
 use lib.Dec.{ltb, leb}
 use lib.ListN.{length}
-use mathlib.Core.Bool.{Bool, true, false, _&&_, not}
-use mathlib.Core.List.{List, [], _∷_, _++_, map, map-append, append-assoc, append-nil}
+use mathlib.Core.Bool.{true, false, _&&_}
+use mathlib.Core.List.{List, [], _∷_, _++_, map-append, append-assoc, append-nil}
 use mathlib.Core.Logic.{_↔_, _⊎_, inl, inr, ⊎-elim}
 use mathlib.Core.Option.{some}
 use mathlib.Core.Path.{_≡_, refl, sym, ap, _∙_, subst}

@@ -8,7 +8,7 @@ use Rattle.block.specs.declared.labels.Labelling.{Labelling}
 use Rattle.lexer.proofs.Basics.{and-left, not-both}
 use Rattle.lexer.specs.Words.{Numbered, label, number}
 use borrow.Author.Tests.{not-true}
-use mathlib.Core.Bool.{true, false, _&&_, not, true≢false}
+use mathlib.Core.Bool.{true, false, not, true≢false}
 use mathlib.Core.List.{List, [], _∷_, _++_, map, head-eq-of-cons-eq, tail-eq-of-cons-eq, nil≢cons, cons≢nil}
 use mathlib.Core.Logic.{_↔_, _⊎_, inl, inr, ⊎-elim}
 use mathlib.Core.Option.{some}

@@ -1,6 +1,6 @@
 -- The label commands of a data block, applied: a character has exactly what they give it. Assumes nothing.
 use Prim.Native.Nat.{ℕ, zero, suc, _-_, _≤_, _<_}
-use Rattle.block.proofs.ChunkSound.{none-some, some-inj}
+use Rattle.block.proofs.ChunkSound.{none-some}
 use Rattle.block.proofs.EntriesFollow.{entries-gained}
 use Rattle.block.proofs.EntryWords.{Entries·give}
 use Rattle.block.proofs.LabelsGained.{Item, its·label, its·states, whose, Has, Gained, gained-then, gained-map, gained-none, not-given}
@@ -16,9 +16,9 @@ use borrow.Author.Tests.{eqb-true}
 use lib.Dec.{eqb}
 use lib.ListN.{length, getD, replicate, length-replicate, getD-replicate}
 use mathlib.Core.Bool.{true, false, true≢false}
-use mathlib.Core.List.{List, [], _∷_, _++_, List·Memᴰ, List·Memᴰ·head, List·Memᴰ·tail, List·Memᴰ·cases-cons, List·Memᴰ·not-nil, head-eq-of-cons-eq, tail-eq-of-cons-eq, nil≢cons}
+use mathlib.Core.List.{List, [], _∷_, _++_, List·Memᴰ, List·Memᴰ·head, List·Memᴰ·tail, List·Memᴰ·cases-cons, List·Memᴰ·not-nil, head-eq-of-cons-eq, tail-eq-of-cons-eq}
 use mathlib.Core.Logic.{_↔_, _⊎_, inl, inr, ⊎-elim}
-use mathlib.Core.Option.{none, some}
+use mathlib.Core.Option.{some}
 use mathlib.Core.Path.{_≡_, refl, sym, ap, _∙_, subst}
 use native.Mathlib.Omega.{arith}
 

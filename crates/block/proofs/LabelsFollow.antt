@@ -1,17 +1,16 @@
 -- Labels belong to their characters: a character of a reading has what the text's label commands give it. Assumes nothing.
-use Prim.Native.Nat.{ℕ, zero, suc, _-_, _≤_}
+use Prim.Native.Nat.{ℕ, suc, _-_, _≤_}
 use Rattle.block.proofs.BlockMoves.{Away, No·labels, Move, elsewhere, typed, begins, left, labels, reads, declares, command-move}
-use Rattle.block.proofs.ChunkSound.{some-inj}
 use Rattle.block.proofs.DeclaredHeld.{nothing-declared}
 use Rattle.block.proofs.LabelsApplied.{Gives, Some·gives, labels-applied}
 use Rattle.block.proofs.LabelsGained.{Item, its·label, its·states, whose, Has, not-given}
-use Rattle.block.proofs.LabelsHeld.{Same, Last, quiet, kept-one}
+use Rattle.block.proofs.LabelsHeld.{Same, quiet, kept-one}
 use Rattle.block.proofs.MatrixParts.{matrix-parts}
 use Rattle.block.proofs.OutcomeLaws.{refused-done, Opt, fold-history}
 use Rattle.block.proofs.ReadCommands.{read-finished}
 use Rattle.block.specs.Blocks.{Data, Phase, outside, in·taxa, in·data, in·assumptions, in·trees, State, at·start, no·data, unordered, retyped, with·types, matrix, matrix·typed, step}
 use Rattle.block.specs.Commands.{Command, command, empty, unended}
-use Rattle.block.specs.LabelOrder.{Kth, keyword, Label·command, Label·given, States·given, Labelled·by, Labels·follow}
+use Rattle.block.specs.LabelOrder.{Kth, Label·command, Label·given, States·given, Labelled·by, Labels·follow}
 use Rattle.block.specs.Labels.{Labelled, unlabelled, LabelCommand, character, apply·labels}
 use Rattle.block.specs.Outcome.{done, fold}
 use Rattle.block.specs.Parse.{reading, read}
@@ -24,8 +23,8 @@ use Rattle.lexer.specs.Base.{given}
 use Rattle.lexer.specs.Words.{Numbered, is}
 use Rattle.lexer.specs.declared.refusal.Refusal.{Refusal}
 use lib.ListN.{length, getD}
-use mathlib.Core.Bool.{true, false}
-use mathlib.Core.List.{List, [], _∷_, _++_, List·Memᴰ, List·Memᴰ·not-nil, head-eq-of-cons-eq, tail-eq-of-cons-eq, nil≢cons}
+use mathlib.Core.Bool.{false}
+use mathlib.Core.List.{List, [], _∷_, _++_, List·Memᴰ·not-nil}
 use mathlib.Core.Logic.{_↔_}
 use mathlib.Core.Option.{Option, none, some, Option·getD}
 use mathlib.Core.Path.{_≡_, refl, sym, ap, _∙_, subst}

@@ -1,18 +1,18 @@
 -- What a list of characters has gained in labels and state labels, and that a label or state labels set once are gained. Assumes nothing.
 use Prim.Native.Nat.{ℕ, _-_, _≤_}
-use Rattle.block.proofs.ChunkSound.{none-some, some-inj}
+use Rattle.block.proofs.ChunkSound.{some-inj}
 use Rattle.block.specs.Labels.{Labelled, unlabelled, character, with·label, with·states}
 use Rattle.lexer.proofs.Basics.{by-test, not-both}
 use Rattle.lexer.specs.Base.{given}
 use borrow.Author.Tests.{eqb-true, eqb-false}
 use lib.Dec.{eqb}
-use lib.ListN.{length, getD, set, length-set}
+use lib.ListN.{length, set, length-set}
 use lib.Seq.{getD-set-same, getD-set-other}
 use mathlib.Core.Bool.{true, false}
 use mathlib.Core.List.{List}
 use mathlib.Core.Logic.{_↔_, _⊎_, inl, inr, ⊎-elim}
 use mathlib.Core.Option.{Option, none, some}
-use mathlib.Core.Path.{_≡_, refl, sym, ap, _∙_}
+use mathlib.Core.Path.{_≡_, refl, ap, _∙_}
 use native.Mathlib.Omega.{arith}
 
 -- A label, or state labels, of the character with a number.

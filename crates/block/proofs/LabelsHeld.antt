@@ -11,7 +11,7 @@ use Rattle.block.specs.Outcome.{done, fold}
 use Rattle.block.specs.declared.labels.Labelling.{Labelling}
 use Rattle.lexer.proofs.Basics.{not-both, or-first, or-second}
 use Rattle.lexer.specs.Words.{Numbered, is}
-use mathlib.Core.Bool.{true, false, _||_}
+use mathlib.Core.Bool.{true, false}
 use mathlib.Core.List.{List, [], _∷_, _++_, append-assoc, List·Memᴰ, List·Memᴰ·head, List·Memᴰ·append-cases, List·Memᴰ·eq-of-singleton, List·Memᴰ·cases-cons, List·Memᴰ·not-nil, Memᴰ·append-left, Memᴰ·append-right}
 use mathlib.Core.Logic.{_⊎_, inl, inr, ⊎-elim}
 use mathlib.Core.Path.{_≡_, refl, sym, ap, _∙_, subst}
