@@ -27,16 +27,18 @@ comma w = punct (byte ",") w
 unfoldable pub slash : Numbered → Bool
 slash w = punct (byte "/") w
 
--- No comma is among these words; none of them stand, or the last is a comma; none of them stand, or the first is a comma.
+-- No comma is among these words.
 unfoldable pub no·comma : List Numbered → Bool
 no·comma [] = true
 no·comma (w ∷ r) = not (comma w) && no·comma r
 
+-- There are no words, or the last is a comma.
 unfoldable pub comma·last : List Numbered → Bool
 comma·last [] = true
 comma·last (w ∷ []) = comma w
 comma·last (w ∷ v ∷ r) = comma·last (v ∷ r)
 
+-- There are no words, or the first is a comma.
 unfoldable pub comma·first : List Numbered → Bool
 comma·first [] = true
 comma·first (w ∷ r) = comma w
