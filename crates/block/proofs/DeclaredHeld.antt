@@ -26,7 +26,7 @@ use mathlib.Core.Option.{Option, none, some}
 use mathlib.Core.Path.{_≡_, refl, sym, ap, _∙_}
 
 -- A word is at most one keyword.
-other-word : {X : Type 0} (k l : List ℕ) (h : Numbered) → alike k l ≡ false → is k h ≡ true → is l h ≡ true → X
+pub other-word : {X : Type 0} (k l : List ℕ) (h : Numbered) → alike k l ≡ false → is k h ≡ true → is l h ≡ true → X
 unfolding is
 other-word k l h e p q =
     let w = word? (h .token .kind) in
@@ -239,7 +239,7 @@ module _ (s : State) (h : Numbered) (raw : List Numbered) (ns : List (List ℕ))
 
 -- A command among these and one more is among these, or is that one.
 module _ {A : Type 0} where
-  last-or-before : (l p q : List A) (c x : A) → l ++ (c ∷ []) ≡ p ++ (x ∷ q) → ((l ≡ p) × (c ≡ x)) ⊎ ((r : List A) × (l ≡ p ++ (x ∷ r)))
+  pub last-or-before : (l p q : List A) (c x : A) → l ++ (c ∷ []) ≡ p ++ (x ∷ q) → ((l ≡ p) × (c ≡ x)) ⊎ ((r : List A) × (l ≡ p ++ (x ∷ r)))
   last-or-before [] [] q c x e = inl (refl, head-eq-of-cons-eq e)
   last-or-before [] (a ∷ []) q c x e = absurd (nil≢cons (tail-eq-of-cons-eq e))
   last-or-before [] (a ∷ b ∷ p) q c x e = absurd (nil≢cons (tail-eq-of-cons-eq e))
@@ -251,7 +251,7 @@ module _ {A : Type 0} where
       (λ k. inr (k .0, ap (λ y. b ∷ y) (k .1) ∙ ap (λ y. y ∷ (p ++ (x ∷ k .0))) first))
       (last-or-before l p q c x (tail-eq-of-cons-eq e))
 
-nothing-declared : (p q : List Command) (c : Command) → [] ≡ p ++ (c ∷ q) → ⊥
+pub nothing-declared : (p q : List Command) (c : Command) → [] ≡ p ++ (c ∷ q) → ⊥
 nothing-declared [] q c e = nil≢cons e
 nothing-declared (a ∷ p) q c e = nil≢cons e
 

@@ -112,7 +112,7 @@ module _ (N : List ℕ → Type 0) (Q : Numbered → Type 0) (name : Names Q N) 
   begins-entered c cs w t p h =
       let k = number w in
       let a = pick-else (punct 44 w) Refusal.LabelEntry (c .head) _ t h in
-      number-entered (c .what) cs w k t p (pick-when (leb 1 k && leb k (length cs)) Refusal.LabelEntry (w .index) (entry·number (c .what) cs w k) t (a .1) .1)
+      number-entered (c .what) cs w _ t p (pick-when (leb 1 k && leb k (length cs)) Refusal.LabelEntry (w .index) _ t (a .1) .1)
 
   label-entered : (cs : List Labelled) (k i : ℕ) (w : Numbered) (t : Entries) → Labelling·of N count size cs → Q w → entry·label cs k i w ≡ done t → Entered t
   unfolding entry·label

@@ -1,4 +1,5 @@
 pub mod BlockFaults
+pub mod BlockMoves
 pub mod BlocksKept
 pub mod Cases
 pub mod ChunkSound
@@ -7,10 +8,17 @@ pub mod DeclaredFaults
 pub mod DeclaredHeld
 pub mod DimensionsFew
 pub mod DimensionsLaws
+pub mod EntriesCut
+pub mod EntriesFollow
+pub mod EntryWords
 pub mod FaultPlaces
 pub mod Faulted
 pub mod FormatSound
 pub mod LabelFaults
+pub mod LabelsApplied
+pub mod LabelsFollow
+pub mod LabelsGained
+pub mod LabelsHeld
 pub mod LabelsSound
 pub mod MatrixFaults
 pub mod MatrixParts

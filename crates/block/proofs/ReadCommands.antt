@@ -23,6 +23,7 @@ use native.Mathlib.Omega.{arith}
 
 -- The end: no block open, a matrix, and no ordered DNA.
 record Final (s : State) (r : Reading) : Type 0 where
+  closed : s .phase ≡ outside
   matrix : s .matrix ≡ some r
   orderable : orderable (r .data·type) (r .characters) ≡ true
 
@@ -32,26 +33,26 @@ record Leads (ws : List Numbered) (r : Reading) : Type 0 where
   reached : fold step at·start (commands ws) ≡ done state
   final : Final state r
 
-matrix-final : (header : ℕ) (s : State) (m : Option Reading) (r : Reading) → s .matrix ≡ m → matrix·read header m ≡ done r → Final s r
+matrix-final : (header : ℕ) (s : State) (m : Option Reading) (r : Reading) → s .phase ≡ outside → s .matrix ≡ m → matrix·read header m ≡ done r → Final s r
 unfolding matrix·read final
-matrix-final header s none r is e = refused-done Refusal.Absent header r e
-matrix-final header s (some m) r is e =
+matrix-final header s none r at is e = refused-done Refusal.Absent header r e
+matrix-final header s (some m) r at is e =
     let k = pick-when (orderable (m .data·type) (m .characters)) Refusal.OrderedDna header (done m) r e in
-    rw (← done-inj (k .1)) (record { matrix = is; orderable = k .0 })
+    rw (← done-inj (k .1)) (record { closed = at; matrix = is; orderable = k .0 })
 
-finish-final : (header : ℕ) (s : State) (p : Phase) (r : Reading) → finish·in header s p ≡ done r → Final s r
+finish-final : (header : ℕ) (s : State) (p : Phase) (r : Reading) → s .phase ≡ p → finish·in header s p ≡ done r → Final s r
 unfolding finish·in
-finish-final header s outside r e = matrix-final header s (s .matrix) r refl e
-finish-final header s (in·taxa b count names) r e = refused-done Refusal.UnendedBlock b r e
-finish-final header s (in·data b d) r e = refused-done Refusal.UnendedBlock b r e
-finish-final header s (in·assumptions b default set) r e = refused-done Refusal.UnendedBlock b r e
-finish-final header s (in·trees b) r e = refused-done Refusal.UnendedBlock b r e
+finish-final header s outside r at e = matrix-final header s (s .matrix) r at refl e
+finish-final header s (in·taxa b count names) r at e = refused-done Refusal.UnendedBlock b r e
+finish-final header s (in·data b d) r at e = refused-done Refusal.UnendedBlock b r e
+finish-final header s (in·assumptions b default set) r at e = refused-done Refusal.UnendedBlock b r e
+finish-final header s (in·trees b) r at e = refused-done Refusal.UnendedBlock b r e
 
 behind-leads : (header : ℕ) (ws : List Numbered) (r : Reading) → parse·behind header ws ≡ done r → Leads ws r
 unfolding parse·behind finish
 behind-leads header ws r e =
     let s = then-done (fold step at·start (commands ws)) (finish header) r e in
-    record { state = s .0; reached = s .1; final = finish-final header (s .0) (s .0 .phase) r (s .2) }
+    record { state = s .0; reached = s .1; final = finish-final header (s .0) (s .0 .phase) r refl (s .2) }
 
 parse-leads : (count : ℕ) (ws : List Numbered) (r : Reading) → parse·from count ws ≡ done r → Leads (behind·header ws) r
 unfolding parse·from behind·header pick
@@ -75,6 +76,7 @@ pub record Finished (text : List ℕ) (r : Reading) : Type 0 where
   pub utf : utf8 text ≡ true
   pub state : State
   pub reached : fold step at·start (commands·of text) ≡ done state
+  pub closed : state .phase ≡ outside
   pub matrix : state .matrix ≡ some r
   pub orderable : orderable (r .data·type) (r .characters) ≡ true
 
@@ -85,5 +87,5 @@ read-finished text r h = by-test (utf8 text) (λ u. lexed u (left·open (tokens 
     lexed : utf8 text ≡ true → (n : Option Refusal) → read·tokens text (tokens text) n ≡ reading r → Finished text r
     lexed u none e =
         let l = parse-leads (length (tokens text)) (numbered 0 (tokens text)) r (placed-done text (parse (tokens text)) r e) in
-        record { utf = u; state = l .state; reached = l .reached; matrix = l .final .matrix; orderable = l .final .orderable }
+        record { utf = u; state = l .state; reached = l .reached; closed = l .final .closed; matrix = l .final .matrix; orderable = l .final .orderable }
     lexed u (some n) e = fault-reading e

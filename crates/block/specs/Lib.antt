@@ -24,4 +24,5 @@ pub mod Parse
 pub mod Sound
 pub mod TaxonOrder
 pub mod Faults
+pub mod LabelOrder
 pub mod Run

@@ -1,5 +1,6 @@
 -- The promises of specs/Demands.antt, each with its proof. Assumes nothing.
 use Rattle.block.proofs.FaultPlaces.{fault-at, said-first}
+use Rattle.block.proofs.LabelsFollow.{labels-follow}
 use Rattle.block.proofs.NamesFromTokens.{names-from-tokens, labels-from-tokens}
 use Rattle.block.proofs.ReadingSound.{reading-sound}
 use Rattle.block.proofs.TaxaFollow.{taxa-follow}
@@ -15,7 +16,7 @@ use Rattle.record.proofs.SpellLaws.{unspell-spell}
 use Rattle.record.proofs.UnspellLaws.{spell-unspell}
 use Rattle.record.proofs.WriteCall.{write-refuses, write-left-given, write-gives-the-form}
 use Rattle.record.specs.Calls.{read·result, read·answer, read·leaves, write·result, write·answer, write·leaves}
-use Rattle.record.specs.Demands.{Faults·have·their·place, Faults·come·in·order, Every·reading·is·sound, Taxa·follow·the·declaration, Names·come·from·tokens, Labels·come·from·tokens, Records·are·read·back, Records·are·spelled, Records·of·texts·pass, Not·refused·is·some·reading, Forms·are·read·again, Forms·tell·readings·apart, Forms·tell·texts·apart, Lookup·refuses·other·bytes, Lookup·finds·the·row, Lookup·refuses·other·names, Read·gives·the·record, Write·gives·the·form, What·is·left·is·given, Calls·give·back·records·of·texts, Calls·give·back·records, Calls·tell·texts·apart, Read·refuses·in·order, Write·refuses·in·order, Buffers·are·kept, The·program·prints}
+use Rattle.record.specs.Demands.{Faults·have·their·place, Faults·come·in·order, Every·reading·is·sound, Taxa·follow·the·declaration, Names·come·from·tokens, Labels·come·from·tokens, Labels·follow·the·commands, Records·are·read·back, Records·are·spelled, Records·of·texts·pass, Not·refused·is·some·reading, Forms·are·read·again, Forms·tell·readings·apart, Forms·tell·texts·apart, Lookup·refuses·other·bytes, Lookup·finds·the·row, Lookup·refuses·other·names, Read·gives·the·record, Write·gives·the·form, What·is·left·is·given, Calls·give·back·records·of·texts, Calls·give·back·records, Calls·tell·texts·apart, Read·refuses·in·order, Write·refuses·in·order, Buffers·are·kept, The·program·prints}
 
 pub faults-have-their-place : Faults·have·their·place
 faults-have-their-place = fault-at
@@ -34,6 +35,9 @@ names-come-from-tokens = names-from-tokens
 
 pub labels-come-from-tokens : Labels·come·from·tokens
 labels-come-from-tokens = labels-from-tokens
+
+pub labels-follow-the-commands : Labels·follow·the·commands
+labels-follow-the-commands = labels-follow
 
 pub records-are-read-back : Records·are·read·back
 records-are-read-back = unspell-spell

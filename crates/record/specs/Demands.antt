@@ -12,6 +12,7 @@ use Rattle.lexer.specs.Tokens.{tokens}
 use Rattle.lexer.specs.Utf8.{utf8}
 use Rattle.lexer.specs.Words.{numbered}
 use Rattle.block.specs.Faults.{Fault·at, Said·first}
+use Rattle.block.specs.LabelOrder.{Labels·follow}
 use Rattle.block.specs.Parse.{reading, fault, read}
 use Rattle.block.specs.Reading.{Taxon, Character, Reading}
 use Rattle.block.specs.Sequential.{names}
@@ -60,6 +61,12 @@ Names·come·from·tokens = (text : List ℕ) (r : Reading) → Reads text r →
 -- Demand 2. Labels and state labels are those of the text's tokens.
 abbrev pub Labels·come·from·tokens : Type 0
 Labels·come·from·tokens = (text : List ℕ) (r : Reading) → Reads text r → all·named (numbered 0 (tokens text)) (label·texts (r .characters))
+
+-- Demand 2. Labels belong to their characters: the k-th character has the label that the k-th name of CHARLABELS or an entry of
+-- CHARSTATELABELS with the number k gives it, and the state labels, in their order, of an entry of STATELABELS or CHARSTATELABELS with that
+-- number; it has none where no label command of the text's data block gives it any. Each of these commands stands at most once.
+abbrev pub Labels·follow·the·commands : Type 0
+Labels·follow·the·commands = (text : List ℕ) (r : Reading) → Reads text r → Labels·follow (commands·of text) (r .characters)
 
 -- The counts of a record are at most 1,048,576.
 pub record Counted (r : Reading) : Type 0 where
