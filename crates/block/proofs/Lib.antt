@@ -25,6 +25,7 @@ pub mod MatrixParts
 pub mod MatrixSound
 pub mod NamesFromTokens
 pub mod NamesSound
+pub mod NamesWalk
 pub mod OpenMarks
 pub mod OpenedFaults
 pub mod OutcomeLaws

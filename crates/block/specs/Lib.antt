@@ -3,6 +3,7 @@ pub mod Outcome
 pub mod Judged
 pub mod Commands
 pub mod Names
+pub mod NamesHeld
 pub mod Dimensions
 pub mod Sizes
 pub mod Cell

@@ -1,0 +1,11 @@
+-- The names that words are.
+use Prim.Native.Nat.{ℕ}
+use mathlib.Core.List.{List, map}
+use Rattle.lexer.specs.Words.{Numbered, spaced}
+
+-- The name that a word is, if it is one.
+unfoldable pub name·of : Numbered → List ℕ
+name·of w = spaced (w .token .text)
+
+unfoldable pub names·of : List Numbered → List (List ℕ)
+names·of ws = map name·of ws
