@@ -1,6 +1,7 @@
 pub mod BlocksKept
 pub mod Cases
 pub mod ChunkSound
+pub mod CodeLaws
 pub mod CommandWords
 pub mod DeclaredHeld
 pub mod DimensionsFew
