@@ -1,5 +1,6 @@
 pub mod BlocksKept
 pub mod Cases
+pub mod CellWalk
 pub mod ChunkSound
 pub mod CodeLaws
 pub mod CommandWords
