@@ -1,17 +1,21 @@
--- The walk over the symbols of a token's text, by their codes. Assumes nothing.
+-- The symbols of a token's text by their codes: the walk over them, and which tokens have any. Assumes nothing.
 use Prim.Native.Nat.{ℕ, _+_, _≤_}
 use Rattle.block.specs.Codes.{coded}
+use Rattle.block.specs.RowShape.{symbols·coded}
 use Rattle.block.specs.declared.matrix.Cells.{Cells}
 use Rattle.lexer.proofs.NextBytes.{front-left}
 use Rattle.lexer.proofs.Yielded.{Yields·byte}
 use Rattle.lexer.specs.Base.{pick}
 use Rattle.lexer.specs.Bytes.{front·at, left}
 use Rattle.lexer.specs.Lexing.{token·at}
+use Rattle.lexer.specs.Stored.{word·of}
+use Rattle.lexer.specs.Words.{punct, word?}
 use Rattle.lexer.specs.declared.Cursor.{Cursor}
+use Rattle.lexer.specs.declared.Kind.{Kind}
 use borrow.Author.Tests.{eq-eqb, ne-eqb}
 use lib.Dec.{ltb}
 use lib.ListN.{getD}
-use mathlib.Core.Bool.{Bool, true, _&&_}
+use mathlib.Core.Bool.{Bool, true, false, _&&_}
 use mathlib.Core.List.{List, []}
 use mathlib.Core.Path.{_≡_, refl, sym, _∙_}
 use native.Mathlib.Omega.{arith}
@@ -38,3 +42,18 @@ module _ (text codes : List ℕ) (start : ℕ) where
     pub coding-end : left text c ≡ [] → Cells.Some n states ≡ coded codes 0 true (token·at text start .text)
     unfolding coded
     coding-end e = sym (rw e) ∙ k .rest
+
+-- The symbols of a word, by the kind of its token.
+module _ (text work codes : List ℕ) (i start : ℕ) (at : start ≡ getD work i 0) where
+  pub symbols-word : Kind.Word ≡ token·at text start .kind → coded codes 0 true (token·at text start .text) ≡ symbols·coded codes (word·of text work i)
+  unfolding symbols·coded word·of word? pick
+  symbols-word e = rw (← at, ← e)
+
+  module _ (other : word? (token·at text start .kind) ≡ false) where
+    pub symbols-plus : punct 43 (word·of text work i) ≡ true → coded codes 0 true (token·at text start .text) ≡ symbols·coded codes (word·of text work i)
+    unfolding symbols·coded word·of pick
+    symbols-plus e = rw (← at, other, rw (← at) at e)
+
+    pub symbols-none : punct 43 (word·of text work i) ≡ false → Cells.Wrong ≡ symbols·coded codes (word·of text work i)
+    unfolding symbols·coded word·of pick
+    symbols-none e = rw (← at, other, rw (← at) at e)

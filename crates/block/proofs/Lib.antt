@@ -24,6 +24,7 @@ pub mod RowsSmall
 pub mod RowsSound
 pub mod ShapeLaws
 pub mod SoundParts
+pub mod SymbolCounts
 pub mod SymbolWalk
 pub mod TaxaFollow
 pub mod WalkLaws
