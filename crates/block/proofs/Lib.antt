@@ -20,6 +20,7 @@ pub mod ReadCommands
 pub mod ReadingSmall
 pub mod ReadingSound
 pub mod RisingLaws
+pub mod RowNames
 pub mod RowsSmall
 pub mod RowsSound
 pub mod ShapeLaws

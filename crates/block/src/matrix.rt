@@ -1,14 +1,17 @@
 // MATRIX, after matrix.rs.
 
-ghost use Prim.Native.Nat.{_≤_};
+ghost use Prim.Native.Nat.{_+_, _^_, _≤_};
 ghost use Rattle.block.specs.Chunk.{closer};
 ghost use Rattle.block.specs.Codes.{coded};
+ghost use Rattle.block.specs.Lines.{name·at, names·stored, stored};
+ghost use Rattle.block.specs.Names.{known};
 ghost use Rattle.block.specs.RowShape.{symbols·coded, chunk·shape, chunked·of, so·far};
 ghost use Rattle.lexer.specs.Lexing.{token·at};
 ghost use Rattle.lexer.specs.Stored.{word·of};
-ghost use lib.ListN.{getD};
+ghost use lib.ListN.{length, getD};
 ghost use mathlib.Core.Bool.{true};
 ghost use mathlib.Core.Path.{_≡_};
+use super::words::alike;
 use super::words::punct;
 use lexer::Item;
 use lexer::Kind;
@@ -39,6 +42,25 @@ pub enum Chunk {
 // A row with one token more, or the refusal of the token with an index.
 pub enum Chunked {
     Row(Chunk),
+    Refused(Refusal, usize),
+}
+
+// Where a sequential matrix is: between two rows; or in a row, with the index of its name.
+pub enum Sequence {
+    Between,
+    Inside(usize, Chunk),
+}
+
+// What a word of it comes to: it goes on; or the row whose name has an index is full; or the refusal of the token with an index.
+pub enum Turned {
+    On(Sequence),
+    Full(usize),
+    Refused(Refusal, usize),
+}
+
+// Rows that are stored, so many; or the refusal of the token with an index.
+pub enum Rows {
+    Done(usize),
     Refused(Refusal, usize),
 }
 
@@ -102,7 +124,7 @@ fn closer(kind: Bracket) -> u8
 
 // A row of so many cells with one token more: a set opens, or the cells of a word follow.
 fn plain_chunk(text: &[u8], work: &[u32], i: usize, codes: &[u8; 256], n: usize) -> Chunked
-    requires { ⌜ n ≤ 1099511627776 ⌝ }
+    requires { ⌜ n ≤ 2 ^ 41 ⌝ }
     ensures { λ r. ⌜ chunked·of r ≡ chunk·shape (now (codes .entry)) (Chunk.Plain n) (word·of (now (text .entry)) (now (work .entry)) i) ⌝ }
 {
     if punct(text, work, i, 123) {
@@ -128,7 +150,7 @@ fn set_chunk(
     mark: usize,
     none: bool,
 ) -> Chunked
-    requires { ⌜ n ≤ 1099511627776 ⌝ }
+    requires { ⌜ n ≤ 2 ^ 41 ⌝ }
     ensures { λ r. ⌜ chunked·of r ≡ chunk·shape (now (codes .entry)) (Chunk.Within n kind mark none) (word·of (now (text .entry)) (now (work .entry)) i) ⌝ }
 {
     if punct(text, work, i, closer(kind)) {
@@ -150,11 +172,27 @@ fn set_chunk(
 
 // A row with one token more.
 pub fn chunk_at(text: &[u8], work: &[u32], i: usize, codes: &[u8; 256], row: Chunk) -> Chunked
-    requires { ⌜ so·far row ≤ 1099511627776 ⌝ }
+    requires { ⌜ so·far row ≤ 2 ^ 41 ⌝ }
     ensures { λ r. ⌜ chunked·of r ≡ chunk·shape (now (codes .entry)) row (word·of (now (text .entry)) (now (work .entry)) i) ⌝ }
 {
     match row {
         Chunk::Plain(n) => plain_chunk(text, work, i, codes, n),
         Chunk::Within(n, kind, mark, none) => set_chunk(text, work, i, codes, n, kind, mark, none),
     }
+}
+
+// Is the name of a word one of those that the words have whose indices are stored, so many from an index of work memory on?
+pub fn known_row(text: &[u8], work: &[u32], at: usize, rows: usize, i: usize) -> bool
+    requires { ⌜ at + rows ≤ length (now work) ⌝ }
+    ensures { λ r. ⌜ r ≡ known (name·at (now (text .entry)) (now (work .entry)) i) (names·stored (now (text .entry)) (now (work .entry)) (stored (now (work .entry)) at rows)) ⌝ }
+{
+    let end = at + rows;
+    let mut k = at;
+    while k < end {
+        if alike(text, work, i, start_of(work, k)) {
+            return true;
+        }
+        k += 1;
+    }
+    false
 }
