@@ -2,7 +2,9 @@ pub mod BlockFaults
 pub mod BlockMoves
 pub mod BlocksKept
 pub mod Cases
+pub mod CellWalk
 pub mod ChunkSound
+pub mod CodeLaws
 pub mod CommandWords
 pub mod DeclaredFaults
 pub mod DeclaredHeld
@@ -36,10 +38,12 @@ pub mod ReadCommands
 pub mod ReadingSmall
 pub mod ReadingSound
 pub mod RisingLaws
+pub mod RowNames
 pub mod RowsSmall
 pub mod RowsSound
 pub mod ShapeLaws
 pub mod SoundParts
+pub mod SymbolCounts
 pub mod SymbolWalk
 pub mod TaxaFollow
 pub mod TokenFaults

@@ -16,6 +16,8 @@ pub mod Codes
 pub mod RowShape
 pub mod Reading
 pub mod Sequential
+pub mod Lines
+pub mod SequentialShape
 pub mod Interleaved
 pub mod Labels
 pub mod CharacterList

@@ -13,11 +13,17 @@ use Rattle.block.specs.Outcome.{Outcome, done, refused}
 use Rattle.block.specs.declared.matrix.Bracket.{Bracket}
 use Rattle.block.specs.declared.matrix.Cells.{Cells}
 use Rattle.block.specs.declared.matrix.Chunk.{Chunk}
+use Rattle.block.specs.declared.matrix.Chunked.{Chunked}
 
 -- The shape of a row.
 unfoldable pub shape : Row → Chunk
 shape (plain cells) = Chunk.Plain (length cells)
 shape (within cells k i set) = Chunk.Within (length cells) k i (empty? set)
+
+-- How many cells a row has so far.
+unfoldable pub so·far : Chunk → ℕ
+so·far (Chunk.Plain n) = n
+so·far (Chunk.Within n k mark none) = n
 
 -- The symbols of a word. Besides a word only the mark `+` can be a symbol.
 unfoldable pub symbols·coded : List ℕ → Numbered → Cells
@@ -45,3 +51,8 @@ chunk·shape codes (Chunk.Plain n) w =
 chunk·shape codes (Chunk.Within n k mark none) w =
     let more = within·with n k mark none (w .index) (symbols·coded codes w) in
     pick (punct (closer k) w) (pick none (refused Refusal.StateSet mark) (done (Chunk.Plain (n + 1)))) more
+
+-- What the code's answer to one token more means.
+unfoldable pub chunked·of : Chunked → Outcome Chunk
+chunked·of (Chunked.Row row) = done row
+chunked·of (Chunked.Refused n i) = refused n i
