@@ -4,6 +4,8 @@ pub mod ChunkSound
 pub mod CommandWords
 pub mod DeclaredHeld
 pub mod DimensionsFew
+pub mod FormatCells
+pub mod FormatCodes
 pub mod FormatSound
 pub mod LabelsSound
 pub mod MatrixParts
