@@ -4,6 +4,7 @@ pub mod alignment;
 pub mod assumptions;
 pub mod data;
 pub mod dimension;
+pub mod format_options;
 pub mod formats;
 pub mod labels;
 pub mod matrix;
