@@ -6,6 +6,7 @@ pub mod DeclaredHeld
 pub mod DimensionsFew
 pub mod FormatCells
 pub mod FormatCodes
+pub mod FormatOptions
 pub mod FormatSound
 pub mod LabelsSound
 pub mod MatrixParts

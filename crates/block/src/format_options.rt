@@ -1,15 +1,58 @@
 // The options of FORMAT, after mod.rs.
 
-ghost use Rattle.block.specs.Format.{key, single·symbol, valid·symbol};
-ghost use Rattle.block.specs.Formats.{sign·of};
+ghost use Prim.Native.Nat.{ℕ};
+ghost use Rattle.block.specs.Format.{format·option, format·value, key, key·option, once, single·symbol, valid·symbol};
+ghost use Rattle.block.specs.Formats.{formatted·of, formatting·of, options·of, sign·of};
+ghost use Rattle.block.specs.declared.formats.Valued.{Valued};
 ghost use Rattle.lexer.specs.Stored.{word·of};
+ghost use mathlib.Core.List.{List};
 ghost use mathlib.Core.Path.{_≡_};
 use super::formats::Key;
+use super::formats::Valued;
 use super::words::is;
 use lexer::Item;
+use lexer::Refusal;
 use lexer::next_byte;
 use lexer::start_of;
 use lexer::text_start;
+
+// What the words of the command say. What was not given is false, or 0; the symbols are those of the token with an index, if there are any.
+pub struct Options {
+    pub data_type: u8,
+    pub has_symbols: bool,
+    pub symbols: usize,
+    pub missing: u8,
+    pub gap: u8,
+    pub interleave: u8,
+    pub respect_case: bool,
+    pub labels: bool,
+    pub no_tokens: bool,
+}
+
+impl Options {
+    // The types.
+    pub const STANDARD: u8 = 1;
+
+    pub const DNA: u8 = 2;
+    // The choices of INTERLEAVE.
+    pub const NO: u8 = 1;
+
+    pub const YES: u8 = 2;
+}
+
+// Where the command is: at an option; behind INTERLEAVE, at its `=` or the next option; or behind the option with an index, at its `=` or value.
+pub enum Formatting {
+    Option(Options),
+    Perhaps(Options, usize),
+    Equals(Options, Valued, usize),
+    Value(Options, Valued, usize),
+}
+
+// What one word more comes to: the command goes on, or the refusal of the token with an index.
+pub enum Formatted {
+    On(Formatting),
+    Refused(Refusal, usize),
+}
 
 // Is the byte one of the 74 that may stand for a state, for missing or for a gap?
 pub fn valid_symbol(b: u8) -> bool
@@ -70,4 +113,71 @@ fn single_symbol(text: &[u8], work: &[u32], i: usize) -> u8
         },
         Item::End => 0,
     }
+}
+
+// An option that was given already is refused before its value is looked for.
+fn once(seen: bool, i: usize, next: Formatting) -> Formatted
+    ensures { λ r. ⌜ ((text work : List ℕ) → formatted·of text work r ≡ once seen (word·of text work i) (formatting·of text work next)) ⌝ }
+{
+    if seen {
+        return Formatted::Refused(Refusal::FormatOption, i);
+    }
+    Formatted::On(next)
+}
+
+// An option, by which one it is.
+fn key_option(o: Options, i: usize, key: Key) -> Formatted
+    ensures { λ r. ⌜ ((text work : List ℕ) → formatted·of text work r ≡ key·option (options·of text work o) (word·of text work i) key) ⌝ }
+{
+    let mut p = o;
+    match key {
+        Key::DataType => once(
+            o.data_type != 0,
+            i,
+            Formatting::Equals(o, Valued::DataType, i),
+        ),
+        Key::RespectCase => {
+            p.respect_case = true;
+            once(o.respect_case, i, Formatting::Option(p))
+        }
+        Key::Labels => {
+            p.labels = true;
+            once(o.labels, i, Formatting::Option(p))
+        }
+        Key::NoTokens => {
+            p.no_tokens = true;
+            once(o.no_tokens, i, Formatting::Option(p))
+        }
+        Key::Interleave => {
+            p.interleave = Options::YES;
+            once(o.interleave != 0, i, Formatting::Perhaps(p, i))
+        }
+        Key::Symbols => once(o.has_symbols, i, Formatting::Equals(o, Valued::Symbols, i)),
+        Key::Missing => once(o.missing != 0, i, Formatting::Equals(o, Valued::Missing, i)),
+        Key::Gap => once(o.gap != 0, i, Formatting::Equals(o, Valued::Gap, i)),
+        Key::Unknown => Formatted::Refused(Refusal::FormatOption, i),
+    }
+}
+
+// A word where an option is due.
+fn format_option(text: &[u8], work: &[u32], o: Options, i: usize) -> Formatted
+    ensures { λ r. ⌜ formatted·of (now (text .entry)) (now (work .entry)) r ≡ format·option (options·of (now (text .entry)) (now (work .entry)) o) (word·of (now (text .entry)) (now (work .entry)) i) ⌝ }
+{
+    key_option(o, i, key(text, work, i))
+}
+
+// The value of DATATYPE. A wrong one is refused at the option, the others at the value.
+fn type_value(text: &[u8], work: &[u32], o: Options, option: usize, i: usize) -> Formatted
+    ensures { λ r. ⌜ formatted·of (now (text .entry)) (now (work .entry)) r ≡ format·value (options·of (now (text .entry)) (now (work .entry)) o) Valued.DataType option (word·of (now (text .entry)) (now (work .entry)) i) ⌝ }
+{
+    let mut p = o;
+    if is(text, work, i, b"STANDARD") {
+        p.data_type = Options::STANDARD;
+        return Formatted::On(Formatting::Option(p));
+    }
+    if is(text, work, i, b"DNA") {
+        p.data_type = Options::DNA;
+        return Formatted::On(Formatting::Option(p));
+    }
+    Formatted::Refused(Refusal::FormatOption, option)
 }
