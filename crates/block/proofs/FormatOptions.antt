@@ -1,13 +1,18 @@
--- The options of FORMAT as the code has them: what is given is not 0. Assumes nothing.
+-- The options of FORMAT as the code has them: what is given is not 0, and symbols stand in double quotes. Assumes nothing.
 use Prim.Native.Nat.{ℕ, zero, suc}
 use Rattle.block.specs.Formats.{sign·of, type·of, choice·of, symbols·of}
 use Rattle.lexer.specs.Base.{pick, given}
+use Rattle.lexer.proofs.Kind as tags
+use Rattle.lexer.specs.Words.{string?}
+use Rattle.lexer.specs.declared.Kind.{Kind}
 use borrow.Author.Tests.{ne-eqb}
+use denote.Enum.Declared.{tagOf}
 use lib.Dec.{eqb}
 use mathlib.Core.Bool.{Bool, true, false, not}
-use mathlib.Core.List.{List}
+use mathlib.Core.List.{List, [], _∷_}
 use mathlib.Core.Path.{_≡_, refl, sym}
 use native.Mathlib.Omega.{arith}
+use types.Run.{OneOf, miss}
 
 -- a number behind another is not 0
 after : (n : ℕ) → true ≡ not (eqb (suc n) 0)
@@ -34,3 +39,14 @@ pub symbols-given : (text work : List ℕ) (seen : Bool) (i : ℕ) → given (sy
 unfolding symbols·of given pick
 symbols-given text work true i = refl
 symbols-given text work false i = refl
+
+-- another kind than a text in double quotes
+pub tags-unstring : (k : Kind) → OneOf (0 ∷ 1 ∷ 3 ∷ 4 ∷ 5 ∷ 6 ∷ []) (tagOf tags.the-type k) → string? k ≡ false
+unfolding string?
+tags-unstring Kind.Word o = refl
+tags-unstring Kind.Quoted o = refl
+tags-unstring Kind.String o = absurd (miss (0 ∷ 1 ∷ 3 ∷ 4 ∷ 5 ∷ 6 ∷ []) 2 tt o)
+tags-unstring (Kind.Punctuation b) o = refl
+tags-unstring Kind.Newline o = refl
+tags-unstring Kind.OpenQuote o = refl
+tags-unstring Kind.OpenComment o = refl

@@ -5,13 +5,16 @@ ghost use Rattle.block.specs.Format.{format·option, format·value, key,
 ghost use Rattle.block.specs.Formats.{formatted·of, formatting·of, options·of, sign·of};
 ghost use Rattle.block.specs.declared.formats.Valued.{Valued};
 ghost use Rattle.lexer.specs.Stored.{word·of};
+ghost use Rattle.lexer.specs.Words.{string?};
 ghost use mathlib.Core.List.{List};
 ghost use mathlib.Core.Path.{_≡_};
 use super::formats::Key;
 use super::formats::Valued;
 use super::words::is;
 use lexer::Item;
+use lexer::Kind;
 use lexer::Refusal;
+use lexer::kind_at;
 use lexer::next_byte;
 use lexer::start_of;
 use lexer::text_start;
@@ -180,4 +183,69 @@ fn type_value(text: &[u8], work: &[u32], o: Options, option: usize, i: usize) ->
         return Formatted::On(Formatting::Option(p));
     }
     Formatted::Refused(Refusal::FormatOption, option)
+}
+
+// Is the word a text in double quotes?
+fn is_string(text: &[u8], work: &[u32], i: usize) -> bool
+    ensures { λ r. ⌜ r ≡ string? (word·of (now (text .entry)) (now (work .entry)) i .token .kind) ⌝ }
+{
+    match kind_at(text, start_of(work, i)) {
+        Kind::String => true,
+        _ => false,
+    }
+}
+
+// The value of SYMBOLS, which stands in double quotes.
+fn symbols_value(text: &[u8], work: &[u32], o: Options, option: usize, i: usize) -> Formatted
+    ensures { λ r. ⌜ formatted·of (now (text .entry)) (now (work .entry)) r ≡ format·value (options·of (now (text .entry)) (now (work .entry)) o) Valued.Symbols option (word·of (now (text .entry)) (now (work .entry)) i) ⌝ }
+{
+    if is_string(text, work, i) {
+        let mut p = o;
+        p.has_symbols = true;
+        p.symbols = i;
+        return Formatted::On(Formatting::Option(p));
+    }
+    Formatted::Refused(Refusal::FormatOption, i)
+}
+
+// The value of MISSING.
+fn missing_value(text: &[u8], work: &[u32], o: Options, option: usize, i: usize) -> Formatted
+    ensures { λ r. ⌜ formatted·of (now (text .entry)) (now (work .entry)) r ≡ format·value (options·of (now (text .entry)) (now (work .entry)) o) Valued.Missing option (word·of (now (text .entry)) (now (work .entry)) i) ⌝ }
+{
+    let b = single_symbol(text, work, i);
+    if b == 0 {
+        return Formatted::Refused(Refusal::FormatOption, i);
+    }
+    let mut p = o;
+    p.missing = b;
+    Formatted::On(Formatting::Option(p))
+}
+
+// The value of GAP.
+fn gap_value(text: &[u8], work: &[u32], o: Options, option: usize, i: usize) -> Formatted
+    ensures { λ r. ⌜ formatted·of (now (text .entry)) (now (work .entry)) r ≡ format·value (options·of (now (text .entry)) (now (work .entry)) o) Valued.Gap option (word·of (now (text .entry)) (now (work .entry)) i) ⌝ }
+{
+    let b = single_symbol(text, work, i);
+    if b == 0 {
+        return Formatted::Refused(Refusal::FormatOption, i);
+    }
+    let mut p = o;
+    p.gap = b;
+    Formatted::On(Formatting::Option(p))
+}
+
+// The value of INTERLEAVE.
+fn interleave_value(text: &[u8], work: &[u32], o: Options, option: usize, i: usize) -> Formatted
+    ensures { λ r. ⌜ formatted·of (now (text .entry)) (now (work .entry)) r ≡ format·value (options·of (now (text .entry)) (now (work .entry)) o) Valued.Interleave option (word·of (now (text .entry)) (now (work .entry)) i) ⌝ }
+{
+    let mut p = o;
+    if is(text, work, i, b"YES") {
+        p.interleave = Options::YES;
+        return Formatted::On(Formatting::Option(p));
+    }
+    if is(text, work, i, b"NO") {
+        p.interleave = Options::NO;
+        return Formatted::On(Formatting::Option(p));
+    }
+    Formatted::Refused(Refusal::FormatOption, i)
 }
