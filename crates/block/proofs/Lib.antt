@@ -15,6 +15,9 @@ pub mod EntriesFollow
 pub mod EntryWords
 pub mod FaultPlaces
 pub mod Faulted
+pub mod FormatCells
+pub mod FormatCodes
+pub mod FormatOptions
 pub mod FormatSound
 pub mod LabelFaults
 pub mod LabelsApplied

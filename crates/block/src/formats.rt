@@ -2,6 +2,7 @@
 
 ghost use Rattle.block.specs.Cells.{cell·of, index·of};
 ghost use Rattle.block.specs.Chunk.{cell, state·of, state·or·code};
+ghost use Rattle.block.specs.Codes.{Coded, code·of};
 ghost use Rattle.block.specs.Format.{default·format, equal, valid·symbol};
 ghost use Rattle.block.specs.Formats.{meant};
 ghost use Prim.Native.Nat.{_≤_};
@@ -111,4 +112,61 @@ impl Format {
         }
         Index::None
     }
+
+    // The state that a symbol is, or for DNA the states that a code allows.
+    fn state_or_code(self, b: u8) -> Cell
+        ensures { λ r. ⌜ cell·of r ≡ state·or·code (meant self .data·type) (meant self) b ⌝ }
+    {
+        let data_type = self.data_type;
+        match data_type {
+            DataType::Standard => match self.state(b) {
+                Index::At(i) => Cell::State(i),
+                Index::None => Cell::None,
+            },
+            DataType::Dna => dna_cell(b),
+        }
+    }
+
+    // The cell of one symbol: missing and gap are tried first.
+    pub fn cell(self, b: u8) -> Cell
+        ensures { λ r. ⌜ cell·of r ≡ cell (meant self) b ⌝ }
+    {
+        if self.equal(self.missing, b) {
+            return Cell::Missing;
+        }
+        let gap = self.gap;
+        if gap == 0 {
+            return self.state_or_code(b);
+        }
+        if self.equal(gap, b) {
+            return Cell::Gap;
+        }
+        self.state_or_code(b)
+    }
+
+    // The code of the cell of one symbol: a state is its index, a set of DNA 96 and its bits.
+    fn code(self, b: u8) -> u8
+        ensures { λ r. ⌜ r ≡ code·of (cell (meant self) b) ⌝ }
+    {
+        match self.cell(b) {
+            Cell::State(i) => i as u8,
+            Cell::Uncertain(set) => 96 + set % 16,
+            Cell::Missing => 126,
+            Cell::Gap => 127,
+            Cell::None => 255,
+        }
+    }
+}
+
+// The codes of all symbols of a format.
+pub fn codes(format: Format) -> [u8; 256]
+    ensures { λ r. ⌜ Coded (meant format) r ⌝ }
+{
+    let mut table = [0u8; 256];
+    let mut i = 0;
+    while i < 256 {
+        table[i] = format.code(i as u8);
+        i += 1;
+    }
+    table
 }

@@ -1,0 +1,251 @@
+// The options of FORMAT, after mod.rs.
+
+ghost use Prim.Native.Nat.{ℕ};
+ghost use Rattle.block.specs.Format.{format·option, format·value, key, key·option, once, single·symbol, valid·symbol};
+ghost use Rattle.block.specs.Formats.{formatted·of, formatting·of, options·of, sign·of};
+ghost use Rattle.block.specs.declared.formats.Valued.{Valued};
+ghost use Rattle.lexer.specs.Stored.{word·of};
+ghost use Rattle.lexer.specs.Words.{string?};
+ghost use mathlib.Core.List.{List};
+ghost use mathlib.Core.Path.{_≡_};
+use super::formats::Key;
+use super::formats::Valued;
+use super::words::is;
+use lexer::Item;
+use lexer::Kind;
+use lexer::Refusal;
+use lexer::kind_at;
+use lexer::next_byte;
+use lexer::start_of;
+use lexer::text_start;
+
+// What the words of the command say. What was not given is false, or 0; the symbols are those of the token with an index, if there are any.
+pub struct Options {
+    pub data_type: u8,
+    pub has_symbols: bool,
+    pub symbols: usize,
+    pub missing: u8,
+    pub gap: u8,
+    pub interleave: u8,
+    pub respect_case: bool,
+    pub labels: bool,
+    pub no_tokens: bool,
+}
+
+impl Options {
+    // The types.
+    pub const STANDARD: u8 = 1;
+
+    pub const DNA: u8 = 2;
+    // The choices of INTERLEAVE.
+    pub const NO: u8 = 1;
+
+    pub const YES: u8 = 2;
+}
+
+// Where the command is: at an option; behind INTERLEAVE, at its `=` or the next option; or behind the option with an index, at its `=` or value.
+pub enum Formatting {
+    Option(Options),
+    Perhaps(Options, usize),
+    Equals(Options, Valued, usize),
+    Value(Options, Valued, usize),
+}
+
+// What one word more comes to: the command goes on, or the refusal of the token with an index.
+pub enum Formatted {
+    On(Formatting),
+    Refused(Refusal, usize),
+}
+
+// Is the byte one of the 74 that may stand for a state, for missing or for a gap?
+pub fn valid_symbol(b: u8) -> bool
+    ensures { λ r. ⌜ r ≡ valid·symbol b ⌝ }
+{
+    let bracket = (b == b'(') | (b == b')') | (b == b'[') | (b == b']') | (b == b'{') | (b == b'}');
+    let quote = (b == b'\'') | (b == b'"') | (b == b'`');
+    let mark = (b == b',') | (b == b';') | (b == b':') | (b == b'=') | (b == b'*');
+    let other = (b == b'/') | (b == b'\\') | (b == b'<') | (b == b'>') | (b == b'~') | (b == b'^');
+    (33 <= b) & (b <= 126) & !(bracket | quote | mark | other)
+}
+
+// Which option the word is.
+fn key(text: &[u8], work: &[u32], i: usize) -> Key
+    ensures { λ r. ⌜ r ≡ key (word·of (now (text .entry)) (now (work .entry)) i) ⌝ }
+{
+    if is(text, work, i, b"DATATYPE") {
+        return Key::DataType;
+    }
+    if is(text, work, i, b"RESPECTCASE") {
+        return Key::RespectCase;
+    }
+    if is(text, work, i, b"LABELS") {
+        return Key::Labels;
+    }
+    if is(text, work, i, b"NOTOKENS") {
+        return Key::NoTokens;
+    }
+    if is(text, work, i, b"INTERLEAVE") {
+        return Key::Interleave;
+    }
+    if is(text, work, i, b"SYMBOLS") {
+        return Key::Symbols;
+    }
+    if is(text, work, i, b"MISSING") {
+        return Key::Missing;
+    }
+    if is(text, work, i, b"GAP") {
+        return Key::Gap;
+    }
+    Key::Unknown
+}
+
+// The one valid symbol that the word is, or 0.
+fn single_symbol(text: &[u8], work: &[u32], i: usize) -> u8
+    ensures { λ r. ⌜ sign·of r ≡ single·symbol (word·of (now (text .entry)) (now (work .entry)) i .token .text) ⌝ }
+{
+    let front = text_start(text, start_of(work, i));
+    match next_byte(text, front) {
+        Item::Byte(b, behind) => match next_byte(text, behind) {
+            Item::Byte(_, _) => 0,
+            Item::End => {
+                if valid_symbol(b) {
+                    return b;
+                }
+                0
+            }
+        },
+        Item::End => 0,
+    }
+}
+
+// An option that was given already is refused before its value is looked for.
+fn once(seen: bool, i: usize, next: Formatting) -> Formatted
+    ensures { λ r. ⌜ ((text work : List ℕ) → formatted·of text work r ≡ once seen (word·of text work i) (formatting·of text work next)) ⌝ }
+{
+    if seen {
+        return Formatted::Refused(Refusal::FormatOption, i);
+    }
+    Formatted::On(next)
+}
+
+// An option, by which one it is.
+fn key_option(o: Options, i: usize, key: Key) -> Formatted
+    ensures { λ r. ⌜ ((text work : List ℕ) → formatted·of text work r ≡ key·option (options·of text work o) (word·of text work i) key) ⌝ }
+{
+    let mut p = o;
+    match key {
+        Key::DataType => once(
+            o.data_type != 0,
+            i,
+            Formatting::Equals(o, Valued::DataType, i),
+        ),
+        Key::RespectCase => {
+            p.respect_case = true;
+            once(o.respect_case, i, Formatting::Option(p))
+        }
+        Key::Labels => {
+            p.labels = true;
+            once(o.labels, i, Formatting::Option(p))
+        }
+        Key::NoTokens => {
+            p.no_tokens = true;
+            once(o.no_tokens, i, Formatting::Option(p))
+        }
+        Key::Interleave => {
+            p.interleave = Options::YES;
+            once(o.interleave != 0, i, Formatting::Perhaps(p, i))
+        }
+        Key::Symbols => once(o.has_symbols, i, Formatting::Equals(o, Valued::Symbols, i)),
+        Key::Missing => once(o.missing != 0, i, Formatting::Equals(o, Valued::Missing, i)),
+        Key::Gap => once(o.gap != 0, i, Formatting::Equals(o, Valued::Gap, i)),
+        Key::Unknown => Formatted::Refused(Refusal::FormatOption, i),
+    }
+}
+
+// A word where an option is due.
+fn format_option(text: &[u8], work: &[u32], o: Options, i: usize) -> Formatted
+    ensures { λ r. ⌜ formatted·of (now (text .entry)) (now (work .entry)) r ≡ format·option (options·of (now (text .entry)) (now (work .entry)) o) (word·of (now (text .entry)) (now (work .entry)) i) ⌝ }
+{
+    key_option(o, i, key(text, work, i))
+}
+
+// The value of DATATYPE. A wrong one is refused at the option, the others at the value.
+fn type_value(text: &[u8], work: &[u32], o: Options, option: usize, i: usize) -> Formatted
+    ensures { λ r. ⌜ formatted·of (now (text .entry)) (now (work .entry)) r ≡ format·value (options·of (now (text .entry)) (now (work .entry)) o) Valued.DataType option (word·of (now (text .entry)) (now (work .entry)) i) ⌝ }
+{
+    let mut p = o;
+    if is(text, work, i, b"STANDARD") {
+        p.data_type = Options::STANDARD;
+        return Formatted::On(Formatting::Option(p));
+    }
+    if is(text, work, i, b"DNA") {
+        p.data_type = Options::DNA;
+        return Formatted::On(Formatting::Option(p));
+    }
+    Formatted::Refused(Refusal::FormatOption, option)
+}
+
+// Is the word a text in double quotes?
+fn is_string(text: &[u8], work: &[u32], i: usize) -> bool
+    ensures { λ r. ⌜ r ≡ string? (word·of (now (text .entry)) (now (work .entry)) i .token .kind) ⌝ }
+{
+    match kind_at(text, start_of(work, i)) {
+        Kind::String => true,
+        _ => false,
+    }
+}
+
+// The value of SYMBOLS, which stands in double quotes.
+fn symbols_value(text: &[u8], work: &[u32], o: Options, option: usize, i: usize) -> Formatted
+    ensures { λ r. ⌜ formatted·of (now (text .entry)) (now (work .entry)) r ≡ format·value (options·of (now (text .entry)) (now (work .entry)) o) Valued.Symbols option (word·of (now (text .entry)) (now (work .entry)) i) ⌝ }
+{
+    if is_string(text, work, i) {
+        let mut p = o;
+        p.has_symbols = true;
+        p.symbols = i;
+        return Formatted::On(Formatting::Option(p));
+    }
+    Formatted::Refused(Refusal::FormatOption, i)
+}
+
+// The value of MISSING.
+fn missing_value(text: &[u8], work: &[u32], o: Options, option: usize, i: usize) -> Formatted
+    ensures { λ r. ⌜ formatted·of (now (text .entry)) (now (work .entry)) r ≡ format·value (options·of (now (text .entry)) (now (work .entry)) o) Valued.Missing option (word·of (now (text .entry)) (now (work .entry)) i) ⌝ }
+{
+    let b = single_symbol(text, work, i);
+    if b == 0 {
+        return Formatted::Refused(Refusal::FormatOption, i);
+    }
+    let mut p = o;
+    p.missing = b;
+    Formatted::On(Formatting::Option(p))
+}
+
+// The value of GAP.
+fn gap_value(text: &[u8], work: &[u32], o: Options, option: usize, i: usize) -> Formatted
+    ensures { λ r. ⌜ formatted·of (now (text .entry)) (now (work .entry)) r ≡ format·value (options·of (now (text .entry)) (now (work .entry)) o) Valued.Gap option (word·of (now (text .entry)) (now (work .entry)) i) ⌝ }
+{
+    let b = single_symbol(text, work, i);
+    if b == 0 {
+        return Formatted::Refused(Refusal::FormatOption, i);
+    }
+    let mut p = o;
+    p.gap = b;
+    Formatted::On(Formatting::Option(p))
+}
+
+// The value of INTERLEAVE.
+fn interleave_value(text: &[u8], work: &[u32], o: Options, option: usize, i: usize) -> Formatted
+    ensures { λ r. ⌜ formatted·of (now (text .entry)) (now (work .entry)) r ≡ format·value (options·of (now (text .entry)) (now (work .entry)) o) Valued.Interleave option (word·of (now (text .entry)) (now (work .entry)) i) ⌝ }
+{
+    let mut p = o;
+    if is(text, work, i, b"YES") {
+        p.interleave = Options::YES;
+        return Formatted::On(Formatting::Option(p));
+    }
+    if is(text, work, i, b"NO") {
+        p.interleave = Options::NO;
+        return Formatted::On(Formatting::Option(p));
+    }
+    Formatted::Refused(Refusal::FormatOption, i)
+}
