@@ -10,10 +10,12 @@ pub mod MatrixParts
 pub mod MatrixSound
 pub mod NamesFromTokens
 pub mod NamesSound
+pub mod NextWordLaws
 pub mod OutcomeLaws
 pub mod PagesSmall
 pub mod PagesSound
 pub mod Pigeonhole
+pub mod RangeTyped
 pub mod ReadCommands
 pub mod ReadingSmall
 pub mod ReadingSound
@@ -25,4 +27,5 @@ pub mod SoundParts
 pub mod SymbolWalk
 pub mod TaxaFollow
 pub mod WalkLaws
+pub mod TypesHeldLaws
 pub mod Weights
