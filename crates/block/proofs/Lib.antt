@@ -31,12 +31,14 @@ pub mod MatrixSound
 pub mod NamesFromTokens
 pub mod NamesSound
 pub mod NamesWalk
+pub mod NextWordLaws
 pub mod OpenMarks
 pub mod OpenedFaults
 pub mod OutcomeLaws
 pub mod PagesSmall
 pub mod PagesSound
 pub mod Pigeonhole
+pub mod RangeTyped
 pub mod ReadCommands
 pub mod ReadingSmall
 pub mod ReadingSound
@@ -52,5 +54,6 @@ pub mod TaxaFollow
 pub mod TokenFaults
 pub mod ToldFaults
 pub mod TypeFaults
+pub mod TypesHeldLaws
 pub mod WalkLaws
 pub mod Weights

@@ -2,6 +2,7 @@
 pub mod Outcome
 pub mod Judged
 pub mod Commands
+pub mod NextWord
 pub mod Names
 pub mod NamesHeld
 pub mod Dimensions
@@ -22,6 +23,7 @@ pub mod Interleaved
 pub mod Labels
 pub mod CharacterList
 pub mod Typeset
+pub mod TypesHeld
 pub mod Blocks
 pub mod Parse
 pub mod Sound

@@ -1,4 +1,25 @@
-// TYPESET, after assumptions.rs.
+// ASSUMPTIONS, after assumptions.rs: OPTIONS and TYPESET.
+
+ghost use Prim.Native.Nat.{_+_, _-_, _≤_, min};
+ghost use Rattle.block.specs.Blocks.{options};
+ghost use Rattle.block.specs.Commands.{words};
+ghost use Rattle.block.specs.NextWord.{Next};
+ghost use Rattle.block.specs.Outcome.{need};
+ghost use Rattle.block.specs.Typeset.{ordering, typed·range};
+ghost use Rattle.block.specs.TypesHeld.{type·number, type·word, options·answer, types·held, unless·twice};
+ghost use Rattle.lexer.specs.Base.{pick};
+ghost use Rattle.lexer.specs.Stored.{word·of, range};
+ghost use Rattle.lexer.specs.declared.refusal.Refusal as R;
+ghost use lib.Dec.{eqb, ltb};
+ghost use lib.ListN.{length, take, getD, set, replicate};
+ghost use mathlib.Core.Bool.{_&&_, _||_, not};
+ghost use mathlib.Core.Option.{none};
+ghost use mathlib.Core.Path.{_≡_};
+use super::model::CharacterOrdering;
+use super::words::is;
+use super::words::newline;
+use super::words::punct;
+use lexer::Refusal;
 
 // The two forms of a set: lists of characters for each type, or a type for each character.
 pub enum Form {
@@ -26,4 +47,156 @@ pub enum Item {
 pub enum Further {
     On(Item),
     Past(Range, Item),
+}
+
+// The type that a word is, or none.
+pub enum TypeWord {
+    Type(CharacterOrdering),
+    None,
+}
+
+// The default type, or the refusal of the token with an index.
+pub enum OptionsAnswer {
+    Type(CharacterOrdering),
+    Refused(Refusal, usize),
+}
+
+// The index of the next word, from an index on; the end where there is none.
+pub fn next_word(text: &[u8], work: &[u32], from: usize, to: usize) -> usize
+    ensures { λ r. ⌜ Next (now (text .entry)) (now (work .entry)) from to r ⌝ }
+{
+    let mut i = from;
+    while i < to {
+        if !newline(text, work, i) {
+            return i;
+        }
+        i += 1;
+    }
+    i
+}
+
+// The type that a word is: ORD or UNORD.
+pub fn ordering(text: &[u8], work: &[u32], i: usize) -> TypeWord
+    ensures { λ r. ⌜ type·word r ≡ ordering (word·of (now (text .entry)) (now (work .entry)) i) ⌝ }
+{
+    if is(text, work, i, b"ORD") {
+        return TypeWord::Type(CharacterOrdering::Ordered);
+    }
+    if is(text, work, i, b"UNORD") {
+        return TypeWord::Type(CharacterOrdering::Unordered);
+    }
+    TypeWord::None
+}
+
+// A type word, or 27 there.
+fn default_type(text: &[u8], work: &[u32], i: usize) -> OptionsAnswer
+    ensures { λ r. ⌜ options·answer r ≡ need (ordering (word·of (now (text .entry)) (now (work .entry)) i)) R.Refusal.TypeSet i ⌝ }
+{
+    match ordering(text, work, i) {
+        TypeWord::Type(o) => OptionsAnswer::Type(o),
+        TypeWord::None => OptionsAnswer::Refused(Refusal::TypeSet, i),
+    }
+}
+
+// OPTIONS: DEFTYPE, `=` and a type word, and no word more.
+pub fn options(text: &[u8], work: &[u32], head: usize, from: usize, to: usize) -> OptionsAnswer
+    ensures { λ r. ⌜ options·answer r ≡ options (word·of (now (text .entry)) (now (work .entry)) head) (words (range (now (text .entry)) (now (work .entry)) from to)) ⌝ }
+{
+    let key = next_word(text, work, from, to);
+    if to <= key {
+        return OptionsAnswer::Refused(Refusal::Command, head);
+    }
+    let equals = next_word(text, work, key + 1, to);
+    if to <= equals {
+        return OptionsAnswer::Refused(Refusal::Command, head);
+    }
+    let value = next_word(text, work, equals + 1, to);
+    if to <= value {
+        return OptionsAnswer::Refused(Refusal::Command, head);
+    }
+    if next_word(text, work, value + 1, to) < to {
+        return OptionsAnswer::Refused(Refusal::Command, head);
+    }
+    if is(text, work, key, b"DEFTYPE") & punct(text, work, equals, b'=') {
+        return default_type(text, work, value);
+    }
+    OptionsAnswer::Refused(Refusal::Command, head)
+}
+
+// The number that stands for a type.
+fn type_number(ordering: CharacterOrdering) -> u32
+    ensures { λ r. ⌜ r ≡ type·number ordering ⌝ }
+{
+    match ordering {
+        CharacterOrdering::Unordered => 1,
+        CharacterOrdering::Ordered => 2,
+    }
+}
+
+// The lesser of two numbers.
+fn least(a: u64, b: u64) -> u64
+    ensures { λ r. ⌜ r ≡ min a b ⌝ }
+{
+    if a <= b {
+        return a;
+    }
+    b
+}
+
+// Gives a type to the character with a number, from 1 on, unless it has one already. No character has the number 0.
+fn type_one(work: &mut [u32], at: usize, k: u64, value: u32) -> bool
+    requires { ⌜ at + k ≤ length (now work) ⌝ }
+    ensures free { λ r. ⌜ r ≡ (eqb k 0 || eqb (getD (now (work .entry)) (at + (k - 1)) 0) 0) ⌝ }
+    ensures stored { λ r. ⌜ now (work .exit) ≡ pick (ltb 0 k && r) (set (now (work .entry)) (at + (k - 1)) value) (now (work .entry)) ⌝ }
+{
+    if k == 0 {
+        return true;
+    }
+    let i = at + (k - 1) as usize;
+    if work[i] == 0 {
+        work[i] = value;
+        return true;
+    }
+    false
+}
+
+// Gives a type to the characters of a range; false where one of them has a type already.
+pub fn type_range(
+    work: &mut [u32],
+    at: usize,
+    count: usize,
+    ordering: CharacterOrdering,
+    range: Range,
+) -> bool
+    requires { ⌜ at + count ≤ length (now work) ⌝ }
+    ensures front { λ r. ⌜ take at (now (work .exit)) ≡ take at (now (work .entry)) ⌝ }
+    ensures typed { λ r. ⌜ unless·twice (not r) (types·held (now (work .exit)) at count) ≡ typed·range ordering range 1 (types·held (now (work .entry)) at count) ⌝ }
+{
+    let value = type_number(ordering);
+    let last = least(range.last, count as u64);
+    let stride = range.stride;
+    let mut k = range.first;
+    while k <= last {
+        if !type_one(work, at, k, value) {
+            return false;
+        }
+        if (stride == 0) | (last - k < stride) {
+            return true;
+        }
+        k += stride;
+    }
+    true
+}
+
+// No character has a type.
+fn clear_types(work: &mut [u32], at: usize, count: usize)
+    requires { ⌜ at + count ≤ length (now work) ⌝ }
+    ensures front { λ _. ⌜ take at (now (work .exit)) ≡ take at (now (work .entry)) ⌝ }
+    ensures clear { λ _. ⌜ types·held (now (work .exit)) at count ≡ replicate count none ⌝ }
+{
+    let mut k = 0;
+    while k < count {
+        work[at + k] = 0;
+        k += 1;
+    }
 }
