@@ -1,8 +1,7 @@
 -- How a chosen question is put, and what its answer is. A lent buffer holds 170 everywhere before a call.
-use Prim.Native.Nat.{ℕ, _-_}
+use Prim.Native.Nat.{ℕ, _+_, _*_}
 use lib.ListN.{length, replicate}
 use mathlib.Core.List.{List, [], _∷_, _++_}
-use Rattle.lexer.specs.Lexing.{work·needed}
 use Rattle.record.specs.Decimal.{decimal}
 use Rattle.record.specs.Run.{run·read, run·write}
 use Rattle.record.specs.Spell.{line}
@@ -10,12 +9,12 @@ use Rattle.record.specs.Spell.{line}
 -- A read call with just the work memory that the text needs, and a buffer of so many bytes.
 unfoldable pub read : ℕ → List ℕ → List (List ℕ)
 unfolding run·read
-read room text = run·read (work·needed (length text)) room text
+read room text = run·read (4 * length text + 64) room text
 
 -- The same with one number of work memory less.
 unfoldable pub read·with·little : ℕ → List ℕ → List (List ℕ)
 unfolding run·read
-read·with·little room text = run·read (work·needed (length text) - 1) room text
+read·with·little room text = run·read (4 * length text + 63) room text
 
 -- A write call with a buffer of so many bytes.
 unfoldable pub write : ℕ → List ℕ → List (List ℕ)
