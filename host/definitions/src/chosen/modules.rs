@@ -154,6 +154,22 @@ mod tests {
         assert!(tally.read >= 80, "{} texts are read", tally.read);
     }
 
+    /// Every refusal of a call is met; 1 and 32 need a megabyte. A lookup that finds has 0.
+    #[test]
+    fn every_refusal_is_met() {
+        let mut met = BTreeSet::new();
+        for (_, text) in modules(&chosen()).expect("modules") {
+            let answers = text.lines().filter_map(|line| line.strip_prefix("    ≡ "));
+            let numbers = answers.filter_map(|answer| {
+                let answer = answer.trim_start_matches("refused ");
+                answer.split(' ').next()?.parse().ok()
+            });
+            met.extend(numbers);
+        }
+        let all = (0..=33).filter(|number: &u32| ![1, 32].contains(number));
+        assert_eq!(met, all.collect());
+    }
+
     #[test]
     fn no_question_is_asked_twice() {
         let mut seen = BTreeSet::new();

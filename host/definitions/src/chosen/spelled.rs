@@ -6,7 +6,7 @@ pub fn bytes(spelled: &str) -> Result<Vec<u8>, String> {
     let mut bytes = Vec::new();
     let mut rest = spelled;
     while let Some(at) = rest.find('\\') {
-        bytes.extend(rest[..at].as_bytes());
+        bytes.extend(&rest.as_bytes()[..at]);
         rest = escape(&rest[at + 1..], &mut bytes).ok_or(format!("an escape in {spelled}"))?;
     }
     bytes.extend(rest.as_bytes());
