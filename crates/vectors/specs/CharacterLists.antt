@@ -1,5 +1,5 @@
 -- Character lists of TYPESET: numbers, ranges, `.`, ALL and strides, shown by the types of five characters.
--- Made from host/definitions/chosen/11-character-lists.txt, with the Rust's answers.
+-- Made from host/definitions/chosen/12-character-lists.txt, with the Rust's answers.
 use mathlib.Core.Path.{_≡_, refl}
 use Rattle.lexer.specs.Base.{bytes}
 use Rattle.vectors.specs.Asked.{read, answered, refused}

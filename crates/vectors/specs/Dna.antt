@@ -1,5 +1,5 @@
 -- DNA: states, ambiguity codes, missing and gap.
--- Made from host/definitions/chosen/07-dna.txt, with the Rust's answers.
+-- Made from host/definitions/chosen/08-dna.txt, with the Rust's answers.
 use mathlib.Core.Path.{_≡_, refl}
 use Rattle.lexer.specs.Base.{bytes}
 use Rattle.vectors.specs.Asked.{read, answered, refused}

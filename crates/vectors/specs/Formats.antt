@@ -1,5 +1,5 @@
 -- FORMAT: options, values, and symbols that may stand together.
--- Made from host/definitions/chosen/05-formats.txt, with the Rust's answers.
+-- Made from host/definitions/chosen/06-formats.txt, with the Rust's answers.
 use mathlib.Core.List.{_∷_, _++_}
 use mathlib.Core.Path.{_≡_, refl}
 use Rattle.lexer.specs.Base.{bytes}

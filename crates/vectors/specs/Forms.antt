@@ -1,5 +1,5 @@
 -- Written forms of records, and buffers of every length.
--- Made from host/definitions/chosen/12-forms.txt, with the Rust's answers.
+-- Made from host/definitions/chosen/13-forms.txt, with the Rust's answers.
 use mathlib.Core.List.{_∷_, _++_}
 use mathlib.Core.Path.{_≡_, refl}
 use Rattle.lexer.specs.Base.{bytes}

@@ -1,6 +1,7 @@
 -- Chosen questions with the Rust's answers.
 pub mod Asked
-pub mod Tokens
+pub mod Texts
+pub mod Words
 pub mod Blocks
 pub mod BlockCommands
 pub mod DimensionsAndTaxa

@@ -1,5 +1,5 @@
 -- Lookups: the stretch of a taxon's cells in a record.
--- Made from host/definitions/chosen/15-lookups.txt, with the Rust's answers.
+-- Made from host/definitions/chosen/16-lookups.txt, with the Rust's answers.
 use mathlib.Core.List.{[], _∷_, _++_}
 use mathlib.Core.Path.{_≡_, refl}
 use Rattle.lexer.specs.Base.{bytes}

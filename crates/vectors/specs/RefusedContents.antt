@@ -1,5 +1,5 @@
 -- Records whose names, cells or characters no reading has: 31. Some that look so and are records stand beside them.
--- Made from host/definitions/chosen/14-refused-contents.txt, with the Rust's answers.
+-- Made from host/definitions/chosen/15-refused-contents.txt, with the Rust's answers.
 use mathlib.Core.List.{_∷_, _++_}
 use mathlib.Core.Path.{_≡_, refl}
 use Rattle.lexer.specs.Base.{bytes}

@@ -1,6 +1,6 @@
 -- Bytes that have not the shape of a record, or a head that no reading has: 31.
--- Made from host/definitions/chosen/13-refused-heads.txt, with the Rust's answers.
-use mathlib.Core.List.{[]}
+-- Made from host/definitions/chosen/14-refused-heads.txt, with the Rust's answers.
+use mathlib.Core.List.{[], _∷_, _++_}
 use mathlib.Core.Path.{_≡_, refl}
 use Rattle.lexer.specs.Base.{bytes}
 use Rattle.vectors.specs.Asked.{write, refused}
@@ -180,30 +180,170 @@ c25 :
 unfolding write refused
 c25 = refl
 
--- A blank among the symbols.
+-- Each mark that is no valid symbol: `\`.
 c26 :
-    write 2 (bytes "datatype=STANDARD\ntaxa=1\ncharacters=1\nsymbols=0 1\nname=a\ncells=0\ncharacter=1\nlabel=\norder=UNORD\nstates=0\n")
+    write 2 (bytes "datatype=STANDARD\ntaxa=1\ncharacters=1\nsymbols=0\\\nname=a\ncells=0\ncharacter=1\nlabel=\norder=UNORD\nstates=0\n")
     ≡ refused 31 0 0 2
 unfolding write refused
 c26 = refl
 
--- A symbol twice.
+-- `(` is no valid symbol.
 c27 :
-    write 2 (bytes "datatype=STANDARD\ntaxa=1\ncharacters=1\nsymbols=010\nname=a\ncells=0\ncharacter=1\nlabel=\norder=UNORD\nstates=0\n")
+    write 2 (bytes "datatype=STANDARD\ntaxa=1\ncharacters=1\nsymbols=0(\nname=a\ncells=0\ncharacter=1\nlabel=\norder=UNORD\nstates=0\n")
     ≡ refused 31 0 0 2
 unfolding write refused
 c27 = refl
 
--- 74 symbols.
+-- `)` is no valid symbol.
 c28 :
-    write 2 (bytes "datatype=STANDARD\ntaxa=1\ncharacters=1\nsymbols=!#$%&+-.0123456789?@ABCDEFGHIJKLMNOPQRSTUVWXYZ_abcdefghijklmnopqrstuvwxyz|\nname=a\ncells=0\ncharacter=1\nlabel=\norder=UNORD\nstates=0\n")
+    write 2 (bytes "datatype=STANDARD\ntaxa=1\ncharacters=1\nsymbols=0)\nname=a\ncells=0\ncharacter=1\nlabel=\norder=UNORD\nstates=0\n")
     ≡ refused 31 0 0 2
 unfolding write refused
 c28 = refl
 
--- 73 symbols beside a gap cell.
+-- `[` is no valid symbol.
 c29 :
-    write 2 (bytes "datatype=STANDARD\ntaxa=1\ncharacters=1\nsymbols=#$%&+-.0123456789?@ABCDEFGHIJKLMNOPQRSTUVWXYZ_abcdefghijklmnopqrstuvwxyz|\nname=a\ncells=g\ncharacter=1\nlabel=\norder=UNORD\nstates=0\n")
+    write 2 (bytes "datatype=STANDARD\ntaxa=1\ncharacters=1\nsymbols=0[\nname=a\ncells=0\ncharacter=1\nlabel=\norder=UNORD\nstates=0\n")
     ≡ refused 31 0 0 2
 unfolding write refused
 c29 = refl
+
+-- `]` is no valid symbol.
+c30 :
+    write 2 (bytes "datatype=STANDARD\ntaxa=1\ncharacters=1\nsymbols=0]\nname=a\ncells=0\ncharacter=1\nlabel=\norder=UNORD\nstates=0\n")
+    ≡ refused 31 0 0 2
+unfolding write refused
+c30 = refl
+
+-- `{` is no valid symbol.
+c31 :
+    write 2 (bytes "datatype=STANDARD\ntaxa=1\ncharacters=1\nsymbols=0{\nname=a\ncells=0\ncharacter=1\nlabel=\norder=UNORD\nstates=0\n")
+    ≡ refused 31 0 0 2
+unfolding write refused
+c31 = refl
+
+-- `}` is no valid symbol.
+c32 :
+    write 2 (bytes "datatype=STANDARD\ntaxa=1\ncharacters=1\nsymbols=0}\nname=a\ncells=0\ncharacter=1\nlabel=\norder=UNORD\nstates=0\n")
+    ≡ refused 31 0 0 2
+unfolding write refused
+c32 = refl
+
+-- `/` is no valid symbol.
+c33 :
+    write 2 (bytes "datatype=STANDARD\ntaxa=1\ncharacters=1\nsymbols=0/\nname=a\ncells=0\ncharacter=1\nlabel=\norder=UNORD\nstates=0\n")
+    ≡ refused 31 0 0 2
+unfolding write refused
+c33 = refl
+
+-- `,` is no valid symbol.
+c34 :
+    write 2 (bytes "datatype=STANDARD\ntaxa=1\ncharacters=1\nsymbols=0,\nname=a\ncells=0\ncharacter=1\nlabel=\norder=UNORD\nstates=0\n")
+    ≡ refused 31 0 0 2
+unfolding write refused
+c34 = refl
+
+-- `;` is no valid symbol.
+c35 :
+    write 2 (bytes "datatype=STANDARD\ntaxa=1\ncharacters=1\nsymbols=0;\nname=a\ncells=0\ncharacter=1\nlabel=\norder=UNORD\nstates=0\n")
+    ≡ refused 31 0 0 2
+unfolding write refused
+c35 = refl
+
+-- `:` is no valid symbol.
+c36 :
+    write 2 (bytes "datatype=STANDARD\ntaxa=1\ncharacters=1\nsymbols=0:\nname=a\ncells=0\ncharacter=1\nlabel=\norder=UNORD\nstates=0\n")
+    ≡ refused 31 0 0 2
+unfolding write refused
+c36 = refl
+
+-- `=` is no valid symbol.
+c37 :
+    write 2 (bytes "datatype=STANDARD\ntaxa=1\ncharacters=1\nsymbols=0=\nname=a\ncells=0\ncharacter=1\nlabel=\norder=UNORD\nstates=0\n")
+    ≡ refused 31 0 0 2
+unfolding write refused
+c37 = refl
+
+-- `*` is no valid symbol.
+c38 :
+    write 2 (bytes "datatype=STANDARD\ntaxa=1\ncharacters=1\nsymbols=0*\nname=a\ncells=0\ncharacter=1\nlabel=\norder=UNORD\nstates=0\n")
+    ≡ refused 31 0 0 2
+unfolding write refused
+c38 = refl
+
+-- `'` is no valid symbol.
+c39 :
+    write 2 (bytes "datatype=STANDARD\ntaxa=1\ncharacters=1\nsymbols=0'\nname=a\ncells=0\ncharacter=1\nlabel=\norder=UNORD\nstates=0\n")
+    ≡ refused 31 0 0 2
+unfolding write refused
+c39 = refl
+
+-- `"` is no valid symbol.
+c40 :
+    write 2 (bytes "datatype=STANDARD\ntaxa=1\ncharacters=1\nsymbols=0\"\nname=a\ncells=0\ncharacter=1\nlabel=\norder=UNORD\nstates=0\n")
+    ≡ refused 31 0 0 2
+unfolding write refused
+c40 = refl
+
+-- Backquote is no valid symbol.
+c41 :
+    write 2 (bytes "datatype=STANDARD\ntaxa=1\ncharacters=1\nsymbols=0`\nname=a\ncells=0\ncharacter=1\nlabel=\norder=UNORD\nstates=0\n")
+    ≡ refused 31 0 0 2
+unfolding write refused
+c41 = refl
+
+-- `<` is no valid symbol.
+c42 :
+    write 2 (bytes "datatype=STANDARD\ntaxa=1\ncharacters=1\nsymbols=0<\nname=a\ncells=0\ncharacter=1\nlabel=\norder=UNORD\nstates=0\n")
+    ≡ refused 31 0 0 2
+unfolding write refused
+c42 = refl
+
+-- `>` is no valid symbol.
+c43 :
+    write 2 (bytes "datatype=STANDARD\ntaxa=1\ncharacters=1\nsymbols=0>\nname=a\ncells=0\ncharacter=1\nlabel=\norder=UNORD\nstates=0\n")
+    ≡ refused 31 0 0 2
+unfolding write refused
+c43 = refl
+
+-- `^` is no valid symbol.
+c44 :
+    write 2 (bytes "datatype=STANDARD\ntaxa=1\ncharacters=1\nsymbols=0^\nname=a\ncells=0\ncharacter=1\nlabel=\norder=UNORD\nstates=0\n")
+    ≡ refused 31 0 0 2
+unfolding write refused
+c44 = refl
+
+-- DEL is no valid symbol.
+c45 :
+    write 2 (bytes "datatype=STANDARD\ntaxa=1\ncharacters=1\nsymbols=0" ++ (127 ∷ bytes "\nname=a\ncells=0\ncharacter=1\nlabel=\norder=UNORD\nstates=0\n"))
+    ≡ refused 31 0 0 2
+unfolding write refused
+c45 = refl
+
+-- A blank among the symbols.
+c46 :
+    write 2 (bytes "datatype=STANDARD\ntaxa=1\ncharacters=1\nsymbols=0 1\nname=a\ncells=0\ncharacter=1\nlabel=\norder=UNORD\nstates=0\n")
+    ≡ refused 31 0 0 2
+unfolding write refused
+c46 = refl
+
+-- A symbol twice.
+c47 :
+    write 2 (bytes "datatype=STANDARD\ntaxa=1\ncharacters=1\nsymbols=010\nname=a\ncells=0\ncharacter=1\nlabel=\norder=UNORD\nstates=0\n")
+    ≡ refused 31 0 0 2
+unfolding write refused
+c47 = refl
+
+-- 74 symbols.
+c48 :
+    write 2 (bytes "datatype=STANDARD\ntaxa=1\ncharacters=1\nsymbols=!#$%&+-.0123456789?@ABCDEFGHIJKLMNOPQRSTUVWXYZ_abcdefghijklmnopqrstuvwxyz|\nname=a\ncells=0\ncharacter=1\nlabel=\norder=UNORD\nstates=0\n")
+    ≡ refused 31 0 0 2
+unfolding write refused
+c48 = refl
+
+-- 73 symbols beside a gap cell.
+c49 :
+    write 2 (bytes "datatype=STANDARD\ntaxa=1\ncharacters=1\nsymbols=#$%&+-.0123456789?@ABCDEFGHIJKLMNOPQRSTUVWXYZ_abcdefghijklmnopqrstuvwxyz|\nname=a\ncells=g\ncharacter=1\nlabel=\norder=UNORD\nstates=0\n")
+    ≡ refused 31 0 0 2
+unfolding write refused
+c49 = refl

@@ -1,5 +1,5 @@
 -- Sequential rows and their cells.
--- Made from host/definitions/chosen/06-rows.txt, with the Rust's answers.
+-- Made from host/definitions/chosen/07-rows.txt, with the Rust's answers.
 use mathlib.Core.List.{_∷_, _++_}
 use mathlib.Core.Path.{_≡_, refl}
 use Rattle.lexer.specs.Base.{bytes}

@@ -1,5 +1,5 @@
 -- ASSUMPTIONS: OPTIONS and the shape of TYPESET.
--- Made from host/definitions/chosen/10-types.txt, with the Rust's answers.
+-- Made from host/definitions/chosen/11-types.txt, with the Rust's answers.
 use mathlib.Core.Path.{_≡_, refl}
 use Rattle.lexer.specs.Base.{bytes}
 use Rattle.vectors.specs.Asked.{read, answered, refused}

@@ -162,11 +162,11 @@ mod tests {
             let answers = text.lines().filter_map(|line| line.strip_prefix("    ≡ "));
             let numbers = answers.filter_map(|answer| {
                 let answer = answer.trim_start_matches("refused ");
-                answer.split(' ').next()?.parse().ok()
+                answer.split(' ').next()?.parse::<u32>().ok()
             });
             met.extend(numbers);
         }
-        let all = (0..=33).filter(|number: &u32| ![1, 32].contains(number));
+        let all = (0..=33).filter(|number| ![1, 32].contains(number));
         assert_eq!(met, all.collect());
     }
 
