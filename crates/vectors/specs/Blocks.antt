@@ -172,65 +172,79 @@ c24 :
 unfolding read refused
 c24 = refl
 
--- A quoted name and a mark are unknown blocks.
+-- A keyword with a letter more is another word.
 c25 :
-    read 2 (bytes "#NEXUS BEGIN 'DATA';END;")
+    read 2 (bytes "#NEXUS BEGIN DATAS;")
     ≡ refused 12 1 14 2
 unfolding read refused
 c25 = refl
 
--- BEGIN = is 12 at the mark, not 11.
+-- DAT is no DATA.
 c26 :
-    read 2 (bytes "#NEXUS BEGIN =;")
+    read 2 (bytes "#NEXUS BEGIN DAT;")
     ≡ refused 12 1 14 2
 unfolding read refused
 c26 = refl
 
--- A second TAXA block is 12 at its name.
+-- A quoted name and a mark are unknown blocks.
 c27 :
-    read 2 (bytes "#NEXUS BEGIN TAXA;DIMENSIONS NTAX=1;TAXLABELS a;END;BEGIN TAXA;x;END;")
-    ≡ refused 12 1 59 2
+    read 2 (bytes "#NEXUS BEGIN 'DATA';END;")
+    ≡ refused 12 1 14 2
 unfolding read refused
 c27 = refl
 
--- A TAXA block behind the matrix is 12.
+-- BEGIN = is 12 at the mark, not 11.
 c28 :
-    read 2 (bytes "#NEXUS BEGIN DATA;DIMENSIONS NTAX=1 NCHAR=1;MATRIX a 0;END;BEGIN TAXA;DIMENSIONS NTAX=1;TAXLABELS a;END;")
-    ≡ refused 12 1 66 2
+    read 2 (bytes "#NEXUS BEGIN =;")
+    ≡ refused 12 1 14 2
 unfolding read refused
 c28 = refl
 
--- A second matrix is 12, CHARACTERS behind DATA.
+-- A second TAXA block is 12 at its name.
 c29 :
-    read 2 (bytes "#NEXUS BEGIN DATA;DIMENSIONS NTAX=1 NCHAR=1;MATRIX a 0;END;BEGIN CHARACTERS;END;")
-    ≡ refused 12 1 66 2
+    read 2 (bytes "#NEXUS BEGIN TAXA;DIMENSIONS NTAX=1;TAXLABELS a;END;BEGIN TAXA;x;END;")
+    ≡ refused 12 1 59 2
 unfolding read refused
 c29 = refl
 
--- ASSUMPTIONS before the matrix is 12.
+-- A TAXA block behind the matrix is 12.
 c30 :
-    read 2 (bytes "#NEXUS BEGIN ASSUMPTIONS;END;")
-    ≡ refused 12 1 14 2
+    read 2 (bytes "#NEXUS BEGIN DATA;DIMENSIONS NTAX=1 NCHAR=1;MATRIX a 0;END;BEGIN TAXA;DIMENSIONS NTAX=1;TAXLABELS a;END;")
+    ≡ refused 12 1 66 2
 unfolding read refused
 c30 = refl
 
--- A second ASSUMPTIONS block is 12.
+-- A second matrix is 12, CHARACTERS behind DATA.
 c31 :
-    read 2 (bytes "#NEXUS BEGIN DATA;DIMENSIONS NTAX=1 NCHAR=1;MATRIX a 0;END;BEGIN ASSUMPTIONS;END;BEGIN ASSUMPTIONS;END;")
-    ≡ refused 12 1 88 2
+    read 2 (bytes "#NEXUS BEGIN DATA;DIMENSIONS NTAX=1 NCHAR=1;MATRIX a 0;END;BEGIN CHARACTERS;END;")
+    ≡ refused 12 1 66 2
 unfolding read refused
 c31 = refl
 
--- No matrix at all is 14 at #NEXUS.
+-- ASSUMPTIONS before the matrix is 12.
 c32 :
-    read 2 (bytes "\n #NEXUS BEGIN TAXA;DIMENSIONS NTAX=1;TAXLABELS a;END;")
-    ≡ refused 14 2 2 2
+    read 2 (bytes "#NEXUS BEGIN ASSUMPTIONS;END;")
+    ≡ refused 12 1 14 2
 unfolding read refused
 c32 = refl
 
--- 14 at #NEXUS comes last: a fault in a later block is met first.
+-- A second ASSUMPTIONS block is 12.
 c33 :
+    read 2 (bytes "#NEXUS BEGIN DATA;DIMENSIONS NTAX=1 NCHAR=1;MATRIX a 0;END;BEGIN ASSUMPTIONS;END;BEGIN ASSUMPTIONS;END;")
+    ≡ refused 12 1 88 2
+unfolding read refused
+c33 = refl
+
+-- No matrix at all is 14 at #NEXUS.
+c34 :
+    read 2 (bytes "\n #NEXUS BEGIN TAXA;DIMENSIONS NTAX=1;TAXLABELS a;END;")
+    ≡ refused 14 2 2 2
+unfolding read refused
+c34 = refl
+
+-- 14 at #NEXUS comes last: a fault in a later block is met first.
+c35 :
     read 2 (bytes "#NEXUS BEGIN TREES;END;BEGIN X;")
     ≡ refused 12 1 30 2
 unfolding read refused
-c33 = refl
+c35 = refl
