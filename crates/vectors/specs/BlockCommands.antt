@@ -90,8 +90,8 @@ c12 = refl
 
 -- A name twice is 18 at the later, ASCII case ignored, `_` as a blank, quoted or not.
 c13 :
-    read 2 (bytes "#NEXUS BEGIN TAXA;DIMENSIONS NTAX=3;TAXLABELS a_B c 'A b';END;")
-    ≡ refused 18 1 53 2
+    read 2 (bytes "#NEXUS BEGIN TAXA;DIMENSIONS NTAX=4;TAXLABELS c a_B d 'A b';END;")
+    ≡ refused 18 1 55 2
 unfolding read refused
 c13 = refl
 
@@ -130,93 +130,100 @@ c18 :
 unfolding read refused
 c18 = refl
 
--- A second CHARLABELS is 13.
+-- A second STATELABELS is 13 behind another label command too.
 c19 :
-    read 2 (bytes "#NEXUS BEGIN DATA;CHARLABELS;CHARLABELS;END;")
-    ≡ refused 13 1 30 2
+    read 2 (bytes "#NEXUS BEGIN DATA;CHARLABELS;STATELABELS 1;STATELABELS 1;END;")
+    ≡ refused 13 1 44 2
 unfolding read refused
 c19 = refl
 
--- A second CHARSTATELABELS is 13.
+-- A second CHARLABELS is 13.
 c20 :
-    read 2 (bytes "#NEXUS BEGIN DATA;CHARSTATELABELS 1;CHARSTATELABELS 1;END;")
-    ≡ refused 13 1 37 2
+    read 2 (bytes "#NEXUS BEGIN DATA;CHARLABELS;CHARLABELS;END;")
+    ≡ refused 13 1 30 2
 unfolding read refused
 c20 = refl
 
--- An unknown command is 13.
+-- A second CHARSTATELABELS is 13.
 c21 :
-    read 2 (bytes "#NEXUS BEGIN DATA;TITLE t;END;")
-    ≡ refused 13 1 19 2
+    read 2 (bytes "#NEXUS BEGIN DATA;CHARSTATELABELS 1;CHARSTATELABELS 1;END;")
+    ≡ refused 13 1 37 2
 unfolding read refused
 c21 = refl
 
--- A quoted END is no END: 13.
+-- An unknown command is 13.
 c22 :
-    read 2 (bytes "#NEXUS BEGIN DATA;'END';END;")
+    read 2 (bytes "#NEXUS BEGIN DATA;TITLE t;END;")
     ≡ refused 13 1 19 2
 unfolding read refused
 c22 = refl
 
--- TAXLABELS behind a TAXA block is 13 before its names are judged.
+-- A quoted END is no END: 13.
 c23 :
-    read 2 (bytes "#NEXUS BEGIN TAXA;DIMENSIONS NTAX=1;TAXLABELS a;END;BEGIN DATA;TAXLABELS =;END;")
-    ≡ refused 13 1 64 2
+    read 2 (bytes "#NEXUS BEGIN DATA;'END';END;")
+    ≡ refused 13 1 19 2
 unfolding read refused
 c23 = refl
 
--- A block without MATRIX is 14 at its name.
+-- TAXLABELS behind a TAXA block is 13 before its names are judged.
 c24 :
-    read 2 (bytes "#NEXUS BEGIN DATA;DIMENSIONS NTAX=1 NCHAR=1;END;")
-    ≡ refused 14 1 14 2
+    read 2 (bytes "#NEXUS BEGIN TAXA;DIMENSIONS NTAX=1;TAXLABELS a;END;BEGIN DATA;TAXLABELS =;END;")
+    ≡ refused 13 1 64 2
 unfolding read refused
 c24 = refl
 
--- MATRIX without DIMENSIONS is 14 at MATRIX, before its rows.
+-- A block without MATRIX is 14 at its name.
 c25 :
-    read 2 (bytes "#NEXUS BEGIN DATA;MATRIX ];END;")
-    ≡ refused 14 1 19 2
+    read 2 (bytes "#NEXUS BEGIN DATA;DIMENSIONS NTAX=1 NCHAR=1;END;")
+    ≡ refused 14 1 14 2
 unfolding read refused
 c25 = refl
 
--- MATRIX without NCHAR is 14 at MATRIX.
+-- MATRIX without DIMENSIONS is 14 at MATRIX, before its rows.
 c26 :
-    read 2 (bytes "#NEXUS BEGIN DATA;DIMENSIONS NTAX=1;MATRIX ];END;")
-    ≡ refused 14 1 37 2
+    read 2 (bytes "#NEXUS BEGIN DATA;MATRIX ];END;")
+    ≡ refused 14 1 19 2
 unfolding read refused
 c26 = refl
 
--- MATRIX without NTAX and without names is 14.
+-- MATRIX without NCHAR is 14 at MATRIX.
 c27 :
-    read 2 (bytes "#NEXUS BEGIN DATA;DIMENSIONS NCHAR=1;MATRIX a 0;END;")
-    ≡ refused 14 1 38 2
+    read 2 (bytes "#NEXUS BEGIN DATA;DIMENSIONS NTAX=1;MATRIX ];END;")
+    ≡ refused 14 1 37 2
 unfolding read refused
 c27 = refl
 
--- An empty TAXLABELS gives no NTAX: 14.
+-- MATRIX without NTAX and without names is 14.
 c28 :
-    read 2 (bytes "#NEXUS BEGIN DATA;TAXLABELS;DIMENSIONS NCHAR=1;MATRIX a 0;END;")
-    ≡ refused 14 1 48 2
+    read 2 (bytes "#NEXUS BEGIN DATA;DIMENSIONS NCHAR=1;MATRIX a 0;END;")
+    ≡ refused 14 1 38 2
 unfolding read refused
 c28 = refl
 
--- An empty TAXLABELS beside an NTAX is 16.
+-- An empty TAXLABELS gives no NTAX: 14.
 c29 :
-    read 2 (bytes "#NEXUS BEGIN DATA;TAXLABELS;DIMENSIONS NTAX=1 NCHAR=1;MATRIX a 0;END;")
-    ≡ refused 16 1 55 2
+    read 2 (bytes "#NEXUS BEGIN DATA;TAXLABELS;DIMENSIONS NCHAR=1;MATRIX a 0;END;")
+    ≡ refused 14 1 48 2
 unfolding read refused
 c29 = refl
 
--- NTAX unlike the names of TAXA is 16 at MATRIX, before its rows.
+-- An empty TAXLABELS beside an NTAX is 16.
 c30 :
-    read 2 (bytes "#NEXUS BEGIN TAXA;DIMENSIONS NTAX=1;TAXLABELS a;END;BEGIN DATA;DIMENSIONS NTAX=2 NCHAR=1;MATRIX ];END;")
-    ≡ refused 16 1 90 2
+    read 2 (bytes "#NEXUS BEGIN DATA;TAXLABELS;DIMENSIONS NTAX=1 NCHAR=1;MATRIX a 0;END;")
+    ≡ refused 16 1 55 2
 unfolding read refused
 c30 = refl
 
--- NEWTAXA with names and without NTAX is 14 at MATRIX.
+-- NTAX unlike the names of TAXA is 16 at MATRIX, before its rows.
 c31 :
+    read 2 (bytes "#NEXUS BEGIN TAXA;DIMENSIONS NTAX=1;TAXLABELS a;END;BEGIN DATA;DIMENSIONS NTAX=2 NCHAR=1;MATRIX ];END;")
+    ≡ refused 16 1 90 2
+unfolding read refused
+c31 = refl
+
+-- NEWTAXA with names and without NTAX is 14 at MATRIX.
+c32 :
     read 2 (bytes "#NEXUS BEGIN DATA;TAXLABELS a;DIMENSIONS NEWTAXA NCHAR=1;MATRIX a 0;END;")
     ≡ refused 14 1 58 2
 unfolding read refused
-c31 = refl
+c32 = refl

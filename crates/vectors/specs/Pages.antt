@@ -95,79 +95,86 @@ c13 :
 unfolding read refused
 c13 = refl
 
--- Names of a later page in another order are 24 at the name.
+-- A name twice on the first page, where the first is another.
 c14 :
-    read 2 (bytes "#NEXUS BEGIN DATA;DIMENSIONS NTAX=2 NCHAR=3;FORMAT INTERLEAVE;MATRIX\na 01\nb 10\nb 0\na 0;END;")
-    ≡ refused 24 4 1 2
+    read 2 (bytes "#NEXUS BEGIN DATA;DIMENSIONS NTAX=3 NCHAR=1;FORMAT INTERLEAVE;MATRIX\na 0\nb 0\nb 1;END;")
+    ≡ refused 18 4 1 2
 unfolding read refused
 c14 = refl
 
--- A name is judged before the cells of its line.
+-- Names of a later page in another order are 24 at the name.
 c15 :
-    read 2 (bytes "#NEXUS BEGIN DATA;DIMENSIONS NTAX=2 NCHAR=3;FORMAT INTERLEAVE;MATRIX\na 01\nb 10\nc 2\nb 0;END;")
+    read 2 (bytes "#NEXUS BEGIN DATA;DIMENSIONS NTAX=2 NCHAR=3;FORMAT INTERLEAVE;MATRIX\na 01\nb 10\nb 0\na 0;END;")
     ≡ refused 24 4 1 2
 unfolding read refused
 c15 = refl
 
--- A line without cells is 24 at its name.
+-- A name is judged before the cells of its line.
 c16 :
-    read 2 (bytes "#NEXUS BEGIN DATA;DIMENSIONS NTAX=2 NCHAR=3;FORMAT INTERLEAVE;MATRIX\na\n01\nb 01;END;")
-    ≡ refused 24 2 1 2
+    read 2 (bytes "#NEXUS BEGIN DATA;DIMENSIONS NTAX=2 NCHAR=3;FORMAT INTERLEAVE;MATRIX\na 01\nb 10\nc 2\nb 0;END;")
+    ≡ refused 24 4 1 2
 unfolding read refused
 c16 = refl
 
--- A line of another width is 24 at its name.
+-- A line without cells is 24 at its name.
 c17 :
-    read 2 (bytes "#NEXUS BEGIN DATA;DIMENSIONS NTAX=2 NCHAR=3;FORMAT INTERLEAVE;MATRIX\na 01\nb 010;END;")
-    ≡ refused 24 3 1 2
+    read 2 (bytes "#NEXUS BEGIN DATA;DIMENSIONS NTAX=2 NCHAR=3;FORMAT INTERLEAVE;MATRIX\na\n01\nb 01;END;")
+    ≡ refused 24 2 1 2
 unfolding read refused
 c17 = refl
 
--- The width of a page counts cells, not marks.
+-- A line of another width is 24 at its name.
 c18 :
+    read 2 (bytes "#NEXUS BEGIN DATA;DIMENSIONS NTAX=2 NCHAR=3;FORMAT INTERLEAVE;MATRIX\na 01\nb 010;END;")
+    ≡ refused 24 3 1 2
+unfolding read refused
+c18 = refl
+
+-- The width of a page counts cells, not marks.
+c19 :
     read 211 (bytes "#NEXUS BEGIN DATA;DIMENSIONS NTAX=2 NCHAR=3;FORMAT INTERLEAVE;MATRIX\na {01}10\nb 010;END;")
     ≡ answered 1 (bytes "datatype=STANDARD\ntaxa=2\ncharacters=3\nsymbols=01\nname=a\ncells=u0.1 1 0\nname=b\ncells=0 1 0\ncharacter=1\nlabel=\norder=UNORD\nstates=0\ncharacter=2\nlabel=\norder=UNORD\nstates=0\ncharacter=3\nlabel=\norder=UNORD\nstates=0\n")
 unfolding read answered
-c18 = refl
+c19 = refl
 
 -- A line too long for NCHAR is 24 at its name.
-c19 :
+c20 :
     read 2 (bytes "#NEXUS BEGIN DATA;DIMENSIONS NTAX=2 NCHAR=3;FORMAT INTERLEAVE;MATRIX\na 01\nb 10\na 01\nb 01;END;")
     ≡ refused 24 4 1 2
 unfolding read refused
-c19 = refl
+c20 = refl
 
 -- An undeclared symbol is 22 at its word.
-c20 :
+c21 :
     read 2 (bytes "#NEXUS BEGIN DATA;DIMENSIONS NTAX=2 NCHAR=3;FORMAT INTERLEAVE;MATRIX\na 0 2\nb 10;END;")
     ≡ refused 22 2 5 2
 unfolding read refused
-c20 = refl
-
--- A set must close on its line: 23 at its bracket.
-c21 :
-    read 2 (bytes "#NEXUS BEGIN DATA;DIMENSIONS NTAX=2 NCHAR=3;FORMAT INTERLEAVE;MATRIX\na 01{0\n1}\nb 010;END;")
-    ≡ refused 23 2 5 2
-unfolding read refused
 c21 = refl
 
--- An empty set is 23.
+-- A set must close on its line: 23 at its bracket.
 c22 :
-    read 2 (bytes "#NEXUS BEGIN DATA;DIMENSIONS NTAX=2 NCHAR=3;FORMAT INTERLEAVE;MATRIX\na 01{}\nb 010;END;")
+    read 2 (bytes "#NEXUS BEGIN DATA;DIMENSIONS NTAX=2 NCHAR=3;FORMAT INTERLEAVE;MATRIX\na 01{0\n1}\nb 010;END;")
     ≡ refused 23 2 5 2
 unfolding read refused
 c22 = refl
 
--- Rows that end short are 16 at MATRIX, not 24.
+-- An empty set is 23.
 c23 :
-    read 2 (bytes "#NEXUS BEGIN DATA;DIMENSIONS NTAX=2 NCHAR=3;FORMAT INTERLEAVE;MATRIX\na 01\nb 10;END;")
-    ≡ refused 16 1 63 2
+    read 2 (bytes "#NEXUS BEGIN DATA;DIMENSIONS NTAX=2 NCHAR=3;FORMAT INTERLEAVE;MATRIX\na 01{}\nb 010;END;")
+    ≡ refused 23 2 5 2
 unfolding read refused
 c23 = refl
 
--- No line at all is 16 at MATRIX.
+-- Rows that end short are 16 at MATRIX, not 24.
 c24 :
-    read 2 (bytes "#NEXUS BEGIN DATA;DIMENSIONS NTAX=2 NCHAR=3;FORMAT INTERLEAVE;MATRIX\n [x]\n;END;")
+    read 2 (bytes "#NEXUS BEGIN DATA;DIMENSIONS NTAX=2 NCHAR=3;FORMAT INTERLEAVE;MATRIX\na 01\nb 10;END;")
     ≡ refused 16 1 63 2
 unfolding read refused
 c24 = refl
+
+-- No line at all is 16 at MATRIX.
+c25 :
+    read 2 (bytes "#NEXUS BEGIN DATA;DIMENSIONS NTAX=2 NCHAR=3;FORMAT INTERLEAVE;MATRIX\n [x]\n;END;")
+    ≡ refused 16 1 63 2
+unfolding read refused
+c25 = refl

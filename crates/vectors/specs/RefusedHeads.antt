@@ -334,16 +334,23 @@ c47 :
 unfolding write refused
 c47 = refl
 
--- 74 symbols.
+-- A symbol twice, where the first is another.
 c48 :
-    write 2 (bytes "datatype=STANDARD\ntaxa=1\ncharacters=1\nsymbols=!#$%&+-.0123456789?@ABCDEFGHIJKLMNOPQRSTUVWXYZ_abcdefghijklmnopqrstuvwxyz|\nname=a\ncells=0\ncharacter=1\nlabel=\norder=UNORD\nstates=0\n")
+    write 2 (bytes "datatype=STANDARD\ntaxa=1\ncharacters=1\nsymbols=011\nname=a\ncells=0\ncharacter=1\nlabel=\norder=UNORD\nstates=0\n")
     ≡ refused 31 0 0 2
 unfolding write refused
 c48 = refl
 
--- 73 symbols beside a gap cell.
+-- 74 symbols.
 c49 :
-    write 2 (bytes "datatype=STANDARD\ntaxa=1\ncharacters=1\nsymbols=#$%&+-.0123456789?@ABCDEFGHIJKLMNOPQRSTUVWXYZ_abcdefghijklmnopqrstuvwxyz|\nname=a\ncells=g\ncharacter=1\nlabel=\norder=UNORD\nstates=0\n")
+    write 2 (bytes "datatype=STANDARD\ntaxa=1\ncharacters=1\nsymbols=!#$%&+-.0123456789?@ABCDEFGHIJKLMNOPQRSTUVWXYZ_abcdefghijklmnopqrstuvwxyz|\nname=a\ncells=0\ncharacter=1\nlabel=\norder=UNORD\nstates=0\n")
     ≡ refused 31 0 0 2
 unfolding write refused
 c49 = refl
+
+-- 73 symbols beside a gap cell.
+c50 :
+    write 2 (bytes "datatype=STANDARD\ntaxa=1\ncharacters=1\nsymbols=#$%&+-.0123456789?@ABCDEFGHIJKLMNOPQRSTUVWXYZ_abcdefghijklmnopqrstuvwxyz|\nname=a\ncells=g\ncharacter=1\nlabel=\norder=UNORD\nstates=0\n")
+    ≡ refused 31 0 0 2
+unfolding write refused
+c50 = refl

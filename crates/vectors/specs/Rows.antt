@@ -89,191 +89,198 @@ c12 :
 unfolding read refused
 c12 = refl
 
--- A row that the end cuts off is 24 at its name.
+-- A name twice, where the first is another.
 c13 :
-    read 2 (bytes "#NEXUS BEGIN DATA;DIMENSIONS NTAX=2 NCHAR=3;MATRIX a 010 b 01;END;")
-    ≡ refused 24 1 58 2
+    read 2 (bytes "#NEXUS BEGIN DATA;DIMENSIONS NTAX=3 NCHAR=1;MATRIX a 0 b 0 B 0;END;")
+    ≡ refused 18 1 60 2
 unfolding read refused
 c13 = refl
 
--- A row without cells is 24 at its name.
+-- A row that the end cuts off is 24 at its name.
 c14 :
-    read 2 (bytes "#NEXUS BEGIN DATA;DIMENSIONS NTAX=2 NCHAR=3;MATRIX a 010 b;END;")
+    read 2 (bytes "#NEXUS BEGIN DATA;DIMENSIONS NTAX=2 NCHAR=3;MATRIX a 010 b 01;END;")
     ≡ refused 24 1 58 2
 unfolding read refused
 c14 = refl
 
--- A short row takes the next name for cells: 22 there.
+-- A row without cells is 24 at its name.
 c15 :
-    read 2 (bytes "#NEXUS BEGIN DATA;DIMENSIONS NTAX=2 NCHAR=3;MATRIX a 01 b 010;END;")
-    ≡ refused 22 1 57 2
+    read 2 (bytes "#NEXUS BEGIN DATA;DIMENSIONS NTAX=2 NCHAR=3;MATRIX a 010 b;END;")
+    ≡ refused 24 1 58 2
 unfolding read refused
 c15 = refl
 
--- A word too long is 24 at the word.
+-- A short row takes the next name for cells: 22 there.
 c16 :
-    read 2 (bytes "#NEXUS BEGIN DATA;DIMENSIONS NTAX=2 NCHAR=3;MATRIX a 0 101 b 010;END;")
-    ≡ refused 24 1 56 2
+    read 2 (bytes "#NEXUS BEGIN DATA;DIMENSIONS NTAX=2 NCHAR=3;MATRIX a 01 b 010;END;")
+    ≡ refused 22 1 57 2
 unfolding read refused
 c16 = refl
 
--- A word too long is judged whole first: 22 at the word's start.
+-- A word too long is 24 at the word.
 c17 :
-    read 2 (bytes "#NEXUS BEGIN DATA;DIMENSIONS NTAX=2 NCHAR=3;MATRIX a 0 1012;END;")
-    ≡ refused 22 1 56 2
+    read 2 (bytes "#NEXUS BEGIN DATA;DIMENSIONS NTAX=2 NCHAR=3;MATRIX a 0 101 b 010;END;")
+    ≡ refused 24 1 56 2
 unfolding read refused
 c17 = refl
 
--- An undeclared symbol is 22 at the word that holds it.
+-- A word too long is judged whole first: 22 at the word's start.
 c18 :
-    read 2 (bytes "#NEXUS BEGIN DATA;DIMENSIONS NTAX=1 NCHAR=2;FORMAT SYMBOLS=\"012\" GAP=-;MATRIX a 0x;END;")
-    ≡ refused 22 1 81 2
+    read 2 (bytes "#NEXUS BEGIN DATA;DIMENSIONS NTAX=2 NCHAR=3;MATRIX a 0 1012;END;")
+    ≡ refused 22 1 56 2
 unfolding read refused
 c18 = refl
 
--- `-` is no cell where no gap is declared.
+-- An undeclared symbol is 22 at the word that holds it.
 c19 :
-    read 2 (bytes "#NEXUS BEGIN DATA;DIMENSIONS NTAX=2 NCHAR=3;MATRIX a 0-0 b 010;END;")
-    ≡ refused 22 1 54 2
+    read 2 (bytes "#NEXUS BEGIN DATA;DIMENSIONS NTAX=1 NCHAR=2;FORMAT SYMBOLS=\"012\" GAP=-;MATRIX a 0x;END;")
+    ≡ refused 22 1 81 2
 unfolding read refused
 c19 = refl
 
--- Quoted cells are 22.
+-- `-` is no cell where no gap is declared.
 c20 :
-    read 2 (bytes "#NEXUS BEGIN DATA;DIMENSIONS NTAX=1 NCHAR=2;FORMAT SYMBOLS=\"012\" GAP=-;MATRIX a '01';END;")
-    ≡ refused 22 1 81 2
+    read 2 (bytes "#NEXUS BEGIN DATA;DIMENSIONS NTAX=2 NCHAR=3;MATRIX a 0-0 b 010;END;")
+    ≡ refused 22 1 54 2
 unfolding read refused
 c20 = refl
 
--- Double-quoted cells are 22.
+-- Quoted cells are 22.
 c21 :
-    read 2 (bytes "#NEXUS BEGIN DATA;DIMENSIONS NTAX=1 NCHAR=2;FORMAT SYMBOLS=\"012\" GAP=-;MATRIX a \"01\";END;")
+    read 2 (bytes "#NEXUS BEGIN DATA;DIMENSIONS NTAX=1 NCHAR=2;FORMAT SYMBOLS=\"012\" GAP=-;MATRIX a '01';END;")
     ≡ refused 22 1 81 2
 unfolding read refused
 c21 = refl
 
--- A comma between cells is 22.
+-- Double-quoted cells are 22.
 c22 :
-    read 2 (bytes "#NEXUS BEGIN DATA;DIMENSIONS NTAX=1 NCHAR=2;FORMAT SYMBOLS=\"012\" GAP=-;MATRIX a 0,1;END;")
-    ≡ refused 22 1 82 2
+    read 2 (bytes "#NEXUS BEGIN DATA;DIMENSIONS NTAX=1 NCHAR=2;FORMAT SYMBOLS=\"012\" GAP=-;MATRIX a \"01\";END;")
+    ≡ refused 22 1 81 2
 unfolding read refused
 c22 = refl
 
--- A closing bracket alone is 22.
+-- A comma between cells is 22.
 c23 :
-    read 2 (bytes "#NEXUS BEGIN DATA;DIMENSIONS NTAX=1 NCHAR=2;FORMAT SYMBOLS=\"012\" GAP=-;MATRIX a 0};END;")
+    read 2 (bytes "#NEXUS BEGIN DATA;DIMENSIONS NTAX=1 NCHAR=2;FORMAT SYMBOLS=\"012\" GAP=-;MATRIX a 0,1;END;")
     ≡ refused 22 1 82 2
 unfolding read refused
 c23 = refl
 
--- `+` that is not declared is 22 at the mark.
+-- A closing bracket alone is 22.
 c24 :
-    read 2 (bytes "#NEXUS BEGIN DATA;DIMENSIONS NTAX=1 NCHAR=2;FORMAT SYMBOLS=\"012\" GAP=-;MATRIX a 0+;END;")
+    read 2 (bytes "#NEXUS BEGIN DATA;DIMENSIONS NTAX=1 NCHAR=2;FORMAT SYMBOLS=\"012\" GAP=-;MATRIX a 0};END;")
     ≡ refused 22 1 82 2
 unfolding read refused
 c24 = refl
 
--- A character beyond ASCII is 22.
+-- `+` that is not declared is 22 at the mark.
 c25 :
-    read 2 (bytes "#NEXUS BEGIN DATA;DIMENSIONS NTAX=1 NCHAR=2;FORMAT SYMBOLS=\"012\" GAP=-;MATRIX a 0" ++ (195 ∷ 169 ∷ bytes ";END;"))
-    ≡ refused 22 1 81 2
+    read 2 (bytes "#NEXUS BEGIN DATA;DIMENSIONS NTAX=1 NCHAR=2;FORMAT SYMBOLS=\"012\" GAP=-;MATRIX a 0+;END;")
+    ≡ refused 22 1 82 2
 unfolding read refused
 c25 = refl
 
--- An open set is 23 at its bracket, not 24 at the row's name.
+-- A character beyond ASCII is 22.
 c26 :
-    read 2 (bytes "#NEXUS BEGIN DATA;DIMENSIONS NTAX=1 NCHAR=2;FORMAT SYMBOLS=\"012\" GAP=-;MATRIX a 0{01;END;")
-    ≡ refused 23 1 82 2
+    read 2 (bytes "#NEXUS BEGIN DATA;DIMENSIONS NTAX=1 NCHAR=2;FORMAT SYMBOLS=\"012\" GAP=-;MATRIX a 0" ++ (195 ∷ 169 ∷ bytes ";END;"))
+    ≡ refused 22 1 81 2
 unfolding read refused
 c26 = refl
 
--- An open set takes in the next row's name: 22 there.
+-- An open set is 23 at its bracket, not 24 at the row's name.
 c27 :
-    read 2 (bytes "#NEXUS BEGIN DATA;DIMENSIONS NTAX=2 NCHAR=3;MATRIX a 01{0 b 010;END;")
-    ≡ refused 22 1 59 2
+    read 2 (bytes "#NEXUS BEGIN DATA;DIMENSIONS NTAX=1 NCHAR=2;FORMAT SYMBOLS=\"012\" GAP=-;MATRIX a 0{01;END;")
+    ≡ refused 23 1 82 2
 unfolding read refused
 c27 = refl
 
--- An empty set is 23 at its bracket.
+-- An open set takes in the next row's name: 22 there.
 c28 :
-    read 2 (bytes "#NEXUS BEGIN DATA;DIMENSIONS NTAX=1 NCHAR=2;FORMAT SYMBOLS=\"012\" GAP=-;MATRIX a 0{};END;")
-    ≡ refused 23 1 82 2
+    read 2 (bytes "#NEXUS BEGIN DATA;DIMENSIONS NTAX=2 NCHAR=3;MATRIX a 01{0 b 010;END;")
+    ≡ refused 22 1 59 2
 unfolding read refused
 c28 = refl
 
--- An empty set in parentheses.
+-- An empty set is 23 at its bracket.
 c29 :
-    read 2 (bytes "#NEXUS BEGIN DATA;DIMENSIONS NTAX=1 NCHAR=2;FORMAT SYMBOLS=\"012\" GAP=-;MATRIX a 0( );END;")
+    read 2 (bytes "#NEXUS BEGIN DATA;DIMENSIONS NTAX=1 NCHAR=2;FORMAT SYMBOLS=\"012\" GAP=-;MATRIX a 0{};END;")
     ≡ refused 23 1 82 2
 unfolding read refused
 c29 = refl
 
--- The other closer in a set is 22 at it.
+-- An empty set in parentheses.
 c30 :
-    read 2 (bytes "#NEXUS BEGIN DATA;DIMENSIONS NTAX=1 NCHAR=2;FORMAT SYMBOLS=\"012\" GAP=-;MATRIX a 0{1);END;")
-    ≡ refused 22 1 84 2
+    read 2 (bytes "#NEXUS BEGIN DATA;DIMENSIONS NTAX=1 NCHAR=2;FORMAT SYMBOLS=\"012\" GAP=-;MATRIX a 0( );END;")
+    ≡ refused 23 1 82 2
 unfolding read refused
 c30 = refl
 
--- An opener in a set is 22 at it.
+-- The other closer in a set is 22 at it.
 c31 :
-    read 2 (bytes "#NEXUS BEGIN DATA;DIMENSIONS NTAX=1 NCHAR=2;FORMAT SYMBOLS=\"012\" GAP=-;MATRIX a 0(1(;END;")
+    read 2 (bytes "#NEXUS BEGIN DATA;DIMENSIONS NTAX=1 NCHAR=2;FORMAT SYMBOLS=\"012\" GAP=-;MATRIX a 0{1);END;")
     ≡ refused 22 1 84 2
 unfolding read refused
 c31 = refl
 
--- A comma in a set is 22.
+-- An opener in a set is 22 at it.
 c32 :
-    read 2 (bytes "#NEXUS BEGIN DATA;DIMENSIONS NTAX=1 NCHAR=2;FORMAT SYMBOLS=\"012\" GAP=-;MATRIX a 0{0,1};END;")
+    read 2 (bytes "#NEXUS BEGIN DATA;DIMENSIONS NTAX=1 NCHAR=2;FORMAT SYMBOLS=\"012\" GAP=-;MATRIX a 0(1(;END;")
     ≡ refused 22 1 84 2
 unfolding read refused
 c32 = refl
 
--- A quoted state in a set is 22.
+-- A comma in a set is 22.
 c33 :
-    read 2 (bytes "#NEXUS BEGIN DATA;DIMENSIONS NTAX=1 NCHAR=2;FORMAT SYMBOLS=\"012\" GAP=-;MATRIX a 0{'1'};END;")
-    ≡ refused 22 1 83 2
+    read 2 (bytes "#NEXUS BEGIN DATA;DIMENSIONS NTAX=1 NCHAR=2;FORMAT SYMBOLS=\"012\" GAP=-;MATRIX a 0{0,1};END;")
+    ≡ refused 22 1 84 2
 unfolding read refused
 c33 = refl
 
--- Missing in a set is 23 at the word in the set.
+-- A quoted state in a set is 22.
 c34 :
-    read 2 (bytes "#NEXUS BEGIN DATA;DIMENSIONS NTAX=1 NCHAR=2;FORMAT SYMBOLS=\"012\" GAP=-;MATRIX a 0{1 ?};END;")
-    ≡ refused 23 1 85 2
+    read 2 (bytes "#NEXUS BEGIN DATA;DIMENSIONS NTAX=1 NCHAR=2;FORMAT SYMBOLS=\"012\" GAP=-;MATRIX a 0{'1'};END;")
+    ≡ refused 22 1 83 2
 unfolding read refused
 c34 = refl
 
--- A gap in a set is 23.
+-- Missing in a set is 23 at the word in the set.
 c35 :
-    read 2 (bytes "#NEXUS BEGIN DATA;DIMENSIONS NTAX=1 NCHAR=2;FORMAT SYMBOLS=\"012\" GAP=-;MATRIX a 0(-);END;")
-    ≡ refused 23 1 83 2
+    read 2 (bytes "#NEXUS BEGIN DATA;DIMENSIONS NTAX=1 NCHAR=2;FORMAT SYMBOLS=\"012\" GAP=-;MATRIX a 0{1 ?};END;")
+    ≡ refused 23 1 85 2
 unfolding read refused
 c35 = refl
 
--- In one word an undeclared symbol wins over an earlier missing one.
+-- A gap in a set is 23.
 c36 :
-    read 2 (bytes "#NEXUS BEGIN DATA;DIMENSIONS NTAX=1 NCHAR=2;FORMAT SYMBOLS=\"012\" GAP=-;MATRIX a 0{?x};END;")
-    ≡ refused 22 1 83 2
+    read 2 (bytes "#NEXUS BEGIN DATA;DIMENSIONS NTAX=1 NCHAR=2;FORMAT SYMBOLS=\"012\" GAP=-;MATRIX a 0(-);END;")
+    ≡ refused 23 1 83 2
 unfolding read refused
 c36 = refl
 
--- In two words the first fault counts.
+-- In one word an undeclared symbol wins over an earlier missing one.
 c37 :
-    read 2 (bytes "#NEXUS BEGIN DATA;DIMENSIONS NTAX=1 NCHAR=2;FORMAT SYMBOLS=\"012\" GAP=-;MATRIX a 0{? x};END;")
-    ≡ refused 23 1 83 2
+    read 2 (bytes "#NEXUS BEGIN DATA;DIMENSIONS NTAX=1 NCHAR=2;FORMAT SYMBOLS=\"012\" GAP=-;MATRIX a 0{?x};END;")
+    ≡ refused 22 1 83 2
 unfolding read refused
 c37 = refl
 
--- A set behind the last row is 16 at its bracket.
+-- In two words the first fault counts.
 c38 :
-    read 2 (bytes "#NEXUS BEGIN DATA;DIMENSIONS NTAX=1 NCHAR=2;FORMAT SYMBOLS=\"012\" GAP=-;MATRIX a 01 {0};END;")
-    ≡ refused 16 1 84 2
+    read 2 (bytes "#NEXUS BEGIN DATA;DIMENSIONS NTAX=1 NCHAR=2;FORMAT SYMBOLS=\"012\" GAP=-;MATRIX a 0{? x};END;")
+    ≡ refused 23 1 83 2
 unfolding read refused
 c38 = refl
 
--- A row is full with a set too: the next token is 16.
+-- A set behind the last row is 16 at its bracket.
 c39 :
+    read 2 (bytes "#NEXUS BEGIN DATA;DIMENSIONS NTAX=1 NCHAR=2;FORMAT SYMBOLS=\"012\" GAP=-;MATRIX a 01 {0};END;")
+    ≡ refused 16 1 84 2
+unfolding read refused
+c39 = refl
+
+-- A row is full with a set too: the next token is 16.
+c40 :
     read 2 (bytes "#NEXUS BEGIN DATA;DIMENSIONS NTAX=1 NCHAR=2;FORMAT SYMBOLS=\"012\" GAP=-;MATRIX a 0{1}2;END;")
     ≡ refused 16 1 85 2
 unfolding read refused
-c39 = refl
+c40 = refl
