@@ -25,7 +25,7 @@ c3 :
 unfolding read answered
 c3 = refl
 
--- CHARSTATELABELS: label and states, label alone, states alone.
+-- CHARSTATELABELS: a label with states, states alone.
 c4 :
     read 186 (bytes "#NEXUS BEGIN DATA;DIMENSIONS NTAX=1 NCHAR=2;CHARSTATELABELS 1 eye/'dark blue' green,2/x;MATRIX a 01;END;")
     ≡ answered 1 (bytes "datatype=STANDARD\ntaxa=1\ncharacters=2\nsymbols=01\nname=a\ncells=0 1\ncharacter=1\nlabel=eye\norder=UNORD\nstates=2\nstate=dark blue\nstate=green\ncharacter=2\nlabel=\norder=UNORD\nstates=1\nstate=x\n")

@@ -53,7 +53,7 @@ pub fn files(chosen: &Path) -> Result<Vec<(String, File)>, String> {
     paths.iter().map(|path| read(path)).collect()
 }
 
-/// `03-character-lists.txt` as `CharacterLists`.
+/// `12-character-lists.txt` as `CharacterLists`.
 fn module_name(file: &str) -> String {
     let words = file.trim_end_matches(".txt").split('-').skip(1);
     let capital = |word: &str| word[..1].to_uppercase() + &word[1..];
