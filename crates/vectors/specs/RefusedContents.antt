@@ -75,240 +75,268 @@ c10 :
 unfolding write answered
 c10 = refl
 
--- Two names alike, ASCII case ignored.
+-- `=` in a name is plain, and so are NUL and U+FEFF: a record.
 c11 :
-    write 2 (bytes "datatype=STANDARD\ntaxa=2\ncharacters=2\nsymbols=01\nname=a\ncells=0 1\nname=A\ncells=0 m\ncharacter=1\nlabel=\norder=UNORD\nstates=0\ncharacter=2\nlabel=\norder=UNORD\nstates=0\n")
-    ≡ refused 31 0 0 2
-unfolding write refused
+    write 133 (bytes "datatype=STANDARD\ntaxa=1\ncharacters=1\nsymbols=01\nname=a=" ++ (0 ∷ 239 ∷ 187 ∷ 191 ∷ bytes "\ncells=0\ncharacter=1\nlabel=\norder=UNORD\nstates=0\n"))
+    ≡ answered 1 (bytes "#NEXUS\nBEGIN DATA;\nDIMENSIONS NTAX=1 NCHAR=1;\nFORMAT DATATYPE=STANDARD RESPECTCASE MISSING=! SYMBOLS=\"01\";\nMATRIX\n'a=" ++ (0 ∷ 239 ∷ 187 ∷ 191 ∷ bytes "' 0\n;\nEND;\n"))
+unfolding write answered
 c11 = refl
 
--- Two names alike, where the first is another.
+-- Names that differ beyond ASCII in case alone: a record.
 c12 :
-    write 2 (bytes "datatype=STANDARD\ntaxa=3\ncharacters=1\nsymbols=01\nname=a\ncells=0\nname=b\ncells=0\nname=B\ncells=0\ncharacter=1\nlabel=\norder=UNORD\nstates=0\n")
-    ≡ refused 31 0 0 2
-unfolding write refused
+    write 138 (bytes "datatype=STANDARD\ntaxa=2\ncharacters=2\nsymbols=01\nname=" ++ (195 ∷ 169 ∷ bytes "\ncells=0 1\nname=" ++ (195 ∷ 137 ∷ bytes "\ncells=0 m\ncharacter=1\nlabel=\norder=UNORD\nstates=0\ncharacter=2\nlabel=\norder=UNORD\nstates=0\n")))
+    ≡ answered 1 (bytes "#NEXUS\nBEGIN DATA;\nDIMENSIONS NTAX=2 NCHAR=2;\nFORMAT DATATYPE=STANDARD RESPECTCASE MISSING=! SYMBOLS=\"01\";\nMATRIX\n'" ++ (195 ∷ 169 ∷ bytes "' 01\n'" ++ (195 ∷ 137 ∷ bytes "' 0!\n;\nEND;\n")))
+unfolding write answered
 c12 = refl
 
--- A later name that is none.
+-- Two names alike, ASCII case ignored.
 c13 :
-    write 2 (bytes "datatype=STANDARD\ntaxa=2\ncharacters=2\nsymbols=01\nname=a\ncells=0 1\nname=_\ncells=0 m\ncharacter=1\nlabel=\norder=UNORD\nstates=0\ncharacter=2\nlabel=\norder=UNORD\nstates=0\n")
+    write 2 (bytes "datatype=STANDARD\ntaxa=2\ncharacters=2\nsymbols=01\nname=a\ncells=0 1\nname=A\ncells=0 m\ncharacter=1\nlabel=\norder=UNORD\nstates=0\ncharacter=2\nlabel=\norder=UNORD\nstates=0\n")
     ≡ refused 31 0 0 2
 unfolding write refused
 c13 = refl
 
--- A label with `_`.
+-- Two names alike, where the first is another.
 c14 :
-    write 2 (bytes "datatype=STANDARD\ntaxa=1\ncharacters=1\nsymbols=01\nname=a\ncells=0\ncharacter=1\nlabel=_\norder=ORD\nstates=1\nstate=s\n")
+    write 2 (bytes "datatype=STANDARD\ntaxa=3\ncharacters=1\nsymbols=01\nname=a\ncells=0\nname=b\ncells=0\nname=B\ncells=0\ncharacter=1\nlabel=\norder=UNORD\nstates=0\n")
     ≡ refused 31 0 0 2
 unfolding write refused
 c14 = refl
 
--- A label of a tab alone.
+-- A later name that is none.
 c15 :
-    write 2 (bytes "datatype=STANDARD\ntaxa=1\ncharacters=1\nsymbols=01\nname=a\ncells=0\ncharacter=1\nlabel=\t\norder=ORD\nstates=1\nstate=s\n")
+    write 2 (bytes "datatype=STANDARD\ntaxa=2\ncharacters=2\nsymbols=01\nname=a\ncells=0 1\nname=_\ncells=0 m\ncharacter=1\nlabel=\norder=UNORD\nstates=0\ncharacter=2\nlabel=\norder=UNORD\nstates=0\n")
     ≡ refused 31 0 0 2
 unfolding write refused
 c15 = refl
 
--- A label with a wrong escape.
+-- A label with `_`.
 c16 :
-    write 2 (bytes "datatype=STANDARD\ntaxa=1\ncharacters=1\nsymbols=01\nname=a\ncells=0\ncharacter=1\nlabel=\\\norder=ORD\nstates=1\nstate=s\n")
+    write 2 (bytes "datatype=STANDARD\ntaxa=1\ncharacters=1\nsymbols=01\nname=a\ncells=0\ncharacter=1\nlabel=_\norder=ORD\nstates=1\nstate=s\n")
     ≡ refused 31 0 0 2
 unfolding write refused
 c16 = refl
 
--- An empty state label.
+-- A label with a CR.
 c17 :
-    write 2 (bytes "datatype=STANDARD\ntaxa=1\ncharacters=1\nsymbols=01\nname=a\ncells=0\ncharacter=1\nlabel=l\norder=ORD\nstates=1\nstate=\n")
+    write 2 (bytes "datatype=STANDARD\ntaxa=1\ncharacters=1\nsymbols=01\nname=a\ncells=0\ncharacter=1\nlabel=l\r\norder=ORD\nstates=1\nstate=s\n")
     ≡ refused 31 0 0 2
 unfolding write refused
 c17 = refl
 
--- An empty state label behind a good one.
+-- A label that is not UTF-8.
 c18 :
-    write 2 (bytes "datatype=STANDARD\ntaxa=1\ncharacters=1\nsymbols=01\nname=a\ncells=0\ncharacter=1\nlabel=l\norder=ORD\nstates=2\nstate=s\nstate=\n")
+    write 2 (bytes "datatype=STANDARD\ntaxa=1\ncharacters=1\nsymbols=01\nname=a\ncells=0\ncharacter=1\nlabel=" ++ (128 ∷ bytes "\norder=ORD\nstates=1\nstate=s\n"))
     ≡ refused 31 0 0 2
 unfolding write refused
 c18 = refl
 
--- A label with `_` on a later character.
+-- A label of a tab alone.
 c19 :
-    write 2 (bytes "datatype=STANDARD\ntaxa=2\ncharacters=2\nsymbols=01\nname=a\ncells=0 1\nname=b\ncells=0 m\ncharacter=1\nlabel=\norder=UNORD\nstates=0\ncharacter=2\nlabel=_\norder=UNORD\nstates=0\n")
+    write 2 (bytes "datatype=STANDARD\ntaxa=1\ncharacters=1\nsymbols=01\nname=a\ncells=0\ncharacter=1\nlabel=\t\norder=ORD\nstates=1\nstate=s\n")
     ≡ refused 31 0 0 2
 unfolding write refused
 c19 = refl
 
--- A state label with a CR.
+-- A label with a wrong escape.
 c20 :
-    write 2 (bytes "datatype=STANDARD\ntaxa=1\ncharacters=1\nsymbols=01\nname=a\ncells=0\ncharacter=1\nlabel=l\norder=ORD\nstates=1\nstate=\r\n")
+    write 2 (bytes "datatype=STANDARD\ntaxa=1\ncharacters=1\nsymbols=01\nname=a\ncells=0\ncharacter=1\nlabel=\\\norder=ORD\nstates=1\nstate=s\n")
     ≡ refused 31 0 0 2
 unfolding write refused
 c20 = refl
 
--- A state label that is not UTF-8.
+-- An empty state label.
 c21 :
-    write 2 (bytes "datatype=STANDARD\ntaxa=1\ncharacters=1\nsymbols=01\nname=a\ncells=0\ncharacter=1\nlabel=l\norder=ORD\nstates=1\nstate=" ++ (226 ∷ 130 ∷ bytes "\n"))
+    write 2 (bytes "datatype=STANDARD\ntaxa=1\ncharacters=1\nsymbols=01\nname=a\ncells=0\ncharacter=1\nlabel=l\norder=ORD\nstates=1\nstate=\n")
     ≡ refused 31 0 0 2
 unfolding write refused
 c21 = refl
 
--- A cell too few.
+-- An empty state label behind a good one.
 c22 :
-    write 2 (bytes "datatype=STANDARD\ntaxa=2\ncharacters=2\nsymbols=01\nname=a\ncells=0\nname=b\ncells=0 m\ncharacter=1\nlabel=\norder=UNORD\nstates=0\ncharacter=2\nlabel=\norder=UNORD\nstates=0\n")
+    write 2 (bytes "datatype=STANDARD\ntaxa=1\ncharacters=1\nsymbols=01\nname=a\ncells=0\ncharacter=1\nlabel=l\norder=ORD\nstates=2\nstate=s\nstate=\n")
     ≡ refused 31 0 0 2
 unfolding write refused
 c22 = refl
 
--- A cell too many.
+-- A label with `_` on a later character.
 c23 :
-    write 2 (bytes "datatype=STANDARD\ntaxa=2\ncharacters=2\nsymbols=01\nname=a\ncells=0 1\nname=b\ncells=0 m m\ncharacter=1\nlabel=\norder=UNORD\nstates=0\ncharacter=2\nlabel=\norder=UNORD\nstates=0\n")
+    write 2 (bytes "datatype=STANDARD\ntaxa=2\ncharacters=2\nsymbols=01\nname=a\ncells=0 1\nname=b\ncells=0 m\ncharacter=1\nlabel=\norder=UNORD\nstates=0\ncharacter=2\nlabel=_\norder=UNORD\nstates=0\n")
     ≡ refused 31 0 0 2
 unfolding write refused
 c23 = refl
 
--- No cell.
+-- A state label with a CR.
 c24 :
-    write 2 (bytes "datatype=STANDARD\ntaxa=1\ncharacters=1\nsymbols=01\nname=a\ncells=\ncharacter=1\nlabel=\norder=UNORD\nstates=0\n")
+    write 2 (bytes "datatype=STANDARD\ntaxa=1\ncharacters=1\nsymbols=01\nname=a\ncells=0\ncharacter=1\nlabel=l\norder=ORD\nstates=1\nstate=\r\n")
     ≡ refused 31 0 0 2
 unfolding write refused
 c24 = refl
 
--- Two blanks between cells.
+-- A state label that is not UTF-8.
 c25 :
-    write 2 (bytes "datatype=STANDARD\ntaxa=2\ncharacters=2\nsymbols=01\nname=a\ncells=0  1\nname=b\ncells=0 m\ncharacter=1\nlabel=\norder=UNORD\nstates=0\ncharacter=2\nlabel=\norder=UNORD\nstates=0\n")
+    write 2 (bytes "datatype=STANDARD\ntaxa=1\ncharacters=1\nsymbols=01\nname=a\ncells=0\ncharacter=1\nlabel=l\norder=ORD\nstates=1\nstate=" ++ (226 ∷ 130 ∷ bytes "\n"))
     ≡ refused 31 0 0 2
 unfolding write refused
 c25 = refl
 
--- A blank at the end.
+-- A cell too few.
 c26 :
-    write 2 (bytes "datatype=STANDARD\ntaxa=2\ncharacters=2\nsymbols=01\nname=a\ncells=0 1 \nname=b\ncells=0 m\ncharacter=1\nlabel=\norder=UNORD\nstates=0\ncharacter=2\nlabel=\norder=UNORD\nstates=0\n")
+    write 2 (bytes "datatype=STANDARD\ntaxa=2\ncharacters=2\nsymbols=01\nname=a\ncells=0\nname=b\ncells=0 m\ncharacter=1\nlabel=\norder=UNORD\nstates=0\ncharacter=2\nlabel=\norder=UNORD\nstates=0\n")
     ≡ refused 31 0 0 2
 unfolding write refused
 c26 = refl
 
--- An index that is no state.
+-- A cell too many.
 c27 :
-    write 2 (bytes "datatype=STANDARD\ntaxa=1\ncharacters=1\nsymbols=01\nname=a\ncells=2\ncharacter=1\nlabel=\norder=UNORD\nstates=0\n")
+    write 2 (bytes "datatype=STANDARD\ntaxa=2\ncharacters=2\nsymbols=01\nname=a\ncells=0 1\nname=b\ncells=0 m m\ncharacter=1\nlabel=\norder=UNORD\nstates=0\ncharacter=2\nlabel=\norder=UNORD\nstates=0\n")
     ≡ refused 31 0 0 2
 unfolding write refused
 c27 = refl
 
--- An index that is no state, in a later cell of a later row.
+-- No cell.
 c28 :
-    write 2 (bytes "datatype=STANDARD\ntaxa=2\ncharacters=2\nsymbols=01\nname=a\ncells=0 1\nname=b\ncells=0 2\ncharacter=1\nlabel=\norder=UNORD\nstates=0\ncharacter=2\nlabel=\norder=UNORD\nstates=0\n")
+    write 2 (bytes "datatype=STANDARD\ntaxa=1\ncharacters=1\nsymbols=01\nname=a\ncells=\ncharacter=1\nlabel=\norder=UNORD\nstates=0\n")
     ≡ refused 31 0 0 2
 unfolding write refused
 c28 = refl
 
--- An index in a set that is no state.
+-- Two blanks between cells.
 c29 :
-    write 2 (bytes "datatype=STANDARD\ntaxa=1\ncharacters=1\nsymbols=01\nname=a\ncells=u0.2\ncharacter=1\nlabel=\norder=UNORD\nstates=0\n")
+    write 2 (bytes "datatype=STANDARD\ntaxa=2\ncharacters=2\nsymbols=01\nname=a\ncells=0  1\nname=b\ncells=0 m\ncharacter=1\nlabel=\norder=UNORD\nstates=0\ncharacter=2\nlabel=\norder=UNORD\nstates=0\n")
     ≡ refused 31 0 0 2
 unfolding write refused
 c29 = refl
 
--- A set that does not rise.
+-- A blank at the end.
 c30 :
-    write 2 (bytes "datatype=STANDARD\ntaxa=1\ncharacters=1\nsymbols=01\nname=a\ncells=p1.0\ncharacter=1\nlabel=\norder=UNORD\nstates=0\n")
+    write 2 (bytes "datatype=STANDARD\ntaxa=2\ncharacters=2\nsymbols=01\nname=a\ncells=0 1 \nname=b\ncells=0 m\ncharacter=1\nlabel=\norder=UNORD\nstates=0\ncharacter=2\nlabel=\norder=UNORD\nstates=0\n")
     ≡ refused 31 0 0 2
 unfolding write refused
 c30 = refl
 
--- A set with a state twice.
+-- An index that is no state.
 c31 :
-    write 2 (bytes "datatype=STANDARD\ntaxa=1\ncharacters=1\nsymbols=01\nname=a\ncells=u1.1\ncharacter=1\nlabel=\norder=UNORD\nstates=0\n")
+    write 2 (bytes "datatype=STANDARD\ntaxa=1\ncharacters=1\nsymbols=01\nname=a\ncells=2\ncharacter=1\nlabel=\norder=UNORD\nstates=0\n")
     ≡ refused 31 0 0 2
 unfolding write refused
 c31 = refl
 
--- An empty set.
+-- An index that is no state, in a later cell of a later row.
 c32 :
-    write 2 (bytes "datatype=STANDARD\ntaxa=1\ncharacters=1\nsymbols=01\nname=a\ncells=u\ncharacter=1\nlabel=\norder=UNORD\nstates=0\n")
+    write 2 (bytes "datatype=STANDARD\ntaxa=2\ncharacters=2\nsymbols=01\nname=a\ncells=0 1\nname=b\ncells=0 2\ncharacter=1\nlabel=\norder=UNORD\nstates=0\ncharacter=2\nlabel=\norder=UNORD\nstates=0\n")
     ≡ refused 31 0 0 2
 unfolding write refused
 c32 = refl
 
--- A set with a dot at the end.
+-- An index in a set that is no state.
 c33 :
-    write 2 (bytes "datatype=STANDARD\ntaxa=1\ncharacters=1\nsymbols=01\nname=a\ncells=p0.\ncharacter=1\nlabel=\norder=UNORD\nstates=0\n")
+    write 2 (bytes "datatype=STANDARD\ntaxa=1\ncharacters=1\nsymbols=01\nname=a\ncells=u0.2\ncharacter=1\nlabel=\norder=UNORD\nstates=0\n")
     ≡ refused 31 0 0 2
 unfolding write refused
 c33 = refl
 
--- Another letter.
+-- A set that does not rise.
 c34 :
-    write 2 (bytes "datatype=STANDARD\ntaxa=1\ncharacters=1\nsymbols=01\nname=a\ncells=x\ncharacter=1\nlabel=\norder=UNORD\nstates=0\n")
+    write 2 (bytes "datatype=STANDARD\ntaxa=1\ncharacters=1\nsymbols=01\nname=a\ncells=p1.0\ncharacter=1\nlabel=\norder=UNORD\nstates=0\n")
     ≡ refused 31 0 0 2
 unfolding write refused
 c34 = refl
 
--- A capital.
+-- A set with a state twice.
 c35 :
-    write 2 (bytes "datatype=STANDARD\ntaxa=1\ncharacters=1\nsymbols=01\nname=a\ncells=M\ncharacter=1\nlabel=\norder=UNORD\nstates=0\n")
+    write 2 (bytes "datatype=STANDARD\ntaxa=1\ncharacters=1\nsymbols=01\nname=a\ncells=u1.1\ncharacter=1\nlabel=\norder=UNORD\nstates=0\n")
     ≡ refused 31 0 0 2
 unfolding write refused
 c35 = refl
 
--- An index of DNA that is no state.
+-- An empty set.
 c36 :
-    write 2 (bytes "datatype=DNA\ntaxa=1\ncharacters=1\nsymbols=ACGT\nname=a\ncells=4\ncharacter=1\nlabel=\norder=UNORD\nstates=0\n")
+    write 2 (bytes "datatype=STANDARD\ntaxa=1\ncharacters=1\nsymbols=01\nname=a\ncells=u\ncharacter=1\nlabel=\norder=UNORD\nstates=0\n")
     ≡ refused 31 0 0 2
 unfolding write refused
 c36 = refl
 
--- A number out of order.
+-- A set with a dot at the end.
 c37 :
-    write 2 (bytes "datatype=STANDARD\ntaxa=1\ncharacters=1\nsymbols=01\nname=a\ncells=0\ncharacter=2\nlabel=\norder=UNORD\nstates=0\n")
+    write 2 (bytes "datatype=STANDARD\ntaxa=1\ncharacters=1\nsymbols=01\nname=a\ncells=p0.\ncharacter=1\nlabel=\norder=UNORD\nstates=0\n")
     ≡ refused 31 0 0 2
 unfolding write refused
 c37 = refl
 
--- More state labels than symbols.
+-- Another letter.
 c38 :
-    write 2 (bytes "datatype=STANDARD\ntaxa=1\ncharacters=1\nsymbols=01\nname=a\ncells=0\ncharacter=1\nlabel=l\norder=ORD\nstates=3\nstate=s\nstate=t\nstate=u\n")
+    write 2 (bytes "datatype=STANDARD\ntaxa=1\ncharacters=1\nsymbols=01\nname=a\ncells=x\ncharacter=1\nlabel=\norder=UNORD\nstates=0\n")
     ≡ refused 31 0 0 2
 unfolding write refused
 c38 = refl
 
--- More state labels than symbols on a later character.
+-- A capital.
 c39 :
-    write 2 (bytes "datatype=STANDARD\ntaxa=2\ncharacters=2\nsymbols=01\nname=a\ncells=0 1\nname=b\ncells=0 m\ncharacter=1\nlabel=\norder=UNORD\nstates=0\ncharacter=2\nlabel=\norder=UNORD\nstates=3\nstate=x\nstate=y\nstate=z\n")
+    write 2 (bytes "datatype=STANDARD\ntaxa=1\ncharacters=1\nsymbols=01\nname=a\ncells=M\ncharacter=1\nlabel=\norder=UNORD\nstates=0\n")
     ≡ refused 31 0 0 2
 unfolding write refused
 c39 = refl
 
--- As many as symbols are a record.
+-- An index of DNA that is no state.
 c40 :
-    write 213 (bytes "datatype=STANDARD\ntaxa=1\ncharacters=1\nsymbols=01\nname=a\ncells=0\ncharacter=1\nlabel=l\norder=ORD\nstates=2\nstate=s\nstate=s\n")
-    ≡ answered 1 (bytes "#NEXUS\nBEGIN DATA;\nDIMENSIONS NTAX=1 NCHAR=1;\nFORMAT DATATYPE=STANDARD RESPECTCASE MISSING=! SYMBOLS=\"01\";\nCHARSTATELABELS 1 'l' / 's' 's';\nMATRIX\n'a' 0\n;\nEND;\nBEGIN ASSUMPTIONS;\nTYPESET * w (VECTOR) = ORD;\nEND;\n")
-unfolding write answered
+    write 2 (bytes "datatype=DNA\ntaxa=1\ncharacters=1\nsymbols=ACGT\nname=a\ncells=4\ncharacter=1\nlabel=\norder=UNORD\nstates=0\n")
+    ≡ refused 31 0 0 2
+unfolding write refused
 c40 = refl
 
--- More state lines than states says.
+-- A number out of order.
 c41 :
-    write 2 (bytes "datatype=STANDARD\ntaxa=1\ncharacters=1\nsymbols=01\nname=a\ncells=0\ncharacter=1\nlabel=l\norder=ORD\nstates=0\nstate=s\n")
+    write 2 (bytes "datatype=STANDARD\ntaxa=1\ncharacters=1\nsymbols=01\nname=a\ncells=0\ncharacter=2\nlabel=\norder=UNORD\nstates=0\n")
     ≡ refused 31 0 0 2
 unfolding write refused
 c41 = refl
 
--- Fewer state lines than states says.
+-- More state labels than symbols.
 c42 :
-    write 2 (bytes "datatype=STANDARD\ntaxa=1\ncharacters=1\nsymbols=01\nname=a\ncells=0\ncharacter=1\nlabel=l\norder=ORD\nstates=2\nstate=s\n")
+    write 2 (bytes "datatype=STANDARD\ntaxa=1\ncharacters=1\nsymbols=01\nname=a\ncells=0\ncharacter=1\nlabel=l\norder=ORD\nstates=3\nstate=s\nstate=t\nstate=u\n")
     ≡ refused 31 0 0 2
 unfolding write refused
 c42 = refl
 
--- Another type.
+-- More state labels than symbols on a later character.
 c43 :
-    write 2 (bytes "datatype=STANDARD\ntaxa=1\ncharacters=1\nsymbols=01\nname=a\ncells=0\ncharacter=1\nlabel=\norder=unord\nstates=0\n")
+    write 2 (bytes "datatype=STANDARD\ntaxa=2\ncharacters=2\nsymbols=01\nname=a\ncells=0 1\nname=b\ncells=0 m\ncharacter=1\nlabel=\norder=UNORD\nstates=0\ncharacter=2\nlabel=\norder=UNORD\nstates=3\nstate=x\nstate=y\nstate=z\n")
     ≡ refused 31 0 0 2
 unfolding write refused
 c43 = refl
 
--- DNA with an ordered character.
+-- As many as symbols are a record.
 c44 :
+    write 213 (bytes "datatype=STANDARD\ntaxa=1\ncharacters=1\nsymbols=01\nname=a\ncells=0\ncharacter=1\nlabel=l\norder=ORD\nstates=2\nstate=s\nstate=s\n")
+    ≡ answered 1 (bytes "#NEXUS\nBEGIN DATA;\nDIMENSIONS NTAX=1 NCHAR=1;\nFORMAT DATATYPE=STANDARD RESPECTCASE MISSING=! SYMBOLS=\"01\";\nCHARSTATELABELS 1 'l' / 's' 's';\nMATRIX\n'a' 0\n;\nEND;\nBEGIN ASSUMPTIONS;\nTYPESET * w (VECTOR) = ORD;\nEND;\n")
+unfolding write answered
+c44 = refl
+
+-- More state lines than states says.
+c45 :
+    write 2 (bytes "datatype=STANDARD\ntaxa=1\ncharacters=1\nsymbols=01\nname=a\ncells=0\ncharacter=1\nlabel=l\norder=ORD\nstates=0\nstate=s\n")
+    ≡ refused 31 0 0 2
+unfolding write refused
+c45 = refl
+
+-- Fewer state lines than states says.
+c46 :
+    write 2 (bytes "datatype=STANDARD\ntaxa=1\ncharacters=1\nsymbols=01\nname=a\ncells=0\ncharacter=1\nlabel=l\norder=ORD\nstates=2\nstate=s\n")
+    ≡ refused 31 0 0 2
+unfolding write refused
+c46 = refl
+
+-- Another type.
+c47 :
+    write 2 (bytes "datatype=STANDARD\ntaxa=1\ncharacters=1\nsymbols=01\nname=a\ncells=0\ncharacter=1\nlabel=\norder=unord\nstates=0\n")
+    ≡ refused 31 0 0 2
+unfolding write refused
+c47 = refl
+
+-- DNA with an ordered character.
+c48 :
     write 2 (bytes "datatype=DNA\ntaxa=1\ncharacters=1\nsymbols=ACGT\nname=a\ncells=3\ncharacter=1\nlabel=\norder=ORD\nstates=0\n")
     ≡ refused 31 0 0 2
 unfolding write refused
-c44 = refl
+c48 = refl
