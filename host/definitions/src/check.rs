@@ -3,7 +3,7 @@
 use std::collections::{BTreeMap, VecDeque};
 use std::time::Instant;
 
-use crate::module::{RUN, Runners, head, hole, theorem};
+use crate::module::{HEAD, Runners, hole, theorem};
 use crate::question::{Case, Question};
 use crate::said::{End, TOO_MANY_STEPS, end, goals, refused};
 use crate::scratch::Scratch;
@@ -125,7 +125,7 @@ fn planned(cases: &[Case], jobs: usize) -> Vec<Vec<usize>> {
 
 fn theorems(cases: &[Case], group: &[usize]) -> Vec<String> {
     let declare = |number: &usize| theorem(*number, &cases[*number]);
-    modules(&head(RUN), group, declare)
+    modules(HEAD, group, declare)
 }
 
 /// Modules with a declaration for each item.

@@ -10,18 +10,17 @@ use crate::value::is_refusal;
 
 /// The length of a buffer beside that of the answer.
 #[derive(Clone, Copy, Debug)]
-pub enum Room {
+enum Room {
     OneMore,
     Full,
     OneShort,
 }
 
-pub const LONG_ENOUGH: &[Room] = &[Room::OneMore, Room::Full];
-pub const ANY: &[Room] = &[Room::OneMore, Room::Full, Room::OneShort];
+const LONG_ENOUGH: &[Room] = &[Room::OneMore, Room::Full];
 
 /// The length of the buffer for the question with this number, whose answer this is. The rooms
 /// take turns; for a refusal the buffer is short.
-pub fn room(number: u64, answer: &[u8], rooms: &[Room]) -> usize {
+fn room(number: u64, answer: &[u8], rooms: &[Room]) -> usize {
     let turn = |choices: usize| (number % choices as u64) as usize;
     if is_refusal(answer) {
         return [0, 1, 3][turn(3)];
@@ -34,18 +33,18 @@ pub fn room(number: u64, answer: &[u8], rooms: &[Room]) -> usize {
 }
 
 /// What a text, and a record, is answered where nothing is short.
-pub fn reading(text: &[u8]) -> Vec<u8> {
+fn reading(text: &[u8]) -> Vec<u8> {
     answer::read(text, ENOUGH, ENOUGH).into_bytes()
 }
 
-pub fn writing(record: &[u8]) -> Vec<u8> {
+fn writing(record: &[u8]) -> Vec<u8> {
     answer::write(record, ENOUGH).into_bytes()
 }
 
 /// The cases of the text with this number. Each text is asked with enough of everything. Every
 /// third that is read is asked again with a buffer that is one byte short, and every twentieth
 /// with work memory that is one number short.
-pub fn text_cases(seed: u64, number: u64) -> Vec<Case> {
+fn text_cases(seed: u64, number: u64) -> Vec<Case> {
     let text = generate::text(seed, number);
     let (work, answer) = (work_needed(&text), reading(&text));
     let enough = room(number, &answer, LONG_ENOUGH);
@@ -64,7 +63,7 @@ pub fn text_cases(seed: u64, number: u64) -> Vec<Case> {
 }
 
 /// The cases of the record with this number, likewise.
-pub fn record_cases(seed: u64, number: u64) -> Vec<Case> {
+fn record_cases(seed: u64, number: u64) -> Vec<Case> {
     let record = generate::record(seed, number);
     let answer = writing(&record);
     let mut rooms = vec![room(number, &answer, LONG_ENOUGH)];
@@ -78,7 +77,7 @@ pub fn record_cases(seed: u64, number: u64) -> Vec<Case> {
     rooms.into_iter().filter_map(ask).collect()
 }
 
-pub fn lookup_case(seed: u64, number: u64) -> Option<Case> {
+fn lookup_case(seed: u64, number: u64) -> Option<Case> {
     let (name, record) = generate::lookup(seed, number);
     Question::Lookup { name, record }.asked(format!("lookup {number} of seed {seed}"))
 }
@@ -135,10 +134,11 @@ mod tests {
     #[test]
     fn rooms_take_turns() {
         let record = b"datatype=";
-        let rooms: Vec<usize> = (0..3).map(|n| room(n, record, ANY)).collect();
-        assert_eq!(rooms, [10, 9, 8]);
+        let rooms: Vec<usize> = (0..3).map(|n| room(n, record, LONG_ENOUGH)).collect();
+        assert_eq!(rooms, [10, 9, 10]);
+        assert_eq!(room(0, record, &[Room::OneShort]), 8);
         let refusal = b"refused=6\nline=1\ncolumn=1\n";
-        let rooms: Vec<usize> = (0..3).map(|n| room(n, refusal, ANY)).collect();
+        let rooms: Vec<usize> = (0..3).map(|n| room(n, refusal, LONG_ENOUGH)).collect();
         assert_eq!(rooms, [0, 1, 3]);
     }
 

@@ -1,17 +1,16 @@
 //! Holds the definitions in crates/*/specs against the oracle. See `options::USAGE`.
 
-use std::fs;
 use std::path::{Path, PathBuf};
 use std::process::ExitCode;
 
 mod check;
+mod chosen;
 mod files;
 mod generated;
 mod module;
 mod options;
 mod question;
 mod said;
-mod sample;
 mod scratch;
 mod value;
 
@@ -41,8 +40,8 @@ fn main() -> ExitCode {
 
 /// Whether nothing failed.
 fn run(repository: &Path, options: &Options) -> Result<bool, String> {
-    if let (Some(count), Some(out)) = (options.sample, &options.out) {
-        return write_sample(count, out, options).map(|()| true);
+    if let (Some(chosen), Some(out)) = (&options.chosen, &options.out) {
+        return chosen::write(chosen, out).map(|()| true);
     }
     let cases = cases(options)?;
     if cases.is_empty() {
@@ -56,12 +55,6 @@ fn run(repository: &Path, options: &Options) -> Result<bool, String> {
     let passed = cases.len() - failures.len();
     println!("{passed} passed, {} failed", failures.len());
     Ok(failures.is_empty())
-}
-
-fn write_sample(count: usize, out: &Path, options: &Options) -> Result<(), String> {
-    let file = out.file_name().unwrap_or_default().to_string_lossy();
-    let module = sample::module(count, options.seed, &options.run_module, &file);
-    fs::write(out, module).map_err(|error| format!("{}: {error}", out.display()))
 }
 
 /// The cases that were asked for, files first.

@@ -2,17 +2,12 @@
 
 use crate::question::{Case, Question};
 
-/// The runners' module as another crate names it.
-pub const RUN: &str = "Rattle.record.specs.Run";
-
-/// The imports of a module whose runners are in this module.
-pub fn head(run: &str) -> String {
-    format!(
-        "use mathlib.Core.List.{{List, [], _∷_}}\n\
-         use mathlib.Core.Path.{{_≡_, refl}}\n\
-         use {run}.{{run·read, run·write, run·lookup}}\n"
-    )
-}
+/// The imports of a module.
+pub const HEAD: &str = "\
+use mathlib.Core.List.{List, [], _∷_}
+use mathlib.Core.Path.{_≡_, refl}
+use Rattle.record.specs.Run.{run·read, run·write, run·lookup}
+";
 
 /// The theorem that the definition gives what is expected.
 pub fn theorem(number: usize, case: &Case) -> String {
@@ -38,8 +33,8 @@ pub enum Runners {
 impl Runners {
     pub fn head(self) -> String {
         match self {
-            Self::AsDefined => head(RUN),
-            Self::Once => head(RUN) + ONCE,
+            Self::AsDefined => HEAD.to_string(),
+            Self::Once => HEAD.to_string() + ONCE,
         }
     }
 

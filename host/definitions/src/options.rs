@@ -3,12 +3,11 @@
 use std::path::PathBuf;
 
 use crate::files::Kind;
-use crate::module::RUN;
 
 pub const USAGE: &str = "\
 usage: tools/check-definitions [--generate N] [--seed S] [--texts FILE] [--records FILE]
                                [--lookups FILE] [--keep DIR] [--jobs K]
-       tools/check-definitions --sample N --out FILE [--seed S] [--run-module NAME]
+       tools/check-definitions --chosen DIR --out DIR
 Holds the definitions in crates/*/specs against the oracle: each case is a theorem that antt
 computes, in a scratch repository.
   --generate N       N texts, and a fifth as many records and lookups, from the oracle's generator
@@ -18,9 +17,8 @@ computes, in a scratch repository.
   --lookups FILE     frames: name, record, answer
   --keep DIR         make the scratch repository in DIR, and leave it there
   --jobs K           check K crates at a time; 2 if it is not given
-  --sample N         only write an antt module with N short cases
-  --out FILE         to this file
-  --run-module NAME  which imports the runners from this module
+  --chosen DIR       only write the antt modules of the questions in DIR, with their answers
+  --out DIR          to this folder
 ";
 
 #[derive(Debug)]
@@ -30,9 +28,8 @@ pub struct Options {
     pub files: Vec<(Kind, PathBuf)>,
     pub keep: Option<PathBuf>,
     pub jobs: usize,
-    pub sample: Option<usize>,
+    pub chosen: Option<PathBuf>,
     pub out: Option<PathBuf>,
-    pub run_module: String,
 }
 
 pub fn parse(mut words: impl Iterator<Item = String>) -> Result<Options, String> {
@@ -42,9 +39,8 @@ pub fn parse(mut words: impl Iterator<Item = String>) -> Result<Options, String>
         files: Vec::new(),
         keep: None,
         jobs: 2,
-        sample: None,
+        chosen: None,
         out: None,
-        run_module: RUN.to_string(),
     };
     while let Some(word) = words.next() {
         let value = words.next().ok_or(format!("{word} needs a value"));
@@ -66,9 +62,8 @@ fn set(options: &mut Options, word: &str, value: Result<String, String>) -> Resu
         "--lookups" => options.files.push((Kind::Lookups, value?.into())),
         "--keep" => options.keep = Some(value?.into()),
         "--jobs" => options.jobs = number(value?)?.clamp(1, 64) as usize,
-        "--sample" => options.sample = Some(number(value?)? as usize),
+        "--chosen" => options.chosen = Some(value?.into()),
         "--out" => options.out = Some(value?.into()),
-        "--run-module" => options.run_module = value?,
         _ => return Err(format!("{word} is not known\n{USAGE}")),
     }
     Ok(())
@@ -78,7 +73,7 @@ impl Options {
     /// The options, if they ask for one thing.
     fn complete(self) -> Result<Self, String> {
         let checks = self.generate.is_some() || !self.files.is_empty();
-        match (checks, self.sample.is_some(), self.out.is_some()) {
+        match (checks, self.chosen.is_some(), self.out.is_some()) {
             (true, false, false) | (false, true, true) => Ok(self),
             _ => Err(USAGE.to_string()),
         }
@@ -107,8 +102,8 @@ mod tests {
     #[test]
     fn something_must_be_asked_for() {
         assert_eq!(parsed("").expect_err("nothing"), USAGE);
-        assert_eq!(parsed("--sample 3").expect_err("no file"), USAGE);
-        assert!(parsed("--sample 3 --out f").is_ok());
-        assert!(parsed("--sample 3 --out f --generate 3").is_err());
+        assert_eq!(parsed("--chosen c").expect_err("no folder"), USAGE);
+        assert!(parsed("--chosen c --out f").is_ok());
+        assert!(parsed("--chosen c --out f --generate 3").is_err());
     }
 }
