@@ -6,6 +6,7 @@ pub mod CellWalk
 pub mod ChunkSound
 pub mod CodeLaws
 pub mod CommandWords
+pub mod CutLaws
 pub mod DeclaredFaults
 pub mod DeclaredHeld
 pub mod DimensionsFew

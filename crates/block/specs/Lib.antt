@@ -2,6 +2,7 @@
 pub mod Outcome
 pub mod Judged
 pub mod Commands
+pub mod CommandsCut
 pub mod NextWord
 pub mod Names
 pub mod NamesHeld
