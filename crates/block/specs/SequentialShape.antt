@@ -24,25 +24,27 @@ unfoldable pub cells·of·row : Sequence → ℕ
 cells·of·row Sequence.Between = 0
 cells·of·row (Sequence.Inside s row) = so·far row
 
--- A row begins with its name, which is none of these.
-unfoldable pub begun : List (List ℕ) → ℕ → Option (List ℕ) → Turned
-begun names i none = Turned.Refused Refusal.NotName i
-begun names i (some n) = pick (known n names) (Turned.Refused Refusal.TaxonTwice i) (Turned.On (Sequence.Inside i (Chunk.Plain 0)))
+-- A row begins with its name, which is none of these, if there are to be more rows.
+unfoldable pub named·shape : List (List ℕ) → ℕ → Option (List ℕ) → Turned
+named·shape names i none = Turned.Refused Refusal.NotName i
+named·shape names i (some n) = pick (known n names) (Turned.Refused Refusal.TaxonTwice i) (Turned.On (Sequence.Inside i (Chunk.Plain 0)))
+
+unfoldable pub begun·shape : ℕ → List (List ℕ) → Numbered → Turned
+begun·shape taxa names w = pick (eqb (length names) taxa) (Turned.Refused Refusal.Count (w .index)) (named·shape names (w .index) (label w))
 
 -- A row after one token more, the one of an index: a full row is complete; a word that is too much is refused.
-unfoldable pub grown : ℕ → ℕ → ℕ → Outcome Chunk → Turned
-grown characters s i (refused n j) = Turned.Refused n j
-grown characters s i (done (Chunk.Within n k mark empty)) = Turned.On (Sequence.Inside s (Chunk.Within n k mark empty))
-grown characters s i (done (Chunk.Plain n)) =
+unfoldable pub grown·shape : ℕ → ℕ → ℕ → Outcome Chunk → Turned
+grown·shape characters s i (refused n j) = Turned.Refused n j
+grown·shape characters s i (done (Chunk.Within n k mark empty)) = Turned.On (Sequence.Inside s (Chunk.Within n k mark empty))
+grown·shape characters s i (done (Chunk.Plain n)) =
     pick (ltb characters n) (Turned.Refused Refusal.Row i)
     (pick (eqb n characters) (Turned.Full s)
     (Turned.On (Sequence.Inside s (Chunk.Plain n))))
 
 -- One word of the matrix, behind rows of these names.
 unfoldable pub turn·shape : List ℕ → ℕ → ℕ → List (List ℕ) → Sequence → Numbered → Turned
-turn·shape codes taxa characters names Sequence.Between w =
-    pick (eqb (length names) taxa) (Turned.Refused Refusal.Count (w .index)) (begun names (w .index) (label w))
-turn·shape codes taxa characters names (Sequence.Inside s row) w = grown characters s (w .index) (chunk·shape codes row w)
+turn·shape codes taxa characters names Sequence.Between w = begun·shape taxa names w
+turn·shape codes taxa characters names (Sequence.Inside s row) w = grown·shape characters s (w .index) (chunk·shape codes row w)
 
 -- At the end of the matrix all rows must be there and whole.
 unfoldable pub open·shape : ℕ → Chunk → Rows
