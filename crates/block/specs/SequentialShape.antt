@@ -1,19 +1,23 @@
 -- A sequential matrix as the code judges it: by the shape of its rows, and by the names of those that are stored.
-use Prim.Native.Nat.{ℕ}
+use Prim.Native.Nat.{ℕ, _≤_}
 use lib.Dec.{ltb, eqb}
-use lib.ListN.{length}
+use lib.ListN.{length, take}
 use mathlib.Core.List.{List}
 use mathlib.Core.Option.{Option, none, some}
+use mathlib.Core.Path.{_≡_}
 use Rattle.lexer.specs.Base.{pick}
+use Rattle.lexer.specs.Stored.{range}
 use Rattle.lexer.specs.Words.{Numbered, label}
 use Rattle.lexer.specs.declared.refusal.Refusal.{Refusal}
+use Rattle.block.specs.Codes.{Coded}
+use Rattle.block.specs.Commands.{words}
 use Rattle.block.specs.Format.{Format}
 use Rattle.block.specs.Lines.{stored, rows·sequential}
 use Rattle.block.specs.Names.{known}
 use Rattle.block.specs.Outcome.{Outcome, done, refused}
 use Rattle.block.specs.Reading.{Taxon}
 use Rattle.block.specs.RowShape.{so·far, chunk·shape}
-use Rattle.block.specs.declared.matrix.Bracket.{Bracket}
+use Rattle.block.specs.Sequential.{sequential}
 use Rattle.block.specs.declared.matrix.Chunk.{Chunk}
 use Rattle.block.specs.declared.matrix.Rows.{Rows}
 use Rattle.block.specs.declared.matrix.Sequence.{Sequence}
@@ -59,3 +63,11 @@ end·shape taxa head rows (Sequence.Inside s row) = open·shape s row
 unfoldable pub sequenced : List ℕ → List ℕ → ℕ → Format → ℕ → ℕ → Rows → Outcome (List Taxon)
 sequenced text work at f n to (Rows.Done rows) = done (rows·sequential text work f n to (stored work at rows))
 sequenced text work at f n to (Rows.Refused m i) = refused m i
+
+-- What is promised of a sequential matrix that was read from the tokens of two indices: work memory is as it was in front of the rows, of which there
+-- are no more than tokens; and whatever format has these codes, the answer means the rows that it reads, or its refusal.
+pub record Rows·read (text codes before after : List ℕ) (at from to taxa characters head : ℕ) (r : Rows) : Type 0 where
+  pub kept : take at after ≡ take at before
+  pub few : (n : ℕ) → r ≡ Rows.Done n → n ≤ to
+  pub read : (f : Format) → Coded f codes → length (f .symbols) ≤ 74
+      → sequenced text after at f characters to r ≡ sequential (record { taxa = taxa; characters = characters; format = f; head = head }) (words (range text before from to))

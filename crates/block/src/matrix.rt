@@ -6,7 +6,7 @@ ghost use Rattle.block.specs.Codes.{coded};
 ghost use Rattle.block.specs.Lines.{name·at, names·stored, stored};
 ghost use Rattle.block.specs.Names.{known};
 ghost use Rattle.block.specs.RowShape.{symbols·coded, chunk·shape, chunked·of, so·far};
-ghost use Rattle.block.specs.SequentialShape.{begun·shape, cells·of·row, end·shape, grown·shape, sequenced, turn·shape};
+ghost use Rattle.block.specs.SequentialShape.{begun·shape, cells·of·row, end·shape, grown·shape, turn·shape};
 ghost use Rattle.lexer.specs.Lexing.{token·at};
 ghost use Rattle.lexer.specs.Stored.{word·of};
 ghost use lib.ListN.{length, getD};
@@ -254,5 +254,31 @@ fn sequential_end(line: Sequence, taxa: u64, head: usize, rows: usize) -> Rows
             Chunk::Plain(_) => Rows::Refused(Refusal::Row, s),
             Chunk::Within(_, _, mark, _) => Rows::Refused(Refusal::StateSet, mark),
         },
+    }
+}
+
+// One word of a sequential matrix, behind so many rows.
+fn sequential_turn(
+    text: &[u8],
+    work: &[u32],
+    at: usize,
+    rows: usize,
+    i: usize,
+    taxa: u64,
+    characters: u64,
+    codes: &[u8; 256],
+    line: Sequence,
+) -> Turned
+    requires { ⌜ (at + rows ≤ length (now work)) × (cells·of·row line ≤ 2 ^ 41) ⌝ }
+    ensures { λ r. ⌜ r ≡ turn·shape (now (codes .entry)) taxa characters (names·stored (now (text .entry)) (now (work .entry)) (stored (now (work .entry)) at rows)) line (word·of (now (text .entry)) (now (work .entry)) i) ⌝ }
+{
+    match line {
+        Sequence::Between => row_begins(text, work, at, rows, i, taxa),
+        Sequence::Inside(s, row) => row_grown(
+            chunk_at(text, work, i, codes, row),
+            characters,
+            s,
+            i,
+        ),
     }
 }
