@@ -1,7 +1,7 @@
 // The options of FORMAT, after mod.rs.
 
 ghost use Prim.Native.Nat.{ℕ};
-ghost use Rattle.block.specs.Format.{format·option, format·value, key, key·option, once, single·symbol, valid·symbol};
+ghost use Rattle.block.specs.Format.{format·option, format·turn, format·value, key, key·option, once, single·symbol, valid·symbol};
 ghost use Rattle.block.specs.Formats.{formatted·of, formatting·of, options·of, sign·of};
 ghost use Rattle.block.specs.declared.formats.Valued.{Valued};
 ghost use Rattle.lexer.specs.Stored.{word·of};
@@ -11,6 +11,7 @@ ghost use mathlib.Core.Path.{_≡_};
 use super::formats::Key;
 use super::formats::Valued;
 use super::words::is;
+use super::words::punct;
 use lexer::Item;
 use lexer::Kind;
 use lexer::Refusal;
@@ -248,4 +249,46 @@ fn interleave_value(text: &[u8], work: &[u32], o: Options, option: usize, i: usi
         return Formatted::On(Formatting::Option(p));
     }
     Formatted::Refused(Refusal::FormatOption, i)
+}
+
+// The value of an option.
+fn format_value(
+    text: &[u8],
+    work: &[u32],
+    o: Options,
+    key: Valued,
+    option: usize,
+    i: usize,
+) -> Formatted
+    ensures { λ r. ⌜ formatted·of (now (text .entry)) (now (work .entry)) r ≡ format·value (options·of (now (text .entry)) (now (work .entry)) o) key option (word·of (now (text .entry)) (now (work .entry)) i) ⌝ }
+{
+    match key {
+        Valued::DataType => type_value(text, work, o, option, i),
+        Valued::Interleave => interleave_value(text, work, o, option, i),
+        Valued::Symbols => symbols_value(text, work, o, option, i),
+        Valued::Missing => missing_value(text, work, o, option, i),
+        Valued::Gap => gap_value(text, work, o, option, i),
+    }
+}
+
+// One word more.
+fn format_turn(text: &[u8], work: &[u32], mode: Formatting, i: usize) -> Formatted
+    ensures { λ r. ⌜ formatted·of (now (text .entry)) (now (work .entry)) r ≡ format·turn (formatting·of (now (text .entry)) (now (work .entry)) mode) (word·of (now (text .entry)) (now (work .entry)) i) ⌝ }
+{
+    match mode {
+        Formatting::Option(o) => format_option(text, work, o, i),
+        Formatting::Perhaps(o, option) => {
+            if punct(text, work, i, b'=') {
+                return Formatted::On(Formatting::Value(o, Valued::Interleave, option));
+            }
+            format_option(text, work, o, i)
+        }
+        Formatting::Equals(o, key, option) => {
+            if punct(text, work, i, b'=') {
+                return Formatted::On(Formatting::Value(o, key, option));
+            }
+            Formatted::Refused(Refusal::NoValue, option)
+        }
+        Formatting::Value(o, key, option) => format_value(text, work, o, key, option, i),
+    }
 }
