@@ -10,6 +10,7 @@ use Rattle.lexer.specs.Stored.{word·of}
 use Rattle.block.specs.Format as F
 use Rattle.block.specs.Outcome.{Outcome, done, refused}
 use Rattle.block.specs.declared.data.DataType.{DataType}
+use Rattle.block.specs.declared.format_options.FormatAnswer.{FormatAnswer}
 use Rattle.block.specs.declared.format_options.Formatted.{Formatted}
 use Rattle.block.specs.declared.format_options.Formatting.{Formatting}
 use Rattle.block.specs.declared.format_options.Options.{Options}
@@ -61,3 +62,12 @@ formatting·of text work (Formatting.Value o k i) = F.value (options·of text wo
 unfoldable pub formatted·of : List ℕ → List ℕ → Formatted → Outcome F.Formatting
 formatted·of text work (Formatted.On m) = done (formatting·of text work m)
 formatted·of text work (Formatted.Refused n i) = refused n i
+
+-- An answer as the options that were given, and as the format that they give.
+unfoldable pub optioned : List ℕ → List ℕ → FormatAnswer → Outcome F.Options
+optioned text work (FormatAnswer.Done o) = done (options·of text work o)
+optioned text work (FormatAnswer.Refused n i) = refused n i
+
+unfoldable pub formatted : List ℕ → List ℕ → FormatAnswer → Outcome F.Format
+formatted text work (FormatAnswer.Done o) = done (F.format·of (options·of text work o))
+formatted text work (FormatAnswer.Refused n i) = refused n i

@@ -1,16 +1,19 @@
 // The options of FORMAT, after mod.rs.
 
 ghost use Prim.Native.Nat.{ℕ};
-ghost use Rattle.block.specs.Format.{format·option, format·turn, format·value, key, key·option, once, single·symbol, valid·symbol};
-ghost use Rattle.block.specs.Formats.{formatted·of, formatting·of, options·of, sign·of};
+ghost use Rattle.block.specs.Commands.{words};
+ghost use Rattle.block.specs.Format.{format·end, format·option, format·turn, format·value, key, key·option, no·options, once, option, single·symbol, valid·symbol};
+ghost use Rattle.block.specs.Formats.{formatted·of, formatting·of, optioned, options·of, sign·of};
+ghost use Rattle.block.specs.Outcome.{fold, then};
 ghost use Rattle.block.specs.declared.formats.Valued.{Valued};
-ghost use Rattle.lexer.specs.Stored.{word·of};
+ghost use Rattle.lexer.specs.Stored.{range, word·of};
 ghost use Rattle.lexer.specs.Words.{string?};
 ghost use mathlib.Core.List.{List};
 ghost use mathlib.Core.Path.{_≡_};
 use super::formats::Key;
 use super::formats::Valued;
 use super::words::is;
+use super::words::newline;
 use super::words::punct;
 use lexer::Item;
 use lexer::Kind;
@@ -42,6 +45,23 @@ impl Options {
     pub const NO: u8 = 1;
 
     pub const YES: u8 = 2;
+
+    // Nothing was given.
+    fn none() -> Self
+        ensures { λ r. ⌜ ((text work : List ℕ) → options·of text work r ≡ no·options) ⌝ }
+    {
+        Options {
+            data_type: 0,
+            has_symbols: false,
+            symbols: 0,
+            missing: 0,
+            gap: 0,
+            interleave: 0,
+            respect_case: false,
+            labels: false,
+            no_tokens: false,
+        }
+    }
 }
 
 // Where the command is: at an option; behind INTERLEAVE, at its `=` or the next option; or behind the option with an index, at its `=` or value.
@@ -55,6 +75,12 @@ pub enum Formatting {
 // What one word more comes to: the command goes on, or the refusal of the token with an index.
 pub enum Formatted {
     On(Formatting),
+    Refused(Refusal, usize),
+}
+
+// What the command comes to: the options that were given, or the refusal of the token with an index.
+pub enum FormatAnswer {
+    Done(Options),
     Refused(Refusal, usize),
 }
 
@@ -290,5 +316,51 @@ fn format_turn(text: &[u8], work: &[u32], mode: Formatting, i: usize) -> Formatt
             Formatted::Refused(Refusal::NoValue, option)
         }
         Formatting::Value(o, key, option) => format_value(text, work, o, key, option, i),
+    }
+}
+
+// The words from an index up to another, newlines passed over.
+fn format_walk(text: &[u8], work: &[u32], from: usize, to: usize) -> Formatted
+    ensures { λ r. ⌜ formatted·of (now (text .entry)) (now (work .entry)) r ≡ fold format·turn (option no·options) (words (range (now (text .entry)) (now (work .entry)) from to)) ⌝ }
+{
+    let mut mode = Formatting::Option(Options::none());
+    let mut i = from;
+    while i < to {
+        if newline(text, work, i) {
+            i += 1;
+        } else {
+            match format_turn(text, work, mode, i) {
+                Formatted::On(next) => {
+                    mode = next;
+                    i += 1;
+                }
+                Formatted::Refused(n, j) => {
+                    return Formatted::Refused(n, j);
+                }
+            }
+        }
+    }
+    Formatted::On(mode)
+}
+
+// The end of the command: an option that waits for its value is refused.
+fn format_end(mode: Formatting) -> FormatAnswer
+    ensures { λ r. ⌜ ((text work : List ℕ) → optioned text work r ≡ format·end (formatting·of text work mode)) ⌝ }
+{
+    match mode {
+        Formatting::Option(o) => FormatAnswer::Done(o),
+        Formatting::Perhaps(o, _) => FormatAnswer::Done(o),
+        Formatting::Equals(_, _, option) => FormatAnswer::Refused(Refusal::NoValue, option),
+        Formatting::Value(_, _, option) => FormatAnswer::Refused(Refusal::NoValue, option),
+    }
+}
+
+// The options that the words of the command give.
+fn format_options(text: &[u8], work: &[u32], from: usize, to: usize) -> FormatAnswer
+    ensures { λ r. ⌜ optioned (now (text .entry)) (now (work .entry)) r ≡ then (fold format·turn (option no·options) (words (range (now (text .entry)) (now (work .entry)) from to))) format·end ⌝ }
+{
+    match format_walk(text, work, from, to) {
+        Formatted::On(mode) => format_end(mode),
+        Formatted::Refused(n, i) => FormatAnswer::Refused(n, i),
     }
 }
