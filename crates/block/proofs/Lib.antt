@@ -25,6 +25,7 @@ pub mod RowsSmall
 pub mod RowsSound
 pub mod ShapeLaws
 pub mod SoundParts
+pub mod SymbolText
 pub mod SymbolWalk
 pub mod TaxaFollow
 pub mod WalkLaws

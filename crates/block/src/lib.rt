@@ -9,6 +9,7 @@ pub mod formats;
 pub mod labels;
 pub mod matrix;
 pub mod model;
+pub mod symbols;
 pub mod words;
 
 use lexer::Refusal;
