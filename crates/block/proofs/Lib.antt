@@ -54,6 +54,7 @@ pub mod ShapeLaws
 pub mod SoundParts
 pub mod StoredRows
 pub mod SymbolCounts
+pub mod SymbolText
 pub mod SymbolWalk
 pub mod TaxaFollow
 pub mod TokenFaults

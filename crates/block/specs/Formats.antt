@@ -1,15 +1,17 @@
 -- What the code's format and its options mean: the symbols of a format are the first of its array, those of the options the text of a token by its
 -- index, and a sign of 0 is none.
-use Prim.Native.Nat.{ℕ, zero, suc}
-use lib.ListN.{take}
+use Prim.Native.Nat.{ℕ, zero, suc, _≤_, _<_}
+use lib.ListN.{length, take}
 use mathlib.Core.Bool.{Bool, true, false}
 use mathlib.Core.List.{List}
 use mathlib.Core.Option.{Option, none, some}
+use mathlib.Core.Path.{_≡_}
 use Rattle.lexer.specs.Base.{pick}
 use Rattle.lexer.specs.Stored.{word·of}
 use Rattle.block.specs.Format as F
 use Rattle.block.specs.Outcome.{Outcome, done, refused}
 use Rattle.block.specs.declared.data.DataType.{DataType}
+use Rattle.block.specs.declared.format_options.FormatAnswer.{FormatAnswer}
 use Rattle.block.specs.declared.format_options.Formatted.{Formatted}
 use Rattle.block.specs.declared.format_options.Formatting.{Formatting}
 use Rattle.block.specs.declared.format_options.Options.{Options}
@@ -61,3 +63,17 @@ formatting·of text work (Formatting.Value o k i) = F.value (options·of text wo
 unfoldable pub formatted·of : List ℕ → List ℕ → Formatted → Outcome F.Formatting
 formatted·of text work (Formatted.On m) = done (formatting·of text work m)
 formatted·of text work (Formatted.Refused n i) = refused n i
+
+-- An answer as the options that were given, and as the format that they give.
+unfoldable pub optioned : List ℕ → List ℕ → FormatAnswer → Outcome F.Options
+optioned text work (FormatAnswer.Done o) = done (options·of text work o)
+optioned text work (FormatAnswer.Refused n i) = refused n i
+
+unfoldable pub formatted : List ℕ → List ℕ → FormatAnswer → Outcome F.Format
+formatted text work (FormatAnswer.Done o) = done (F.format·of (options·of text work o))
+formatted text work (FormatAnswer.Refused n i) = refused n i
+
+-- These are the symbols of a list, so many from the front of an array; a count above 74 says that there are more than 74.
+pub record Listed (bytes : List ℕ) (count : ℕ) (l : List ℕ) : Type 0 where
+  pub few : count ≤ 74 → take count bytes ≡ l
+  pub many : 74 < count → 74 < length l

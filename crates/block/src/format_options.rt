@@ -1,16 +1,20 @@
 // The options of FORMAT, after mod.rs.
 
 ghost use Prim.Native.Nat.{ℕ};
-ghost use Rattle.block.specs.Format.{format·option, format·value, key, key·option, once, single·symbol, valid·symbol};
-ghost use Rattle.block.specs.Formats.{formatted·of, formatting·of, options·of, sign·of};
+ghost use Rattle.block.specs.Commands.{words};
+ghost use Rattle.block.specs.Format.{format·end, format·option, format·turn, format·value, key, key·option, no·options, once, option, single·symbol, valid·symbol};
+ghost use Rattle.block.specs.Formats.{formatted·of, formatting·of, optioned, options·of, sign·of};
+ghost use Rattle.block.specs.Outcome.{fold, then};
 ghost use Rattle.block.specs.declared.formats.Valued.{Valued};
-ghost use Rattle.lexer.specs.Stored.{word·of};
+ghost use Rattle.lexer.specs.Stored.{range, word·of};
 ghost use Rattle.lexer.specs.Words.{string?};
 ghost use mathlib.Core.List.{List};
 ghost use mathlib.Core.Path.{_≡_};
 use super::formats::Key;
 use super::formats::Valued;
 use super::words::is;
+use super::words::newline;
+use super::words::punct;
 use lexer::Item;
 use lexer::Kind;
 use lexer::Refusal;
@@ -41,6 +45,23 @@ impl Options {
     pub const NO: u8 = 1;
 
     pub const YES: u8 = 2;
+
+    // Nothing was given.
+    fn none() -> Self
+        ensures { λ r. ⌜ ((text work : List ℕ) → options·of text work r ≡ no·options) ⌝ }
+    {
+        Options {
+            data_type: 0,
+            has_symbols: false,
+            symbols: 0,
+            missing: 0,
+            gap: 0,
+            interleave: 0,
+            respect_case: false,
+            labels: false,
+            no_tokens: false,
+        }
+    }
 }
 
 // Where the command is: at an option; behind INTERLEAVE, at its `=` or the next option; or behind the option with an index, at its `=` or value.
@@ -54,6 +75,12 @@ pub enum Formatting {
 // What one word more comes to: the command goes on, or the refusal of the token with an index.
 pub enum Formatted {
     On(Formatting),
+    Refused(Refusal, usize),
+}
+
+// What the command comes to: the options that were given, or the refusal of the token with an index.
+pub enum FormatAnswer {
+    Done(Options),
     Refused(Refusal, usize),
 }
 
@@ -248,4 +275,92 @@ fn interleave_value(text: &[u8], work: &[u32], o: Options, option: usize, i: usi
         return Formatted::On(Formatting::Option(p));
     }
     Formatted::Refused(Refusal::FormatOption, i)
+}
+
+// The value of an option.
+fn format_value(
+    text: &[u8],
+    work: &[u32],
+    o: Options,
+    key: Valued,
+    option: usize,
+    i: usize,
+) -> Formatted
+    ensures { λ r. ⌜ formatted·of (now (text .entry)) (now (work .entry)) r ≡ format·value (options·of (now (text .entry)) (now (work .entry)) o) key option (word·of (now (text .entry)) (now (work .entry)) i) ⌝ }
+{
+    match key {
+        Valued::DataType => type_value(text, work, o, option, i),
+        Valued::Interleave => interleave_value(text, work, o, option, i),
+        Valued::Symbols => symbols_value(text, work, o, option, i),
+        Valued::Missing => missing_value(text, work, o, option, i),
+        Valued::Gap => gap_value(text, work, o, option, i),
+    }
+}
+
+// One word more.
+fn format_turn(text: &[u8], work: &[u32], mode: Formatting, i: usize) -> Formatted
+    ensures { λ r. ⌜ formatted·of (now (text .entry)) (now (work .entry)) r ≡ format·turn (formatting·of (now (text .entry)) (now (work .entry)) mode) (word·of (now (text .entry)) (now (work .entry)) i) ⌝ }
+{
+    match mode {
+        Formatting::Option(o) => format_option(text, work, o, i),
+        Formatting::Perhaps(o, option) => {
+            if punct(text, work, i, b'=') {
+                return Formatted::On(Formatting::Value(o, Valued::Interleave, option));
+            }
+            format_option(text, work, o, i)
+        }
+        Formatting::Equals(o, key, option) => {
+            if punct(text, work, i, b'=') {
+                return Formatted::On(Formatting::Value(o, key, option));
+            }
+            Formatted::Refused(Refusal::NoValue, option)
+        }
+        Formatting::Value(o, key, option) => format_value(text, work, o, key, option, i),
+    }
+}
+
+// The words from an index up to another, newlines passed over.
+fn format_walk(text: &[u8], work: &[u32], from: usize, to: usize) -> Formatted
+    ensures { λ r. ⌜ formatted·of (now (text .entry)) (now (work .entry)) r ≡ fold format·turn (option no·options) (words (range (now (text .entry)) (now (work .entry)) from to)) ⌝ }
+{
+    let mut mode = Formatting::Option(Options::none());
+    let mut i = from;
+    while i < to {
+        if newline(text, work, i) {
+            i += 1;
+        } else {
+            match format_turn(text, work, mode, i) {
+                Formatted::On(next) => {
+                    mode = next;
+                    i += 1;
+                }
+                Formatted::Refused(n, j) => {
+                    return Formatted::Refused(n, j);
+                }
+            }
+        }
+    }
+    Formatted::On(mode)
+}
+
+// The end of the command: an option that waits for its value is refused.
+fn format_end(mode: Formatting) -> FormatAnswer
+    ensures { λ r. ⌜ ((text work : List ℕ) → optioned text work r ≡ format·end (formatting·of text work mode)) ⌝ }
+{
+    match mode {
+        Formatting::Option(o) => FormatAnswer::Done(o),
+        Formatting::Perhaps(o, _) => FormatAnswer::Done(o),
+        Formatting::Equals(_, _, option) => FormatAnswer::Refused(Refusal::NoValue, option),
+        Formatting::Value(_, _, option) => FormatAnswer::Refused(Refusal::NoValue, option),
+    }
+}
+
+// The options that the words of the command give.
+fn format_options(text: &[u8], work: &[u32], from: usize, to: usize) -> FormatAnswer
+    ensures { λ r. ⌜ optioned (now (text .entry)) (now (work .entry)) r ≡ then (fold format·turn (option no·options) (words (range (now (text .entry)) (now (work .entry)) from to))) format·end ⌝ }
+{
+    match format_walk(text, work, from, to) {
+        Formatted::On(mode) => format_end(mode),
+        Formatted::Refused(n, i) => FormatAnswer::Refused(n, i),
+    }
 }
