@@ -28,4 +28,6 @@ pub mod SymbolWalk
 pub mod TaxaFollow
 pub mod WalkLaws
 pub mod TypesHeldLaws
+pub mod TypesetWalks
+pub mod VectorTypes
 pub mod Weights
