@@ -61,5 +61,7 @@ pub mod TokenFaults
 pub mod ToldFaults
 pub mod TypeFaults
 pub mod TypesHeldLaws
+pub mod TypesetWalks
+pub mod VectorTypes
 pub mod WalkLaws
 pub mod Weights

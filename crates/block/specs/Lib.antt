@@ -25,6 +25,7 @@ pub mod Labels
 pub mod CharacterList
 pub mod Typeset
 pub mod TypesHeld
+pub mod TypesetWalk
 pub mod Blocks
 pub mod Parse
 pub mod Sound

@@ -1,22 +1,27 @@
 // ASSUMPTIONS, after assumptions.rs: OPTIONS and TYPESET.
 
-ghost use Prim.Native.Nat.{_+_, _-_, _≤_, min};
+ghost use Prim.Native.Nat.{ℕ, _+_, _-_, _≤_, min};
 ghost use Rattle.block.specs.Blocks.{options};
 ghost use Rattle.block.specs.Commands.{words};
 ghost use Rattle.block.specs.NextWord.{Next};
 ghost use Rattle.block.specs.Outcome.{need};
-ghost use Rattle.block.specs.Typeset.{ordering, typed·range};
+ghost use Rattle.block.specs.Typeset.{ordering, typed·range, star, name, named, form, close, equals, types, typeset·turn, Typeset};
 ghost use Rattle.block.specs.TypesHeld.{type·number, type·word, options·answer, types·held, unless·twice};
+ghost use Rattle.block.specs.TypesetWalk.{set·of, typeset·at, after·equals, placed·then, form·then, form·word};
+ghost use Rattle.block.specs.Judged.{judged};
 ghost use Rattle.lexer.specs.Base.{pick};
 ghost use Rattle.lexer.specs.Stored.{word·of, range};
 ghost use Rattle.lexer.specs.declared.refusal.Refusal as R;
 ghost use lib.Dec.{eqb, ltb};
 ghost use lib.ListN.{length, take, getD, set, replicate};
 ghost use mathlib.Core.Bool.{_&&_, _||_, not};
+ghost use mathlib.Core.List.{[]};
 ghost use mathlib.Core.Option.{none};
 ghost use mathlib.Core.Path.{_≡_};
+use super::Judged;
 use super::model::CharacterOrdering;
 use super::words::is;
+use super::words::named;
 use super::words::newline;
 use super::words::punct;
 use lexer::Refusal;
@@ -58,6 +63,24 @@ pub enum TypeWord {
 // The default type, or the refusal of the token with an index.
 pub enum OptionsAnswer {
     Type(CharacterOrdering),
+    Refused(Refusal, usize),
+}
+
+// Where a command goes on, or the refusal of the token with an index.
+pub enum Placed {
+    At(usize),
+    Refused(Refusal, usize),
+}
+
+// The form that a word is, or none.
+pub enum FormWord {
+    Form(Form),
+    None,
+}
+
+// The form of a set and where it goes on, or the refusal of the token with an index.
+pub enum FormAnswer {
+    Form(Form, usize),
     Refused(Refusal, usize),
 }
 
@@ -199,4 +222,204 @@ fn clear_types(work: &mut [u32], at: usize, count: usize)
         work[at + k] = 0;
         k += 1;
     }
+}
+
+// The name of a set.
+fn name_from(text: &[u8], work: &[u32], head: usize, from: usize, to: usize) -> Placed
+    ensures { λ r. ⌜ ((n : ℕ) → placed·then r (typeset·at (set·of n head) (now (text .entry)) (now (work .entry)) to named) ≡ typeset·at (set·of n head) (now (text .entry)) (now (work .entry)) to name from) ⌝ }
+{
+    let i = next_word(text, work, from, to);
+    if to <= i {
+        return Placed::Refused(Refusal::TypeSet, head);
+    }
+    if named(text, work, i) {
+        return Placed::At(i + 1);
+    }
+    Placed::Refused(Refusal::NotName, i)
+}
+
+// A `*` or none, and the name.
+fn star_name(text: &[u8], work: &[u32], head: usize, from: usize, to: usize) -> Placed
+    ensures { λ r. ⌜ ((n : ℕ) → placed·then r (typeset·at (set·of n head) (now (text .entry)) (now (work .entry)) to named) ≡ typeset·at (set·of n head) (now (text .entry)) (now (work .entry)) to star from) ⌝ }
+{
+    let i = next_word(text, work, from, to);
+    if to <= i {
+        return Placed::Refused(Refusal::TypeSet, head);
+    }
+    if punct(text, work, i, b'*') {
+        return name_from(text, work, head, i + 1, to);
+    }
+    name_from(text, work, head, from, to)
+}
+
+// The form that a word is.
+fn form_word(text: &[u8], work: &[u32], i: usize) -> FormWord
+    ensures { λ r. ⌜ ((t : Typeset) → form·word r i ≡ typeset·turn t form (word·of (now (text .entry)) (now (work .entry)) i)) ⌝ }
+{
+    if is(text, work, i, b"VECTOR") {
+        return FormWord::Form(Form::Vector);
+    }
+    if is(text, work, i, b"STANDARD") {
+        return FormWord::Form(Form::Standard);
+    }
+    FormWord::None
+}
+
+// The `)` behind the word of a form with an index.
+fn close_from(
+    text: &[u8],
+    work: &[u32],
+    form: Form,
+    word: usize,
+    from: usize,
+    to: usize,
+) -> FormAnswer
+    ensures { λ r. ⌜ ((t : Typeset) → form·then r (λ f. typeset·at t (now (text .entry)) (now (work .entry)) to (equals f)) ≡ typeset·at t (now (text .entry)) (now (work .entry)) to (close form word) from) ⌝ }
+{
+    let i = next_word(text, work, from, to);
+    if to <= i {
+        return FormAnswer::Refused(Refusal::TypeSet, word);
+    }
+    if punct(text, work, i, b')') {
+        return FormAnswer::Form(form, i + 1);
+    }
+    FormAnswer::Refused(Refusal::TypeSet, word)
+}
+
+// The form behind a `(`.
+fn form_from(text: &[u8], work: &[u32], head: usize, from: usize, to: usize) -> FormAnswer
+    ensures { λ r. ⌜ ((n : ℕ) → form·then r (λ f. typeset·at (set·of n head) (now (text .entry)) (now (work .entry)) to (equals f)) ≡ typeset·at (set·of n head) (now (text .entry)) (now (work .entry)) to form from) ⌝ }
+{
+    let i = next_word(text, work, from, to);
+    if to <= i {
+        return FormAnswer::Refused(Refusal::TypeSet, head);
+    }
+    match form_word(text, work, i) {
+        FormWord::Form(f) => close_from(text, work, f, i, i + 1, to),
+        FormWord::None => FormAnswer::Refused(Refusal::TypeSet, i),
+    }
+}
+
+// The form of a set, in parentheses; without them it is STANDARD.
+fn form_or_standard(text: &[u8], work: &[u32], head: usize, from: usize, to: usize) -> FormAnswer
+    ensures { λ r. ⌜ ((n : ℕ) → form·then r (λ f. typeset·at (set·of n head) (now (text .entry)) (now (work .entry)) to (equals f)) ≡ typeset·at (set·of n head) (now (text .entry)) (now (work .entry)) to named from) ⌝ }
+{
+    let i = next_word(text, work, from, to);
+    if to <= i {
+        return FormAnswer::Refused(Refusal::TypeSet, head);
+    }
+    if punct(text, work, i, b'(') {
+        return form_from(text, work, head, i + 1, to);
+    }
+    FormAnswer::Form(Form::Standard, from)
+}
+
+// The `=` behind the form.
+fn equals_from(
+    text: &[u8],
+    work: &[u32],
+    head: usize,
+    form: Form,
+    from: usize,
+    to: usize,
+) -> FormAnswer
+    ensures { λ r. ⌜ ((n : ℕ) → form·then r (λ f. typeset·at (set·of n head) (now (text .entry)) (now (work .entry)) to (after·equals n f)) ≡ typeset·at (set·of n head) (now (text .entry)) (now (work .entry)) to (equals form) from) ⌝ }
+{
+    let i = next_word(text, work, from, to);
+    if to <= i {
+        return FormAnswer::Refused(Refusal::TypeSet, head);
+    }
+    if punct(text, work, i, b'=') {
+        return FormAnswer::Form(form, i + 1);
+    }
+    FormAnswer::Refused(Refusal::TypeSet, head)
+}
+
+// All up to the `=`: a `*` or none, a name, a form or none.
+fn typeset_head(text: &[u8], work: &[u32], head: usize, from: usize, to: usize) -> FormAnswer
+    ensures { λ r. ⌜ ((n : ℕ) → form·then r (λ f. typeset·at (set·of n head) (now (text .entry)) (now (work .entry)) to (after·equals n f)) ≡ typeset·at (set·of n head) (now (text .entry)) (now (work .entry)) to star from) ⌝ }
+{
+    match star_name(text, work, head, from, to) {
+        Placed::At(i) => match form_or_standard(text, work, head, i, to) {
+            FormAnswer::Form(f, j) => equals_from(text, work, head, f, j, to),
+            FormAnswer::Refused(n, j) => FormAnswer::Refused(n, j),
+        },
+        Placed::Refused(n, i) => FormAnswer::Refused(n, i),
+    }
+}
+
+// How many words there are.
+fn count_words(text: &[u8], work: &[u32], from: usize, to: usize) -> usize
+    ensures { λ r. ⌜ r ≡ length (words (range (now (text .entry)) (now (work .entry)) from to)) ⌝ }
+{
+    let mut count: usize = 0;
+    let mut i = from;
+    loop {
+        let j = next_word(text, work, i, to);
+        if to <= j {
+            return count;
+        }
+        count += 1;
+        i = j + 1;
+    }
+}
+
+// The types of a VECTOR, one for each character, or the first word that is none.
+fn vector_types(
+    text: &[u8],
+    work: &mut [u32],
+    head: usize,
+    from: usize,
+    to: usize,
+    at: usize,
+    characters: usize,
+) -> Judged
+    requires { ⌜ (to ≤ at) × (at + characters ≤ length (now work)) ⌝ }
+    requires { ⌜ length (words (range (now text) (now work) from to)) ≡ characters ⌝ }
+    requires { ⌜ 1 ≤ characters ⌝ }
+    ensures front { λ r. ⌜ take at (now (work .exit)) ≡ take at (now (work .entry)) ⌝ }
+    ensures answer { λ r. ⌜ judged (types·held (now (work .exit)) at characters) r ≡ typeset·at (set·of characters head) (now (text .entry)) (now (work .entry)) to (types [] none) from ⌝ }
+{
+    let mut i = from;
+    let mut k = 0;
+    loop {
+        let j = next_word(text, work, i, to);
+        if to <= j {
+            return Judged::Good;
+        }
+        match ordering(text, work, j) {
+            TypeWord::Type(o) => {
+                work[at + k] = type_number(o);
+                k += 1;
+                i = j + 1;
+            }
+            TypeWord::None => {
+                return Judged::Refused(Refusal::TypeSet, j);
+            }
+        }
+    }
+}
+
+// A VECTOR: the count is judged before the words.
+fn vector(
+    text: &[u8],
+    work: &mut [u32],
+    head: usize,
+    from: usize,
+    to: usize,
+    at: usize,
+    characters: usize,
+) -> Judged
+    requires { ⌜ (to ≤ at) × (at + characters ≤ length (now work)) ⌝ }
+    ensures front { λ r. ⌜ take at (now (work .exit)) ≡ take at (now (work .entry)) ⌝ }
+    ensures answer { λ r. ⌜ judged (types·held (now (work .exit)) at characters) r ≡ typeset·at (set·of characters head) (now (text .entry)) (now (work .entry)) to (types [] none) from ⌝ }
+{
+    let count = count_words(text, work, from, to);
+    if count == 0 {
+        return Judged::Refused(Refusal::TypeSet, head);
+    }
+    if count != characters {
+        return Judged::Refused(Refusal::Count, head);
+    }
+    vector_types(text, work, head, from, to, at, characters)
 }
