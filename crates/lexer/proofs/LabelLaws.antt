@@ -1,4 +1,5 @@
--- When a token is a name; and what a name is, once `_` is read as a blank: UTF-8 without `_` and CR, and not all White_Space unless it holds a U+0020. Assumes nothing.
+-- When a token is a name; and what a name is, once `_` is read as a blank: UTF-8 without `_` and CR, and not all White_Space unless it holds a
+-- U+0020. Assumes nothing.
 use Prim.Native.Nat.{ℕ, zero, suc, _≤_}
 use Rattle.lexer.proofs.Basics.{by-test, and-left, and-right, or-left, or-right, or-both, or-true, or-first, pick-first, pick-second, picked, picked-value}
 use Rattle.lexer.proofs.TextUtf8.{behind}

@@ -9,7 +9,7 @@ use Rattle.lexer.specs.Words.{numbered, is, punct, label, number}
 use lib.ListN.{length, drop, getD, drop-of-length-le}
 use mathlib.Core.List.{List, [], _∷_}
 use mathlib.Core.Option.{none}
-use mathlib.Core.Path.{_≡_, refl, sym, ap, _∙_}
+use mathlib.Core.Path.{_≡_, refl}
 use native.Mathlib.Numerals.{add-one}
 use native.Mathlib.Omega.{arith}
 

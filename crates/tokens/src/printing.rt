@@ -16,6 +16,7 @@ use lexer::lex;
 use lexer::next_byte;
 use lexer::place_at;
 use lexer::refusal_number;
+use lexer::start_of;
 use lexer::text_start;
 
 // The kind and a blank.
@@ -38,9 +39,7 @@ fn put_place(p: Place, out: &mut [u8], n: usize) -> usize {
 }
 
 // The text of the token at `start`, in hexadecimal.
-fn put_text(text: &[u8], start: usize, out: &mut [u8], n: usize) -> usize
-    requires { ⌜ start < length (now text) ⌝ }
-{
+fn put_text(text: &[u8], start: usize, out: &mut [u8], n: usize) -> usize {
     let mut filled = n;
     let mut c = text_start(text, start);
     loop {
@@ -73,8 +72,7 @@ fn put_tokens(text: &[u8], work: &[u32], count: usize, out: &mut [u8], n: usize)
     let mut filled = n;
     let mut i = 0;
     while i < count {
-        let start = work[i] as usize;
-        filled = put_token(text, start, out, filled);
+        filled = put_token(text, start_of(work, i), out, filled);
         i += 1;
     }
     filled

@@ -1,13 +1,12 @@
 -- The function put_tokens meets its contract: each stored start is one of the text. The invariant: the room stays as it is. The measure is what is
 -- left of the count. Assumes nothing.
 use Prim.Native.Nat.{_≤_, _-_}
-use Rattle.lexer.proofs.StoredLaws.{stored-room, stored-below}
+use Rattle.lexer.proofs.StoredLaws.{stored-below}
 use Rattle.tokens.proofs.printing.put_tokens.Statement.{statement}
 use Rattle.tokens.proofs.printing.put_tokens.Tie as tie
 use borrow.Author.Needs.{needs}
 use lib.ListN.{length}
 use mathlib.Core.Path.{_≡_}
-use native.Mathlib.Omega.{arith}
 
 abbrev Inv-loop : tie.InvT-loop
 Inv-loop text work count out₀ n filled₀ i₀ out filled i = (i ≤ count) × (length out ≡ length out₀)
@@ -18,23 +17,14 @@ abbrev μ-loop : tie.MeasureT-loop
 loop-holds : tie.Need-loop-holds Inv-loop μ-loop
 loop-holds c = search needs
 
-mul-start : tie.Need-mul-start Inv-loop μ-loop
-mul-start c =
-    let a = c .before .before .before .before .before in
-    omega (arith, stored-room _ _ _ (a .pre .0), a .fits)
-
-shared-slice-read-start : tie.Need-shared-slice-read-start Inv-loop μ-loop
-shared-slice-read-start c =
-    let a = c .before .before .before .before .before .before in
-    omega (arith, stored-room _ _ _ (a .pre .0))
-
-cast-start : tie.Need-cast-start Inv-loop μ-loop
-cast-start c = omega (arith, c .shared-slice-known3 .given (c .before .before .loop .i))
+start-of-requires : tie.Need-start-of-requires Inv-loop μ-loop
+start-of-requires c κs = search needs
 
 put-token-requires : tie.Need-put-token-requires Inv-loop μ-loop
 put-token-requires c κs =
-    let a = c .before .before .before .before .before .before .before in
-    (stored-below _ _ _ _ (a .pre .0) (c .before .before .loop-test .taken), a .pre .1)
+    let l = c .before .before in
+    let p = l .before .before .before .before .before .pre in
+    (rw (c .before .start-of .ensures) (stored-below _ _ _ _ (p .0) (l .loop-test .taken)), p .1)
 
 add-i : tie.Need-add-i Inv-loop μ-loop
 add-i c = search needs
@@ -58,9 +48,7 @@ put-tokens-spec =
     Inv-loop
     μ-loop
     loop-holds
-    mul-start
-    shared-slice-read-start
-    cast-start
+    start-of-requires
     put-token-requires
     add-i
     loop-less
