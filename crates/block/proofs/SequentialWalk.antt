@@ -141,7 +141,7 @@ module _ (text codes before : List ℕ) (at from to taxa n head : ℕ) where
           kept = k .kept;
           few = λ m d. let z = end-count rows line m (sym e ∙ d) in omega (arith, k .within);
           read =
-            λ f c few.
+              λ f c few.
               let w = k .each f c few in
               let same = rows-kept text work before at (k .kept) f n to (room .0) (stored work at rows) (k .starts) in
               rw e (end-follows f (stored work at rows) work rows line (w .row) i (w .grown) (all-there f) same ∙ ended f w h);
@@ -150,6 +150,10 @@ module _ (text codes before : List ℕ) (at from to taxa n head : ℕ) where
     module _ (h : i < to) where
       word : word·of text work i ≡ word·of text before i
       word = word-kept text work before at (k .kept) i (omega (arith, room .0))
+
+      -- There is room for one row more.
+      pub sequencing-room : at + rows < length work
+      sequencing-room = omega (arith, k .few, k .size, room .1)
 
       pub sequencing-newline : newline (word·of text work i) ≡ true → Sequencing work rows line (i + 1)
       sequencing-newline e =
@@ -171,6 +175,9 @@ module _ (text codes before : List ℕ) (at from to taxa n head : ℕ) where
         bounded : Bounded (length text) (cells·of·row line) to t
         bounded = rw turned (turn-bounded text work codes taxa n to (names·stored text work (stored work at rows)) i h line (k .named))
 
+        pub sequencing-named : (s : ℕ) → t ≡ Turned.Full s → s < to
+        sequencing-named s d = rw d at bounded
+
         pub sequencing-on : (next : Sequence) → t ≡ Turned.On next → Sequencing work rows next (i + 1)
         sequencing-on next d =
             let b : Bounded (length text) (cells·of·row line) to (Turned.On next) = rw d at bounded in
@@ -188,15 +195,13 @@ module _ (text codes before : List ℕ) (at from to taxa n head : ℕ) where
         pub sequencing-full : (s : ℕ) → t ≡ Turned.Full s → Sequencing (set work (at + rows) s) (rows + 1) Sequence.Between (i + 1)
         unfolding cells·of·row
         sequencing-full s d =
-            let b : s < to = rw d at bounded in
-            let space : at + rows < length work = omega (arith, k .few, k .size, room .1) in
-            let more = stored-more work at rows s space in
+            let more = stored-more work at rows s sequencing-room in
             record {
               size = length-set work (at + rows) s ∙ k .size;
               kept = take-set-le at work (at + rows) s (omega arith) ∙ k .kept;
               few = omega (arith, k .few);
               within = omega (arith, k .few);
-              starts = rw more (all-one (λ s. s < at) (stored work at rows) s (k .starts) (omega (arith, room .0)));
+              starts = rw more (all-one (λ s. s < at) (stored work at rows) s (k .starts) (omega (arith, sequencing-named s d, room .0)));
               cells = omega arith;
               named = tt;
               each = λ f c few. rw more (walked-full f (stored work at rows) line i (k .each f c few) h c few small (rw word at e) s (as-before ∙ d));

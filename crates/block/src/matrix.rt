@@ -6,7 +6,7 @@ ghost use Rattle.block.specs.Codes.{coded};
 ghost use Rattle.block.specs.Lines.{name·at, names·stored, stored};
 ghost use Rattle.block.specs.Names.{known};
 ghost use Rattle.block.specs.RowShape.{symbols·coded, chunk·shape, chunked·of, so·far};
-ghost use Rattle.block.specs.SequentialShape.{begun·shape, cells·of·row, end·shape, grown·shape, turn·shape};
+ghost use Rattle.block.specs.SequentialShape.{Rows·read, begun·shape, cells·of·row, end·shape, grown·shape, turn·shape};
 ghost use Rattle.lexer.specs.Lexing.{token·at};
 ghost use Rattle.lexer.specs.Stored.{word·of};
 ghost use lib.ListN.{length, getD};
@@ -281,4 +281,45 @@ fn sequential_turn(
             i,
         ),
     }
+}
+
+// The rows of a sequential matrix, from the tokens of two indices. The index of each row's name is stored, one after the other from `at` on.
+pub fn sequential(
+    text: &[u8],
+    work: &mut [u32],
+    at: usize,
+    from: usize,
+    to: usize,
+    taxa: u64,
+    characters: u64,
+    head: usize,
+    codes: &[u8; 256],
+) -> Rows
+    requires { ⌜ (to ≤ at) × (at + to ≤ length (now work)) × (to ≤ 1048576) × (length (now text) ≤ 1048576) ⌝ }
+    ensures { λ r. ⌜ Rows·read (now (text .entry)) (now (codes .entry)) (now (work .entry)) (now (work .exit)) at from to taxa characters head r ⌝ }
+{
+    let mut rows = 0;
+    let mut line = Sequence::Between;
+    let mut i = from;
+    while i < to {
+        let k = i;
+        i += 1;
+        if !newline(text, work, k) {
+            match sequential_turn(text, work, at, rows, k, taxa, characters, codes, line) {
+                Turned::On(next) => {
+                    line = next;
+                }
+                Turned::Full(s) => {
+                    let end = at + rows;
+                    work[end] = s as u32;
+                    rows += 1;
+                    line = Sequence::Between;
+                }
+                Turned::Refused(n, j) => {
+                    return Rows::Refused(n, j);
+                }
+            }
+        }
+    }
+    sequential_end(line, taxa, head, rows)
 }
