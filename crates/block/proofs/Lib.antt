@@ -33,4 +33,5 @@ pub mod SymbolCounts
 pub mod SymbolWalk
 pub mod TaxaFollow
 pub mod WalkLaws
+pub mod WalkedRows
 pub mod Weights

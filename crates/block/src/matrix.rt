@@ -3,7 +3,7 @@
 ghost use Prim.Native.Nat.{_+_, _^_, _≤_};
 ghost use Rattle.block.specs.Chunk.{closer};
 ghost use Rattle.block.specs.Codes.{coded};
-ghost use Rattle.block.specs.Lines.{name·at, names·stored, stored};
+ghost use Rattle.block.specs.Lines.{Rows·room, name·at, names·stored, stored};
 ghost use Rattle.block.specs.Names.{known};
 ghost use Rattle.block.specs.RowShape.{symbols·coded, chunk·shape, chunked·of, so·far};
 ghost use Rattle.block.specs.SequentialShape.{Rows·read, begun·shape, cells·of·row, end·shape, grown·shape, turn·shape};
@@ -295,7 +295,7 @@ pub fn sequential(
     head: usize,
     codes: &[u8; 256],
 ) -> Rows
-    requires { ⌜ (to ≤ at) × (at + to ≤ length (now work)) × (to ≤ 1048576) × (length (now text) ≤ 1048576) ⌝ }
+    requires { ⌜ Rows·room (now text) (now work) at to ⌝ }
     ensures { λ r. ⌜ Rows·read (now (text .entry)) (now (codes .entry)) (now (work .entry)) (now (work .exit)) at from to taxa characters head r ⌝ }
 {
     let mut rows = 0;

@@ -16,7 +16,7 @@ abbrev μ-loop : tie.MeasureT-loop
 μ-loop text work₀ at from to taxa characters head codes rows₀ line₀ i₀ work rows line i = to - i
 
 loop-holds : tie.Need-loop-holds Inv-loop μ-loop
-loop-holds c = sequencing-start _ _ _ _ _ _ _ _ _
+loop-holds c = sequencing-start
 
 add-i : tie.Need-add-i Inv-loop μ-loop
 add-i c = search needs
@@ -28,7 +28,7 @@ sequential-turn-requires : tie.Need-sequential-turn-requires Inv-loop μ-loop
 sequential-turn-requires c κs =
     let l = c .before .before .before .before in
     let start = l .before .before .before .before in
-    (omega (arith, sequencing-room _ _ _ _ _ _ _ _ _ (start .pre) _ _ _ _ (l .before .loop .inv) (l .loop-test .taken)), omega (arith, l .before .loop .inv .cells, l .loop-test .taken, start .pre .2))
+    (omega (arith, sequencing-room (start .pre) (l .before .loop .inv) (l .loop-test .taken)), omega (arith, l .before .loop .inv .cells, l .loop-test .taken, start .pre .tokens))
 
 enum-known-next : tie.Need-enum-known-next Inv-loop μ-loop
 enum-known-next c = search needs
@@ -41,7 +41,7 @@ loop-again c =
     let t = c .before .before .before in
     let j = t .before .before in
     let l = j .before .before .before in
-    sequencing-on _ _ _ _ _ _ _ _ _ (l .before .before .before .before .pre) _ _ _ _ (l .before .loop .inv) (l .loop-test .taken) (λ b. l .before .before .before .shared-slice-known .given b .fits) (sym (j .before .newline .ensures) ∙ not-true _ (j .if1 .taken)) _ (t .sequential-turn .ensures) _ (c .before .next .given .1)
+    sequencing-on (l .before .before .before .before .pre) (l .before .loop .inv) (l .loop-test .taken) (λ b. l .before .before .before .shared-slice-known .given b .fits) (sym (j .before .newline .ensures) ∙ not-true _ (j .if1 .taken)) (t .sequential-turn .ensures) _ (c .before .next .given .1)
 
 enum-known-s : tie.Need-enum-known-s Inv-loop μ-loop
 enum-known-s c = search needs
@@ -50,32 +50,32 @@ add-end : tie.Need-add-end Inv-loop μ-loop
 add-end c =
     let l = c .before .before .before .before .before .before .before .before in
     let start = l .before .before .before .before in
-    omega (arith, sequencing-room _ _ _ _ _ _ _ _ _ (start .pre) _ _ _ _ (l .before .loop .inv) (l .loop-test .taken), l .before .loop .inv .size, start .good)
+    omega (arith, sequencing-room (start .pre) (l .before .loop .inv) (l .loop-test .taken), l .before .loop .inv .size, start .good)
 
 cast-work : tie.Need-cast-work Inv-loop μ-loop
 cast-work c =
     let t = c .before .before .before in
     let j = t .before .before in
     let l = j .before .before .before in
-    omega (arith, sequencing-named _ _ _ _ _ _ _ _ _ (l .before .before .before .before .pre) _ _ _ _ (l .before .loop .inv) (l .loop-test .taken) (λ b. l .before .before .before .shared-slice-known .given b .fits) (sym (j .before .newline .ensures) ∙ not-true _ (j .if1 .taken)) _ (t .sequential-turn .ensures) _ (c .before .s .given .1), l .before .before .before .before .pre .2)
+    omega (arith, sequencing-named (l .before .before .before .before .pre) (l .before .loop .inv) (l .loop-test .taken) (λ b. l .before .before .before .shared-slice-known .given b .fits) (sym (j .before .newline .ensures) ∙ not-true _ (j .if1 .taken)) (t .sequential-turn .ensures) _ (c .before .s .given .1), l .before .before .before .before .pre .tokens)
 
 mul-work : tie.Need-mul-work Inv-loop μ-loop
 mul-work c =
     let l = c .before .before .before .before .before .before .before .before in
     let start = l .before .before .before .before in
-    omega (arith, sequencing-room _ _ _ _ _ _ _ _ _ (start .pre) _ _ _ _ (l .before .loop .inv) (l .loop-test .taken), l .before .loop .inv .size, start .good)
+    omega (arith, sequencing-room (start .pre) (l .before .loop .inv) (l .loop-test .taken), l .before .loop .inv .size, start .good)
 
 slice-write-work : tie.Need-slice-write-work Inv-loop μ-loop
 slice-write-work c =
     let l = c .before .before .before .before .before .before .before .before in
     let start = l .before .before .before .before in
-    omega (arith, sequencing-room _ _ _ _ _ _ _ _ _ (start .pre) _ _ _ _ (l .before .loop .inv) (l .loop-test .taken))
+    omega (arith, sequencing-room (start .pre) (l .before .loop .inv) (l .loop-test .taken))
 
 add-rows : tie.Need-add-rows Inv-loop μ-loop
 add-rows c =
     let l = c .before .before .before .before .before .before .before .before in
     let start = l .before .before .before .before in
-    omega (arith, sequencing-room _ _ _ _ _ _ _ _ _ (start .pre) _ _ _ _ (l .before .loop .inv) (l .loop-test .taken), l .before .loop .inv .size, start .good)
+    omega (arith, sequencing-room (start .pre) (l .before .loop .inv) (l .loop-test .taken), l .before .loop .inv .size, start .good)
 
 loop-less-2 : tie.Need-loop-less-2 Inv-loop μ-loop
 loop-less-2 c = search needs
@@ -85,7 +85,7 @@ loop-again-2 c =
     let t = c .before .before .before in
     let j = t .before .before in
     let l = j .before .before .before in
-    sequencing-full _ _ _ _ _ _ _ _ _ (l .before .before .before .before .pre) _ _ _ _ (l .before .loop .inv) (l .loop-test .taken) (λ b. l .before .before .before .shared-slice-known .given b .fits) (sym (j .before .newline .ensures) ∙ not-true _ (j .if1 .taken)) _ (t .sequential-turn .ensures) _ (c .before .s .given .1)
+    sequencing-full (l .before .before .before .before .pre) (l .before .loop .inv) (l .loop-test .taken) (λ b. l .before .before .before .shared-slice-known .given b .fits) (sym (j .before .newline .ensures) ∙ not-true _ (j .if1 .taken)) (t .sequential-turn .ensures) _ (c .before .s .given .1)
 
 enum-known-n : tie.Need-enum-known-n Inv-loop μ-loop
 enum-known-n c = search needs
@@ -98,7 +98,7 @@ returns c =
     let t = c .before .before .before in
     let j = t .before .before in
     let l = j .before .before .before in
-    sequencing-refused _ _ _ _ _ _ _ _ _ (l .before .before .before .before .pre) _ _ _ _ (l .before .loop .inv) (l .loop-test .taken) (λ b. l .before .before .before .shared-slice-known .given b .fits) (sym (j .before .newline .ensures) ∙ not-true _ (j .if1 .taken)) _ (t .sequential-turn .ensures) _ _ (c .before .n .given .1)
+    sequencing-refused (l .before .before .before .before .pre) (l .before .loop .inv) (l .loop-test .taken) (λ b. l .before .before .before .shared-slice-known .given b .fits) (sym (j .before .newline .ensures) ∙ not-true _ (j .if1 .taken)) (t .sequential-turn .ensures) _ _ (c .before .n .given .1)
 
 loop-less-3 : tie.Need-loop-less-3 Inv-loop μ-loop
 loop-less-3 c = search needs
@@ -106,7 +106,7 @@ loop-less-3 c = search needs
 loop-again-3 : tie.Need-loop-again-3 Inv-loop μ-loop
 loop-again-3 c =
     let l = c .before .before .before in
-    sequencing-newline _ _ _ _ _ _ _ _ _ (l .before .before .before .before .pre) _ _ _ _ (l .before .loop .inv) (l .loop-test .taken) (sym (c .before .newline .ensures) ∙ not-false _ (c .if1 .left))
+    sequencing-newline (l .before .before .before .before .pre) (l .before .loop .inv) (l .loop-test .taken) (sym (c .before .newline .ensures) ∙ not-false _ (c .if1 .left))
 
 sequential-end-requires : tie.Need-sequential-end-requires Inv-loop μ-loop
 sequential-end-requires c κs = search needs
@@ -117,7 +117,7 @@ same-length-2 c = c .before .before .loop .inv .size
 returns-2 : tie.Need-returns-2 Inv-loop μ-loop
 returns-2 c =
     let l = c .before in
-    sequencing-end _ _ _ _ _ _ _ _ _ (l .before .before .before .before .pre) _ _ _ _ (l .before .loop .inv) _ (c .sequential-end .ensures) (l .loop-test .left)
+    sequencing-end (l .before .before .before .before .pre) (l .before .loop .inv) (c .sequential-end .ensures) (l .loop-test .left)
 
 pub sequential-spec : {M : Type 1} → statement M
 sequential-spec =
