@@ -67,8 +67,8 @@ module _ {text codes before : List ℕ} {at from to taxa n head : ℕ} where
 
     module _ (h : i < to) where
       -- the word is that of work memory as it was
-      word : word·of text work i ≡ word·of text before i
-      word = word-kept text work before at (k .kept) i (omega (arith, room .apart))
+      same-word : word·of text work i ≡ word·of text before i
+      same-word = word-kept text work before at (k .kept) i (omega (arith, room .apart))
 
       pub sequencing-room : at + rows < length work
       sequencing-room = omega (arith, k .few, k .size, room .behind)
@@ -83,53 +83,68 @@ module _ {text codes before : List ℕ} {at from to taxa n head : ℕ} where
             starts = k .starts;
             cells = omega (arith, k .cells);
             named = k .named;
-            each = λ f c few. walked-newline text before from to taxa n head f (stored work at rows) line i (k .each f c few) h (rw word at e);
+            each = λ f c few. walked-newline text before from to taxa n head f (stored work at rows) line i (k .each f c few) h (rw same-word at e);
           }
 
-      module _ (small : Small text) (e : newline (word·of text work i) ≡ false) {t : Turned} (turned : t ≡ turn·shape codes taxa n (names·stored text work (stored work at rows)) line (word·of text work i)) where
-        as-before : turn·shape codes taxa n (names·stored text before (stored work at rows)) line (word·of text before i) ≡ t
-        as-before = rw (← word, ← names-kept text work before at (k .kept) (stored work at rows) (k .starts)) (sym turned)
+-- A word that was judged at such a place: what it came to.
+pub record Judging (text codes before : List ℕ) (at from to taxa n head : ℕ) (work : List ℕ) (rows : ℕ) (line : Sequence) (i : ℕ) (t : Turned) : Type 0 where
+  pub room : Rows·room text before at to
+  pub place : Sequencing text codes before at from to taxa n head work rows line i
+  pub below : i < to
+  pub small : Small text
+  pub word : newline (word·of text work i) ≡ false
+  pub turned : t ≡ turn·shape codes taxa n (names·stored text work (stored work at rows)) line (word·of text work i)
 
-        bounded : Bounded (length text) (cells·of·row line) to t
-        bounded = rw turned (turn-bounded text work codes taxa n to (names·stored text work (stored work at rows)) i h line (k .named))
+module _ {text codes before : List ℕ} {at from to taxa n head : ℕ} {work : List ℕ} {rows : ℕ} {line : Sequence} {i : ℕ} {t : Turned} (j : Judging text codes before at from to taxa n head work rows line i t) where
+  abbrev k : Sequencing text codes before at from to taxa n head work rows line i
+  k = j .place
 
-        pub sequencing-named : (s : ℕ) → t ≡ Turned.Full s → s < to
-        sequencing-named s d = rw d at bounded
+  word : newline (word·of text before i) ≡ false
+  word = rw (same-word (j .room) k (j .below)) at (j .word)
 
-        pub sequencing-on : (next : Sequence) → t ≡ Turned.On next → Sequencing text codes before at from to taxa n head work rows next (i + 1)
-        sequencing-on next d =
-            let b : Bounded (length text) (cells·of·row line) to (Turned.On next) = rw d at bounded in
-            record {
-              size = k .size;
-              kept = k .kept;
-              few = omega (arith, k .few);
-              within = k .within;
-              starts = k .starts;
-              cells = omega (arith, k .cells, b .0, room .bytes);
-              named = b .1;
-              each = λ f c few. walked-on text before from to taxa n head f (stored work at rows) line i (k .each f c few) h c few small (rw word at e) next (as-before ∙ d);
-            }
+  as-before : turn·shape codes taxa n (names·stored text before (stored work at rows)) line (word·of text before i) ≡ t
+  as-before = rw (← same-word (j .room) k (j .below), ← names-kept text work before at (k .kept) (stored work at rows) (k .starts)) (sym (j .turned))
 
-        pub sequencing-full : (s : ℕ) → t ≡ Turned.Full s → Sequencing text codes before at from to taxa n head (set work (at + rows) s) (rows + 1) Sequence.Between (i + 1)
-        unfolding cells·of·row
-        sequencing-full s d =
-            let more = stored-more work at rows s sequencing-room in
-            record {
-              size = length-set work (at + rows) s ∙ k .size;
-              kept = take-set-le at work (at + rows) s (omega arith) ∙ k .kept;
-              few = omega (arith, k .few);
-              within = omega (arith, k .few);
-              starts = rw more (all-one (λ s. s < at) (stored work at rows) s (k .starts) (omega (arith, sequencing-named s d, room .apart)));
-              cells = omega arith;
-              named = tt;
-              each = λ f c few. rw more (walked-full text before from to taxa n head f (stored work at rows) line i (k .each f c few) h c few small (rw word at e) s (as-before ∙ d));
-            }
+  bounded : Bounded (length text) (cells·of·row line) to t
+  bounded = rw (j .turned) (turn-bounded text work codes taxa n to (names·stored text work (stored work at rows)) i (j .below) line (k .named))
 
-        pub sequencing-refused : (m : Refusal) (j : ℕ) → t ≡ Turned.Refused m j → Rows·read text codes before work at from to taxa n head (Rows.Refused m j)
-        unfolding sequenced
-        sequencing-refused m j d =
-            record {
-              kept = k .kept;
-              few = λ x y. refused-rows y;
-              read = λ f c few. walked-refused text before from to taxa n head f (stored work at rows) line i (k .each f c few) h c few small (rw word at e) m j (as-before ∙ d);
-            }
+  pub sequencing-named : (s : ℕ) → t ≡ Turned.Full s → s < to
+  sequencing-named s d = rw d at bounded
+
+  pub sequencing-on : (next : Sequence) → t ≡ Turned.On next → Sequencing text codes before at from to taxa n head work rows next (i + 1)
+  sequencing-on next d =
+      let b : Bounded (length text) (cells·of·row line) to (Turned.On next) = rw d at bounded in
+      record {
+        size = k .size;
+        kept = k .kept;
+        few = omega (arith, k .few);
+        within = k .within;
+        starts = k .starts;
+        cells = omega (arith, k .cells, b .0, j .room .bytes);
+        named = b .1;
+        each = λ f c few. walked-on text before from to taxa n head f (stored work at rows) line i (k .each f c few) (j .below) c few (j .small) word next (as-before ∙ d);
+      }
+
+  pub sequencing-full : (s : ℕ) → t ≡ Turned.Full s → Sequencing text codes before at from to taxa n head (set work (at + rows) s) (rows + 1) Sequence.Between (i + 1)
+  unfolding cells·of·row
+  sequencing-full s d =
+      let more = stored-more work at rows s (sequencing-room (j .room) k (j .below)) in
+      record {
+        size = length-set work (at + rows) s ∙ k .size;
+        kept = take-set-le at work (at + rows) s (omega arith) ∙ k .kept;
+        few = omega (arith, k .few);
+        within = omega (arith, k .few);
+        starts = rw more (all-one (λ s. s < at) (stored work at rows) s (k .starts) (omega (arith, sequencing-named s d, j .room .apart)));
+        cells = omega arith;
+        named = tt;
+        each = λ f c few. rw more (walked-full text before from to taxa n head f (stored work at rows) line i (k .each f c few) (j .below) c few (j .small) word s (as-before ∙ d));
+      }
+
+  pub sequencing-refused : (m : Refusal) (p : ℕ) → t ≡ Turned.Refused m p → Rows·read text codes before work at from to taxa n head (Rows.Refused m p)
+  unfolding sequenced
+  sequencing-refused m p d =
+      record {
+        kept = k .kept;
+        few = λ x y. refused-rows y;
+        read = λ f c few. walked-refused text before from to taxa n head f (stored work at rows) line i (k .each f c few) (j .below) c few (j .small) word m p (as-before ∙ d);
+      }
