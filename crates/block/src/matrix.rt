@@ -173,7 +173,8 @@ fn set_chunk(
     }
 }
 
-// A row with one token more.
+// A row with one token more. A token adds at most one cell more than the text has bytes, so that a bound on the cells so far keeps their count from
+// overflowing.
 pub fn chunk_at(text: &[u8], work: &[u32], i: usize, codes: &[u8; 256], row: Chunk) -> Chunked
     requires { ⌜ so·far row ≤ 2 ^ 41 ⌝ }
     ensures { λ r. ⌜ chunked·of r ≡ chunk·shape (now (codes .entry)) row (word·of (now (text .entry)) (now (work .entry)) i) ⌝ }
