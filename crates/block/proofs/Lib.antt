@@ -64,4 +64,5 @@ pub mod TypesHeldLaws
 pub mod TypesetWalks
 pub mod VectorTypes
 pub mod WalkLaws
+pub mod WalkedRows
 pub mod Weights
