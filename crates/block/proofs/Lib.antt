@@ -1,3 +1,4 @@
+pub mod ArrangeWalk
 pub mod BlockFaults
 pub mod BlockMoves
 pub mod BlocksKept
@@ -39,6 +40,7 @@ pub mod OutcomeLaws
 pub mod PagesSmall
 pub mod PagesSound
 pub mod Pigeonhole
+pub mod PlaceWalk
 pub mod RangeTyped
 pub mod ReadCommands
 pub mod ReadingSmall

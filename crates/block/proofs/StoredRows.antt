@@ -10,7 +10,7 @@ use Rattle.lexer.specs.Stored.{word·of, words·of, range}
 use borrow.Author.Tests.{ltb-true, ltb-false}
 use lib.Dec.{ltb}
 use lib.ListN.{length, getD, take, drop, set, length-drop}
-use lib.Seq.{getD-take, drop-set-add, take-suc-set}
+use lib.Seq.{getD-take, drop-set-add, take-suc-set, take-take}
 use mathlib.Core.List.{List, [], _∷_, _++_}
 use mathlib.Core.Path.{_≡_, refl, sym, ap, _∙_}
 use native.Mathlib.Numerals.{add-one}
@@ -31,6 +31,17 @@ module _ (text work : List ℕ) (f : Format) (n to : ℕ) where
   unfolding rows·sequential names·stored names row·at
   rows-names [] = refl
   rows-names (s ∷ r) = rw (rows-names r)
+
+-- Numbers that are stored in front of an index are the same where work memory was kept up to it.
+front-of : (l n m : ℕ) (w : List ℕ) → l + n ≤ m → take n (drop l (take m w)) ≡ take n (drop l w)
+front-of zero n m w h = take-take n m w (omega arith)
+front-of (suc l) n zero w h = absurd (omega arith)
+front-of (suc l) n (suc m) [] h = refl
+front-of (suc l) n (suc m) (x ∷ w) h = front-of l n m w (omega arith)
+
+pub stored-kept : (work before : List ℕ) (at lines rows : ℕ) → take at work ≡ take at before → lines + rows ≤ at → stored work lines rows ≡ stored before lines rows
+unfolding stored
+stored-kept work before at lines rows e h = sym (front-of lines rows at work h) ∙ ap (λ x. take rows (drop lines x)) e ∙ front-of lines rows at before h
 
 module _ (text work before : List ℕ) (at : ℕ) (kept : take at work ≡ take at before) where
   start-kept : (i : ℕ) → i < at → getD work i 0 ≡ getD before i 0

@@ -28,6 +28,7 @@ pub mod TypesHeld
 pub mod TypesetWalk
 pub mod Blocks
 pub mod Parse
+pub mod OrderHeld
 pub mod Sound
 pub mod TaxonOrder
 pub mod Faults

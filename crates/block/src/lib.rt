@@ -12,6 +12,7 @@ pub mod labels;
 pub mod matrix;
 pub mod model;
 pub mod names;
+pub mod order;
 pub mod symbols;
 pub mod words;
 
