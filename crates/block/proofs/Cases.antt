@@ -38,6 +38,23 @@ fault-at-its-word : run·text (bytes "#NEXUS\nBEGIN DATA;\nDIMENSIONS NTAX=1 NCH
 unfolding run·text
 fault-at-its-word = refl
 
+-- A range ends at its last character, `.` is the last of all, a stride begins at the first; the others have the default type.
+ordered : Character
+ordered = record { label = []; states = []; ordering = CharacterOrdering.Ordered }
+
+type-lists : run·text (bytes "#NEXUS BEGIN DATA; DIMENSIONS NTAX=1 NCHAR=6; MATRIX a 010101; END; BEGIN ASSUMPTIONS; TYPESET * t = UNORD: 2-3 ., ORD: 1-5\\4; OPTIONS DEFTYPE=ORD; END;") ≡ reading (record { data·type = DataType.Standard; symbols = bytes "01"; taxa = taxon "a" (state 0 ∷ state 1 ∷ state 0 ∷ state 1 ∷ state 0 ∷ state 1 ∷ []) ∷ []; characters = ordered ∷ plain ∷ plain ∷ ordered ∷ ordered ∷ plain ∷ [] })
+unfolding run·text plain ordered taxon
+type-lists = refl
+
+-- A character that is typed twice is refused at the type word, once the whole list is good; DNA takes no code but N for missing.
+typed-twice : run·text (bytes "#NEXUS BEGIN DATA; DIMENSIONS NTAX=1 NCHAR=2; MATRIX a 01; END;\nBEGIN ASSUMPTIONS; TYPESET * t = ORD: 1,\nUNORD: 2 1-2; END;") ≡ fault Refusal.TypeSet (record { line = 3; column = 1 })
+unfolding run·text
+typed-twice = refl
+
+missing-is-a-code : run·text (bytes "#NEXUS BEGIN DATA; DIMENSIONS NTAX=1 NCHAR=1;\nFORMAT DATATYPE=DNA MISSING=R; MATRIX a A; END;") ≡ fault Refusal.Symbols (record { line = 2; column = 1 })
+unfolding run·text
+missing-is-a-code = refl
+
 -- No name holds `_` or CR, is empty, or is White_Space without a U+0020.
 names : map sound·name (bytes "a b" ∷ bytes " " ∷ bytes "\n " ∷ bytes "a_b" ∷ bytes "a\rb" ∷ [] ∷ bytes "\t" ∷ (194 ∷ 160 ∷ []) ∷ (194 ∷ []) ∷ []) ≡ true ∷ true ∷ true ∷ false ∷ false ∷ false ∷ false ∷ false ∷ false ∷ []
 unfolding run·text
