@@ -1,5 +1,6 @@
 pub mod ArrangeWalk
 pub mod BlockFaults
+pub mod BlockLaws
 pub mod BlockMoves
 pub mod BlocksKept
 pub mod Cases

@@ -29,6 +29,7 @@ pub mod TypesetWalk
 pub mod Blocks
 pub mod Parse
 pub mod OrderHeld
+pub mod StateHeld
 pub mod Sound
 pub mod TaxonOrder
 pub mod Faults

@@ -2,6 +2,7 @@
 
 pub mod alignment;
 pub mod assumptions;
+pub mod blocks;
 pub mod commands;
 pub mod data;
 pub mod dimension;
@@ -13,6 +14,7 @@ pub mod matrix;
 pub mod model;
 pub mod names;
 pub mod order;
+pub mod state;
 pub mod symbols;
 pub mod words;
 

@@ -1,0 +1,97 @@
+-- What the code's state of reading means.
+use Prim.Native.Nat.{ℕ, _+_}
+use mathlib.Core.Bool.{Bool, true, false}
+use mathlib.Core.List.{List, [], _∷_}
+use mathlib.Core.Option.{Option, none, some}
+use Rattle.lexer.specs.Base.{pick}
+use Rattle.lexer.specs.Stored.{range}
+use Rattle.block.specs.Blocks as B
+use Rattle.block.specs.Commands.{words}
+use Rattle.block.specs.Format as F
+use Rattle.block.specs.Formats.{options·of}
+use Rattle.block.specs.Labels as L
+use Rattle.block.specs.NamesHeld.{names·of}
+use Rattle.block.specs.Outcome.{Outcome, done, refused}
+use Rattle.block.specs.Reading.{Reading}
+use Rattle.block.specs.Typeset.{Types}
+use Rattle.block.specs.TypesHeld.{type·word}
+use Rattle.block.specs.declared.dimension.Dimensions.{Dimensions}
+use Rattle.block.specs.declared.state.Data.{Data}
+use Rattle.block.specs.declared.state.Held.{Held}
+use Rattle.block.specs.declared.state.LabelCommands.{LabelCommands}
+use Rattle.block.specs.declared.state.Labels.{Labels}
+use Rattle.block.specs.declared.state.Matrix.{Matrix}
+use Rattle.block.specs.declared.state.Names.{Names}
+use Rattle.block.specs.declared.state.Phase.{Phase}
+use Rattle.block.specs.declared.state.Sizes.{Sizes}
+use Rattle.block.specs.declared.state.State.{State}
+use Rattle.block.specs.declared.state.Stepped.{Stepped}
+use Rattle.block.specs.declared.state.Style.{Style}
+
+-- The dimensions, if they were declared.
+unfoldable pub sizes·of : Sizes → Option Dimensions
+sizes·of Sizes.None = none
+sizes·of (Sizes.Given d) = some d
+
+-- What the words of a text mean, as work memory names them.
+module _ (text work : List ℕ) where
+  unfoldable pub names·in : Names → Option (List (List ℕ))
+  names·in Names.None = none
+  names·in (Names.Words from to) = some (names·of (words (range text work from to)))
+
+  unfoldable pub style·of : Style → Option F.Format
+  style·of Style.None = none
+  style·of (Style.Given o) = some (F.format·of (options·of text work o))
+
+  unfoldable pub labels·of : Labels → L.LabelCommand
+  labels·of l = record { what = l .what; head = l .head; words = words (range text work (l .head + 1) (l .to)) }
+
+  unfoldable pub commands·in : LabelCommands → List L.LabelCommand
+  commands·in LabelCommands.None = []
+  commands·in (LabelCommands.One a) = labels·of a ∷ []
+  commands·in (LabelCommands.Two a b) = labels·of a ∷ labels·of b ∷ []
+  commands·in (LabelCommands.Three a b c) = labels·of a ∷ labels·of b ∷ labels·of c ∷ []
+
+-- How a matrix that is held reads, and the types that a set gave to its characters.
+pub record Reader : Type 0 where
+  pub reading : Held → Reading
+  pub types : Types
+
+module _ (m : Reader) (text work : List ℕ) where
+  unfoldable pub matrix·of : Matrix → Option Reading
+  matrix·of Matrix.None = none
+  matrix·of (Matrix.Read h) = some (m .reading h)
+
+  unfoldable pub data·of : Data → B.Data
+  data·of d =
+      record {
+        dimensions = sizes·of (d .sizes);
+        format = style·of text work (d .style);
+        taxa = names·in text work (d .names);
+        labels = commands·in text work (d .labels);
+        matrix = matrix·of (d .matrix);
+      }
+
+  -- The types of a set that was read.
+  unfoldable pub set·of : Bool → Option Types
+  set·of typed = pick typed (some (m .types)) none
+
+  unfoldable pub phase·of : Data → Phase → B.Phase
+  phase·of d Phase.Outside = B.outside
+  phase·of d (Phase.Taxa b n names) = B.in·taxa b n (names·in text work names)
+  phase·of d (Phase.Data b) = B.in·data b (data·of d)
+  phase·of d (Phase.Assumptions b default typed) = B.in·assumptions b (type·word default) (set·of typed)
+  phase·of d (Phase.Trees b) = B.in·trees b
+
+  unfoldable pub state·of : State → B.State
+  state·of s =
+      record {
+        phase = phase·of (s .«data») (s .phase);
+        taxa = names·in text work (s .taxa);
+        matrix = matrix·of (s .matrix);
+        assumptions = s .assumptions;
+      }
+
+  unfoldable pub stepped : Stepped → Outcome B.State
+  stepped (Stepped.State s) = done (state·of s)
+  stepped (Stepped.Refused n i) = refused n i
