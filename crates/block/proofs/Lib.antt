@@ -7,6 +7,7 @@ pub mod DimensionsFew
 pub mod FormatCells
 pub mod FormatCodes
 pub mod FormatOptions
+pub mod FormatSettled
 pub mod FormatSound
 pub mod LabelsSound
 pub mod MatrixParts

@@ -1,17 +1,50 @@
 // The symbols that the text of SYMBOLS gives, and which symbols may stand together, after mod.rs.
 
+ghost use Prim.Native.Nat.{ℕ};
+ghost use Rattle.block.specs.Dna.{acgt};
 ghost use Rattle.block.specs.Format.{unspaced};
-ghost use Rattle.block.specs.Formats.{Listed};
+ghost use Rattle.block.specs.Formats.{Listed, options·of, sign·of};
+ghost use Rattle.lexer.specs.Base.{bytes};
 ghost use Rattle.lexer.specs.Bytes.{left};
+ghost use mathlib.Core.List.{List};
+ghost use mathlib.Core.Option.{Option·getD};
+ghost use mathlib.Core.Path.{_≡_};
+use super::format_options::Options;
 use lexer::Cursor;
 use lexer::Item;
 use lexer::blank_byte;
 use lexer::next_byte;
+use lexer::start_of;
+use lexer::text_start;
 
 // So many symbols from the front; a count of 75 says that there are more than 74.
 pub struct Symbols {
     pub bytes: [u8; 74],
     pub count: usize,
+}
+
+impl Symbols {
+    // Without SYMBOLS.
+    pub fn binary() -> Self
+        ensures { λ r. ⌜ Listed (r .bytes) (r .count) (bytes "01") ⌝ }
+    {
+        let mut bytes = [0u8; 74];
+        bytes[0] = b'0';
+        bytes[1] = b'1';
+        Symbols { bytes, count: 2 }
+    }
+
+    // Those of DNA.
+    pub fn acgt() -> Self
+        ensures { λ r. ⌜ Listed (r .bytes) (r .count) acgt ⌝ }
+    {
+        let mut bytes = [0u8; 74];
+        bytes[0] = b'A';
+        bytes[1] = b'C';
+        bytes[2] = b'G';
+        bytes[3] = b'T';
+        Symbols { bytes, count: 4 }
+    }
 }
 
 // The symbols of what is left of a text, White_Space dropped.
@@ -40,4 +73,24 @@ fn unspaced(text: &[u8], c: Cursor) -> Symbols
             }
         }
     }
+}
+
+// The symbols that were given, or others.
+pub fn given_symbols(text: &[u8], work: &[u32], o: Options, other: Symbols) -> Symbols
+    ensures { λ r. ⌜ ((l : List ℕ) → Listed (other .bytes) (other .count) l → Listed (r .bytes) (r .count) (Option·getD (options·of (now (text .entry)) (now (work .entry)) o .symbols) l)) ⌝ }
+{
+    if o.has_symbols {
+        return unspaced(text, text_start(text, start_of(work, o.symbols)));
+    }
+    other
+}
+
+// A sign that was given, or another.
+pub fn sign_or(b: u8, other: u8) -> u8
+    ensures { λ r. ⌜ r ≡ Option·getD (sign·of b) other ⌝ }
+{
+    if b == 0 {
+        return other;
+    }
+    b
 }
