@@ -28,6 +28,7 @@ pub mod ShapeLaws
 pub mod SoundParts
 pub mod SymbolText
 pub mod SymbolWalk
+pub mod SymbolsDiffer
 pub mod TaxaFollow
 pub mod WalkLaws
 pub mod Weights

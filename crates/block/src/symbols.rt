@@ -2,14 +2,17 @@
 
 ghost use Prim.Native.Nat.{ℕ};
 ghost use Rattle.block.specs.Dna.{acgt};
-ghost use Rattle.block.specs.Format.{unspaced};
-ghost use Rattle.block.specs.Formats.{Listed, options·of, sign·of};
+ghost use Rattle.block.specs.Format.{all·differ, all·valid, clashes, unspaced};
+ghost use Rattle.block.specs.Formats.{Listed, meant, options·of, sign·of};
 ghost use Rattle.lexer.specs.Base.{bytes};
 ghost use Rattle.lexer.specs.Bytes.{left};
+ghost use lib.ListN.{drop};
 ghost use mathlib.Core.List.{List};
 ghost use mathlib.Core.Option.{Option·getD};
 ghost use mathlib.Core.Path.{_≡_};
 use super::format_options::Options;
+use super::format_options::valid_symbol;
+use super::formats::Format;
 use lexer::Cursor;
 use lexer::Item;
 use lexer::blank_byte;
@@ -93,4 +96,52 @@ pub fn sign_or(b: u8, other: u8) -> u8
         return other;
     }
     b
+}
+
+// Are all symbols of the format valid?
+fn all_valid(f: Format) -> bool
+    ensures { λ r. ⌜ r ≡ all·valid (meant f .symbols) ⌝ }
+{
+    let symbols = f.symbols;
+    let count = f.states();
+    let mut i = 0;
+    while i < count {
+        if !valid_symbol(symbols[i]) {
+            return false;
+        }
+        i += 1;
+    }
+    true
+}
+
+// Is a symbol equal to one of the format's from an index on?
+fn clashes(f: Format, a: u8, from: usize) -> bool
+    ensures { λ r. ⌜ r ≡ clashes (meant f) a (drop from (meant f .symbols)) ⌝ }
+{
+    let symbols = f.symbols;
+    let count = f.states();
+    let mut i = from;
+    while i < count {
+        if f.equal(a, symbols[i]) {
+            return true;
+        }
+        i += 1;
+    }
+    false
+}
+
+// Do the symbols of the states differ from each other?
+fn states_differ(f: Format) -> bool
+    ensures { λ r. ⌜ r ≡ all·differ (meant f) (meant f .symbols) ⌝ }
+{
+    let symbols = f.symbols;
+    let count = f.states();
+    let mut i = 0;
+    while i < count {
+        if clashes(f, symbols[i], i + 1) {
+            return false;
+        }
+        i += 1;
+    }
+    true
 }
