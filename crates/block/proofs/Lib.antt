@@ -1,3 +1,4 @@
+pub mod AcgtListed
 pub mod BlocksKept
 pub mod Cases
 pub mod ChunkSound

@@ -1,14 +1,15 @@
 -- Walks over the symbols of a format that ask one thing of all: what is asked of those from an index on is what is asked of the whole.
 -- Assumes nothing.
 use Prim.Native.Nat.{ℕ, zero, suc, _+_, _≤_, _<_}
-use Rattle.block.specs.Format.{Format, equal, valid·symbol, all·valid, clashes, all·differ}
+use Rattle.block.specs.Format.{Format, equal, valid·symbol, all·valid, clashes, all·differ, signs}
 use Rattle.block.specs.Formats.{meant}
 use Rattle.block.specs.declared.formats.Format as Code
 use Rattle.lexer.proofs.ListLaws.{drop-next}
 use lib.ListN.{length, getD, take, drop, drop-of-length-le, length-take}
 use lib.Seq.{getD-take}
-use mathlib.Core.Bool.{Bool, true, false}
+use mathlib.Core.Bool.{Bool, true, false, _&&_, _||_, not}
 use mathlib.Core.List.{List, [], _∷_}
+use mathlib.Core.Option.{Option, none, some}
 use mathlib.Core.Path.{_≡_, refl, sym, ap, _∙_}
 use native.Mathlib.Omega.{arith}
 
@@ -69,3 +70,14 @@ module _ (b : ℕ) (r : List ℕ) where
     pub differ-more : clashes f b r ≡ false → all·differ f (b ∷ r) ≡ all·differ f r
     unfolding all·differ
     differ-more e = rw e
+
+-- The signs in front of the states
+module _ (f : Format) (gap : Option ℕ) where
+  pub differ-ungapped : gap ≡ none → not (clashes f (f .missing) (f .symbols)) && all·differ f (f .symbols) ≡ all·differ f (signs f gap)
+  unfolding signs all·differ
+  differ-ungapped e = rw e
+
+  pub differ-gapped : (g : ℕ) → gap ≡ some g
+      → not (equal f g (f .missing) || clashes f g (f .symbols)) && (not (clashes f (f .missing) (f .symbols)) && all·differ f (f .symbols)) ≡ all·differ f (signs f gap)
+  unfolding signs all·differ clashes
+  differ-gapped g e = rw e

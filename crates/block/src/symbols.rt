@@ -1,15 +1,17 @@
 // The symbols that the text of SYMBOLS gives, and which symbols may stand together, after mod.rs.
 
 ghost use Prim.Native.Nat.{ℕ};
-ghost use Rattle.block.specs.Dna.{acgt};
-ghost use Rattle.block.specs.Format.{all·differ, all·valid, clashes, unspaced};
+ghost use Rattle.block.specs.Dna.{acgt, dna·code};
+ghost use Rattle.block.specs.Format.{all·differ, all·valid, clashes, signs, unspaced};
 ghost use Rattle.block.specs.Formats.{Listed, meant, options·of, sign·of};
-ghost use Rattle.lexer.specs.Base.{bytes};
+ghost use Rattle.lexer.specs.Base.{bytes, same};
 ghost use Rattle.lexer.specs.Bytes.{left};
 ghost use lib.ListN.{drop};
 ghost use mathlib.Core.List.{List};
 ghost use mathlib.Core.Option.{Option·getD};
 ghost use mathlib.Core.Path.{_≡_};
+use super::alignment::dna_cell;
+use super::data::Cell;
 use super::format_options::Options;
 use super::format_options::valid_symbol;
 use super::formats::Format;
@@ -144,4 +146,41 @@ fn states_differ(f: Format) -> bool
         i += 1;
     }
     true
+}
+
+// Do the symbols differ, those for missing and for a gap among them?
+fn all_differ(f: Format) -> bool
+    ensures { λ r. ⌜ r ≡ all·differ (meant f) (signs (meant f) (meant f .gap)) ⌝ }
+{
+    let missing = f.missing;
+    let gap = f.gap;
+    let known = !clashes(f, missing, 0) & states_differ(f);
+    if gap == 0 {
+        return known;
+    }
+    !(f.equal(gap, missing) | clashes(f, gap, 0)) & known
+}
+
+// Is the byte a code of DNA?
+fn dna_code(b: u8) -> bool
+    ensures { λ r. ⌜ r ≡ dna·code b ⌝ }
+{
+    match dna_cell(b) {
+        Cell::State(_) => true,
+        Cell::Uncertain(_) => true,
+        Cell::Missing => true,
+        Cell::Gap => true,
+        Cell::None => false,
+    }
+}
+
+// Are these the symbols of DNA?
+fn is_acgt(s: Symbols) -> bool
+    ensures { λ r. ⌜ ((l : List ℕ) → Listed (s .bytes) (s .count) l → r ≡ same l acgt) ⌝ }
+{
+    if s.count != 4 {
+        return false;
+    }
+    let bytes = s.bytes;
+    (bytes[0] == b'A') & (bytes[1] == b'C') & (bytes[2] == b'G') & (bytes[3] == b'T')
 }
