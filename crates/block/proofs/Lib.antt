@@ -10,6 +10,7 @@ pub mod FormatCodes
 pub mod FormatOptions
 pub mod FormatSettled
 pub mod FormatSound
+pub mod GoodSymbols
 pub mod LabelsSound
 pub mod MatrixParts
 pub mod MatrixSound

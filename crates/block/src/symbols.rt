@@ -2,7 +2,7 @@
 
 ghost use Prim.Native.Nat.{ℕ};
 ghost use Rattle.block.specs.Dna.{acgt, dna·code};
-ghost use Rattle.block.specs.Format.{all·differ, all·valid, clashes, signs, unspaced};
+ghost use Rattle.block.specs.Format.{all·differ, all·valid, clashes, dna·options, format·of, good·symbols, signs, unspaced};
 ghost use Rattle.block.specs.Formats.{Listed, meant, options·of, sign·of};
 ghost use Rattle.lexer.specs.Base.{bytes, same};
 ghost use Rattle.lexer.specs.Bytes.{left};
@@ -12,12 +12,14 @@ ghost use mathlib.Core.Option.{Option·getD};
 ghost use mathlib.Core.Path.{_≡_};
 use super::alignment::dna_cell;
 use super::data::Cell;
+use super::data::DataType;
 use super::format_options::Options;
 use super::format_options::valid_symbol;
 use super::formats::Format;
 use lexer::Cursor;
 use lexer::Item;
 use lexer::blank_byte;
+use lexer::lower;
 use lexer::next_byte;
 use lexer::start_of;
 use lexer::text_start;
@@ -183,4 +185,31 @@ fn is_acgt(s: Symbols) -> bool
     }
     let bytes = s.bytes;
     (bytes[0] == b'A') & (bytes[1] == b'C') & (bytes[2] == b'G') & (bytes[3] == b'T')
+}
+
+// DNA takes neither RESPECTCASE nor SYMBOLS other than ACGT, no code but N for missing, and no code for the gap.
+fn dna_options(text: &[u8], work: &[u32], o: Options, f: Format) -> bool
+    ensures { λ r. ⌜ r ≡ dna·options (meant f .data·type) (options·of (now (text .entry)) (now (work .entry)) o) (meant f) ⌝ }
+{
+    let data_type = f.data_type;
+    match data_type {
+        DataType::Standard => true,
+        DataType::Dna => {
+            let four = is_acgt(given_symbols(text, work, o, Symbols::acgt()));
+            let missing = !dna_code(f.missing) | (lower(f.missing) == b'n');
+            let gap = !dna_code(sign_or(f.gap, Format::DNA_GAP));
+            !f.respect_case & four & missing & gap
+        }
+    }
+}
+
+// May the symbols that the options give stand together?
+pub fn good_symbols(text: &[u8], work: &[u32], o: Options) -> bool
+    ensures { λ r. ⌜ r ≡ good·symbols (options·of (now (text .entry)) (now (work .entry)) o) (format·of (options·of (now (text .entry)) (now (work .entry)) o)) ⌝ }
+{
+    let f = Format::of(text, work, o);
+    if Format::MOST < f.count {
+        return false;
+    }
+    dna_options(text, work, o, f) & (2 <= f.states()) & all_valid(f) & all_differ(f)
 }
