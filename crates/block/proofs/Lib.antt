@@ -7,6 +7,7 @@ pub mod DeclaredHeld
 pub mod DimensionsFew
 pub mod FormatCells
 pub mod FormatCodes
+pub mod FormatFew
 pub mod FormatOptions
 pub mod FormatSettled
 pub mod FormatSound

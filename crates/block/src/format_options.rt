@@ -2,8 +2,8 @@
 
 ghost use Prim.Native.Nat.{ℕ};
 ghost use Rattle.block.specs.Commands.{words};
-ghost use Rattle.block.specs.Format.{format·end, format·option, format·turn, format·value, key, key·option, no·options, once, option, single·symbol, valid·symbol};
-ghost use Rattle.block.specs.Formats.{formatted·of, formatting·of, optioned, options·of, sign·of};
+ghost use Rattle.block.specs.Format.{format, format·end, format·option, format·turn, format·value, key, key·option, no·options, once, option, single·symbol, valid·symbol};
+ghost use Rattle.block.specs.Formats.{formatted, formatted·of, formatting·of, optioned, options·of, sign·of};
 ghost use Rattle.block.specs.Outcome.{fold, then};
 ghost use Rattle.block.specs.declared.formats.Valued.{Valued};
 ghost use Rattle.lexer.specs.Stored.{range, word·of};
@@ -12,6 +12,7 @@ ghost use mathlib.Core.List.{List};
 ghost use mathlib.Core.Path.{_≡_};
 use super::formats::Key;
 use super::formats::Valued;
+use super::symbols::good_symbols;
 use super::words::is;
 use super::words::newline;
 use super::words::punct;
@@ -362,5 +363,20 @@ fn format_options(text: &[u8], work: &[u32], from: usize, to: usize) -> FormatAn
     match format_walk(text, work, from, to) {
         Formatted::On(mode) => format_end(mode),
         Formatted::Refused(n, i) => FormatAnswer::Refused(n, i),
+    }
+}
+
+// FORMAT, whose words stand from an index up to another; its own word is the head.
+pub fn format(text: &[u8], work: &[u32], head: usize, from: usize, to: usize) -> FormatAnswer
+    ensures { λ r. ⌜ formatted (now (text .entry)) (now (work .entry)) r ≡ format head (words (range (now (text .entry)) (now (work .entry)) from to)) ⌝ }
+{
+    match format_options(text, work, from, to) {
+        FormatAnswer::Done(o) => {
+            if good_symbols(text, work, o) {
+                return FormatAnswer::Done(o);
+            }
+            FormatAnswer::Refused(Refusal::Symbols, head)
+        }
+        FormatAnswer::Refused(n, i) => FormatAnswer::Refused(n, i),
     }
 }
