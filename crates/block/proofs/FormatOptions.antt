@@ -1,8 +1,8 @@
 -- The options of FORMAT as the code has them: what is given is not 0, and symbols stand in double quotes. Assumes nothing.
 use Prim.Native.Nat.{ℕ, zero, suc}
 use Rattle.block.specs.Formats.{sign·of, type·of, choice·of, symbols·of}
-use Rattle.lexer.specs.Base.{pick, given}
 use Rattle.lexer.proofs.Kind as tags
+use Rattle.lexer.specs.Base.{pick, given}
 use Rattle.lexer.specs.Words.{string?}
 use Rattle.lexer.specs.declared.Kind.{Kind}
 use borrow.Author.Tests.{ne-eqb}
@@ -10,7 +10,7 @@ use denote.Enum.Declared.{tagOf}
 use lib.Dec.{eqb}
 use mathlib.Core.Bool.{Bool, true, false, not}
 use mathlib.Core.List.{List, [], _∷_}
-use mathlib.Core.Path.{_≡_, refl, sym}
+use mathlib.Core.Path.{_≡_, refl}
 use native.Mathlib.Omega.{arith}
 use types.Run.{OneOf, miss}
 

@@ -1,19 +1,19 @@
 -- The format that the options of the code give, for each type. Assumes nothing.
 use Prim.Native.Nat.{ℕ, zero, suc, _≤_, _<_}
-use Rattle.block.proofs.FormatCells.{some-sign}
+use Rattle.block.proofs.FormatSigns.{some-sign}
 use Rattle.block.specs.Dna.{acgt}
 use Rattle.block.specs.Format.{options, settled, format·of}
-use Rattle.block.specs.Formats.{Listed, Settled, meant, sign·of, type·of, choice·of, symbols·of, options·of}
+use Rattle.block.specs.Formats.{Listed, Settled, meant, sign·of, type·of, choice·of, options·of}
 use Rattle.block.specs.declared.data.DataType.{DataType}
 use Rattle.block.specs.declared.format_options.Options.{Options}
 use Rattle.block.specs.declared.formats.Format.{Format}
 use Rattle.lexer.specs.Base.{bytes}
 use borrow.Author.Tests.{lt-ltb}
 use lib.Dec.{ltb}
-use mathlib.Core.Bool.{Bool, true, false}
+use mathlib.Core.Bool.{Bool, false}
 use mathlib.Core.List.{List}
-use mathlib.Core.Option.{Option, none, some, Option·getD}
-use mathlib.Core.Path.{_≡_, refl, sym, _∙_}
+use mathlib.Core.Option.{some, Option·getD}
+use mathlib.Core.Path.{_≡_, refl, sym}
 use native.Mathlib.Omega.{arith}
 
 type-standard : (n : ℕ) → n ≤ 1 → Option·getD (type·of n) DataType.Standard ≡ DataType.Standard

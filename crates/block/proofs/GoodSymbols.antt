@@ -1,5 +1,5 @@
 -- Whether symbols may stand together, part by part; more than 74 never may. Assumes nothing.
-use Prim.Native.Nat.{ℕ, _≤_, _<_}
+use Prim.Native.Nat.{_≤_, _<_}
 use Rattle.block.proofs.FormatSound.{at-most-74, states-distinct}
 use Rattle.block.specs.Dna.{acgt, dna·code}
 use Rattle.block.specs.Format.{Format, Options, dna·options, all·valid, all·differ, signs, good·symbols}
@@ -10,7 +10,7 @@ use lib.Dec.{eqb, leb}
 use lib.ListN.{length}
 use mathlib.Core.Bool.{true, false, _&&_, _||_, not}
 use mathlib.Core.Option.{Option·getD}
-use mathlib.Core.Path.{_≡_, refl, sym}
+use mathlib.Core.Path.{_≡_, sym}
 use native.Mathlib.Omega.{arith}
 
 -- What DNA does not take

@@ -10,6 +10,7 @@ pub mod FormatCodes
 pub mod FormatFew
 pub mod FormatOptions
 pub mod FormatSettled
+pub mod FormatSigns
 pub mod FormatSound
 pub mod GoodSymbols
 pub mod LabelsSound

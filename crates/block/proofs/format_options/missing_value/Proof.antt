@@ -1,5 +1,5 @@
 -- The function `missing_value` meets its contract. Assumes nothing.
-use Rattle.block.proofs.FormatCells.{no-sign, some-sign}
+use Rattle.block.proofs.FormatSigns.{no-sign, some-sign}
 use Rattle.block.proofs.format_options.missing_value.Statement.{statement}
 use Rattle.block.proofs.format_options.missing_value.Tie as tie
 use Rattle.block.specs.Format.{format·value, options, symbol·value, with·missing}

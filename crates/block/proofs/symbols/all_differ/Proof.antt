@@ -1,5 +1,5 @@
 -- The function `all_differ` meets its contract: a gap of 0 is none. Assumes nothing.
-use Rattle.block.proofs.FormatCells.{no-sign, some-sign}
+use Rattle.block.proofs.FormatSigns.{no-sign, some-sign}
 use Rattle.block.proofs.SymbolsDiffer.{differ-ungapped, differ-gapped}
 use Rattle.block.proofs.symbols.all_differ.Statement.{statement}
 use Rattle.block.proofs.symbols.all_differ.Tie as tie

@@ -6,7 +6,7 @@ use Rattle.block.proofs.symbols.all_valid.Tie as tie
 use Rattle.block.specs.Format.{all·valid}
 use borrow.Author.Needs.{needs}
 use borrow.Author.Tests.{not-true, not-false}
-use lib.ListN.{length, take, drop}
+use lib.ListN.{length, take}
 use mathlib.Core.Path.{sym, ap, _∙_}
 use native.Mathlib.Omega.{arith}
 

@@ -7,7 +7,7 @@ use Rattle.block.specs.Format.{clashes}
 use Rattle.block.specs.Formats.{meant}
 use borrow.Author.Needs.{needs}
 use lib.ListN.{length, take, drop}
-use mathlib.Core.Path.{sym, ap, _∙_}
+use mathlib.Core.Path.{sym, _∙_}
 use native.Mathlib.Omega.{arith}
 
 abbrev Inv-loop : tie.InvT-loop

@@ -1,5 +1,5 @@
 -- The function `given_symbols` meets its contract. Assumes nothing.
-use Rattle.block.proofs.FormatCells.{word-left}
+use Rattle.block.proofs.FormatSigns.{word-left}
 use Rattle.block.proofs.symbols.given_symbols.Statement.{statement}
 use Rattle.block.proofs.symbols.given_symbols.Tie as tie
 use Rattle.block.specs.Format.{options}

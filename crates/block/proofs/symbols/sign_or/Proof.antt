@@ -1,5 +1,5 @@
 -- The function `sign_or` meets its contract. Assumes nothing.
-use Rattle.block.proofs.FormatCells.{no-sign, some-sign}
+use Rattle.block.proofs.FormatSigns.{no-sign, some-sign}
 use Rattle.block.proofs.symbols.sign_or.Statement.{statement}
 use Rattle.block.proofs.symbols.sign_or.Tie as tie
 

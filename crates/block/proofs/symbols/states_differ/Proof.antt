@@ -6,8 +6,8 @@ use Rattle.block.proofs.symbols.states_differ.Tie as tie
 use Rattle.block.specs.Format.{all·differ}
 use Rattle.block.specs.Formats.{meant}
 use borrow.Author.Needs.{needs}
-use lib.ListN.{length, take, drop}
-use mathlib.Core.Path.{sym, ap, _∙_}
+use lib.ListN.{length, take}
+use mathlib.Core.Path.{sym, _∙_}
 use native.Mathlib.Omega.{arith}
 
 abbrev Inv-loop : tie.InvT-loop
