@@ -1,6 +1,5 @@
 -- Signs: one of the code that is 0 is none, and a text of one valid byte is that sign. Assumes nothing.
 use Prim.Native.Nat.{ℕ, zero, suc}
-use Rattle.block.specs.Cell as C
 use Rattle.block.specs.Format.{valid·symbol, single·symbol}
 use Rattle.block.specs.Formats.{sign·of}
 use Rattle.block.specs.Run.{run·text}
