@@ -1,16 +1,21 @@
 -- The options of FORMAT as the code has them: what is given is not 0, and symbols stand in double quotes. Assumes nothing.
 use Prim.Native.Nat.{ℕ, zero, suc}
+use Rattle.block.specs.Format.{Options, format·value, single·symbol, symbol·value}
 use Rattle.block.specs.Formats.{sign·of, type·of, choice·of, symbols·of}
-use Rattle.lexer.specs.Base.{pick, given}
+use Rattle.block.specs.Outcome.{refused}
+use Rattle.block.specs.declared.formats.Valued.{Valued}
 use Rattle.lexer.proofs.Kind as tags
-use Rattle.lexer.specs.Words.{string?}
+use Rattle.lexer.specs.Base.{pick, given}
+use Rattle.lexer.specs.Words.{Numbered, string?}
 use Rattle.lexer.specs.declared.Kind.{Kind}
+use Rattle.lexer.specs.declared.refusal.Refusal.{Refusal}
 use borrow.Author.Tests.{ne-eqb}
 use denote.Enum.Declared.{tagOf}
 use lib.Dec.{eqb}
 use mathlib.Core.Bool.{Bool, true, false, not}
 use mathlib.Core.List.{List, [], _∷_}
-use mathlib.Core.Path.{_≡_, refl, sym}
+use mathlib.Core.Option.{none}
+use mathlib.Core.Path.{_≡_, refl}
 use native.Mathlib.Omega.{arith}
 use types.Run.{OneOf, miss}
 
@@ -50,3 +55,9 @@ tags-unstring (Kind.Punctuation b) o = refl
 tags-unstring Kind.Newline o = refl
 tags-unstring Kind.OpenQuote o = refl
 tags-unstring Kind.OpenComment o = refl
+
+-- no value for the gap or for missing
+pub unsigned-value : (o : Options) (gap : Bool) (i : ℕ) (w : Numbered) → single·symbol (w .token .text) ≡ none → refused Refusal.FormatOption (w .index) ≡ format·value o (pick gap Valued.Gap Valued.Missing) i w
+unfolding format·value symbol·value pick
+unsigned-value o true i w e = rw e
+unsigned-value o false i w e = rw e

@@ -156,7 +156,7 @@ unfolding run·text
 symbols-counted = refl
 
 -- There are at most 74 different valid symbols.
-at-most-74 : (l : List ℕ) → all·valid l ≡ true → distinct l ≡ true → length l ≤ 74
+pub at-most-74 : (l : List ℕ) → all·valid l ≡ true → distinct l ≡ true → length l ≤ 74
 at-most-74 l v d = rw symbols-counted at (pigeonhole l valid·symbols d (all-listed l v))
 
 -- So missing leaves 73 of them for the states, and a gap beside it 72.
@@ -181,7 +181,7 @@ module _ (f : Format) (v : all·valid (f .symbols) ≡ true) (m : valid·symbol 
   most (some b) s d false g = le-leb (length (f .symbols)) 73 (omega (arith, with-gap b s d))
 
 -- The states are distinct where all signs differ.
-states-distinct : (f : Format) (gap : Option ℕ) → all·differ f (signs f gap) ≡ true → distinct (f .symbols) ≡ true
+pub states-distinct : (f : Format) (gap : Option ℕ) → all·differ f (signs f gap) ≡ true → distinct (f .symbols) ≡ true
 unfolding signs all·differ
 states-distinct f none d = differ-distinct f (f .symbols) (and-right (not (clashes f (f .missing) (f .symbols))) (all·differ f (f .symbols)) d)
 states-distinct f (some g) d =

@@ -1,3 +1,4 @@
+pub mod AcgtListed
 pub mod ArrangeWalk
 pub mod BlockFaults
 pub mod BlockLaws
@@ -20,8 +21,12 @@ pub mod FaultPlaces
 pub mod Faulted
 pub mod FormatCells
 pub mod FormatCodes
+pub mod FormatFew
 pub mod FormatOptions
+pub mod FormatSettled
+pub mod FormatSigns
 pub mod FormatSound
+pub mod GoodSymbols
 pub mod LabelFaults
 pub mod LabelsApplied
 pub mod LabelsFollow
@@ -59,6 +64,7 @@ pub mod StoredRows
 pub mod SymbolCounts
 pub mod SymbolText
 pub mod SymbolWalk
+pub mod SymbolsDiffer
 pub mod TaxaFollow
 pub mod TokenFaults
 pub mod ToldFaults

@@ -1,5 +1,5 @@
 -- The walk over the text of SYMBOLS: the symbols so far, and those of what is left of the text, are those of the whole. Assumes nothing.
-use Prim.Native.Nat.{ℕ, suc, _+_, _≤_, _<_}
+use Prim.Native.Nat.{ℕ, _+_, _≤_, _<_}
 use Rattle.block.specs.Format.{unspaced}
 use Rattle.block.specs.Formats.{Listed}
 use Rattle.lexer.proofs.Yielded.{Yields·byte}

@@ -77,3 +77,8 @@ formatted text work (FormatAnswer.Refused n i) = refused n i
 pub record Listed (bytes : List ℕ) (count : ℕ) (l : List ℕ) : Type 0 where
   pub few : count ≤ 74 → take count bytes ≡ l
   pub many : 74 < count → 74 < length l
+
+-- The code's format is this one, or a count above 74 says that this one has more than 74 symbols.
+pub record Settled (f : Format) (g : F.Format) : Type 0 where
+  pub few : f .count ≤ 74 → meant f ≡ g
+  pub many : 74 < f .count → 74 < length (g .symbols)

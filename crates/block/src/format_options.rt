@@ -2,16 +2,18 @@
 
 ghost use Prim.Native.Nat.{ℕ};
 ghost use Rattle.block.specs.Commands.{words};
-ghost use Rattle.block.specs.Format.{format·end, format·option, format·turn, format·value, key, key·option, no·options, once, option, single·symbol, valid·symbol};
-ghost use Rattle.block.specs.Formats.{formatted·of, formatting·of, optioned, options·of, sign·of};
+ghost use Rattle.block.specs.Format.{format, format·end, format·option, format·turn, format·value, key, key·option, no·options, once, option, single·symbol, valid·symbol};
+ghost use Rattle.block.specs.Formats.{formatted, formatted·of, formatting·of, optioned, options·of, sign·of};
 ghost use Rattle.block.specs.Outcome.{fold, then};
 ghost use Rattle.block.specs.declared.formats.Valued.{Valued};
+ghost use Rattle.lexer.specs.Base.{pick};
 ghost use Rattle.lexer.specs.Stored.{range, word·of};
 ghost use Rattle.lexer.specs.Words.{string?};
 ghost use mathlib.Core.List.{List};
 ghost use mathlib.Core.Path.{_≡_};
 use super::formats::Key;
 use super::formats::Valued;
+use super::symbols::good_symbols;
 use super::words::is;
 use super::words::newline;
 use super::words::punct;
@@ -235,29 +237,27 @@ fn symbols_value(text: &[u8], work: &[u32], o: Options, option: usize, i: usize)
     Formatted::Refused(Refusal::FormatOption, i)
 }
 
-// The value of MISSING.
-fn missing_value(text: &[u8], work: &[u32], o: Options, option: usize, i: usize) -> Formatted
-    ensures { λ r. ⌜ formatted·of (now (text .entry)) (now (work .entry)) r ≡ format·value (options·of (now (text .entry)) (now (work .entry)) o) Valued.Missing option (word·of (now (text .entry)) (now (work .entry)) i) ⌝ }
+// The value of GAP, or of MISSING: one valid symbol.
+fn sign_value(
+    text: &[u8],
+    work: &[u32],
+    o: Options,
+    gap: bool,
+    option: usize,
+    i: usize,
+) -> Formatted
+    ensures { λ r. ⌜ formatted·of (now (text .entry)) (now (work .entry)) r ≡ format·value (options·of (now (text .entry)) (now (work .entry)) o) (pick gap Valued.Gap Valued.Missing) option (word·of (now (text .entry)) (now (work .entry)) i) ⌝ }
 {
     let b = single_symbol(text, work, i);
     if b == 0 {
         return Formatted::Refused(Refusal::FormatOption, i);
     }
     let mut p = o;
+    if gap {
+        p.gap = b;
+        return Formatted::On(Formatting::Option(p));
+    }
     p.missing = b;
-    Formatted::On(Formatting::Option(p))
-}
-
-// The value of GAP.
-fn gap_value(text: &[u8], work: &[u32], o: Options, option: usize, i: usize) -> Formatted
-    ensures { λ r. ⌜ formatted·of (now (text .entry)) (now (work .entry)) r ≡ format·value (options·of (now (text .entry)) (now (work .entry)) o) Valued.Gap option (word·of (now (text .entry)) (now (work .entry)) i) ⌝ }
-{
-    let b = single_symbol(text, work, i);
-    if b == 0 {
-        return Formatted::Refused(Refusal::FormatOption, i);
-    }
-    let mut p = o;
-    p.gap = b;
     Formatted::On(Formatting::Option(p))
 }
 
@@ -292,8 +292,8 @@ fn format_value(
         Valued::DataType => type_value(text, work, o, option, i),
         Valued::Interleave => interleave_value(text, work, o, option, i),
         Valued::Symbols => symbols_value(text, work, o, option, i),
-        Valued::Missing => missing_value(text, work, o, option, i),
-        Valued::Gap => gap_value(text, work, o, option, i),
+        Valued::Missing => sign_value(text, work, o, false, option, i),
+        Valued::Gap => sign_value(text, work, o, true, option, i),
     }
 }
 
@@ -362,5 +362,20 @@ fn format_options(text: &[u8], work: &[u32], from: usize, to: usize) -> FormatAn
     match format_walk(text, work, from, to) {
         Formatted::On(mode) => format_end(mode),
         Formatted::Refused(n, i) => FormatAnswer::Refused(n, i),
+    }
+}
+
+// FORMAT, whose words stand from an index up to another; its own word is the head.
+pub fn format(text: &[u8], work: &[u32], head: usize, from: usize, to: usize) -> FormatAnswer
+    ensures { λ r. ⌜ formatted (now (text .entry)) (now (work .entry)) r ≡ format head (words (range (now (text .entry)) (now (work .entry)) from to)) ⌝ }
+{
+    match format_options(text, work, from, to) {
+        FormatAnswer::Done(o) => {
+            if good_symbols(text, work, o) {
+                return FormatAnswer::Done(o);
+            }
+            FormatAnswer::Refused(Refusal::Symbols, head)
+        }
+        FormatAnswer::Refused(n, i) => FormatAnswer::Refused(n, i),
     }
 }

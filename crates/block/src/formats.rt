@@ -3,14 +3,18 @@
 ghost use Rattle.block.specs.Cells.{cell·of, index·of};
 ghost use Rattle.block.specs.Chunk.{cell, state·of, state·or·code};
 ghost use Rattle.block.specs.Codes.{Coded, code·of};
-ghost use Rattle.block.specs.Format.{default·format, equal, valid·symbol};
-ghost use Rattle.block.specs.Formats.{meant};
+ghost use Rattle.block.specs.Format.{default·format, equal, format·of};
+ghost use Rattle.block.specs.Formats.{Settled, meant, options·of};
 ghost use Prim.Native.Nat.{_≤_};
 ghost use lib.ListN.{length};
 ghost use mathlib.Core.Path.{_≡_};
 use super::alignment::dna_cell;
 use super::data::Cell;
 use super::data::DataType;
+use super::format_options::Options;
+use super::symbols::Symbols;
+use super::symbols::given_symbols;
+use super::symbols::sign_or;
 use lexer::lower;
 
 // An option by its word.
@@ -75,6 +79,37 @@ impl Format {
             gap: 0,
             respect_case: false,
             interleave: false,
+        }
+    }
+
+    // The format that the options give: DNA has the symbols ACGT, and the gap `-` where none is given.
+    pub fn of(text: &[u8], work: &[u32], o: Options) -> Self
+        ensures { λ r. ⌜ Settled r (format·of (options·of (now (text .entry)) (now (work .entry)) o)) ⌝ }
+    {
+        let missing = sign_or(o.missing, Format::MISSING);
+        if o.data_type <= Options::STANDARD {
+            let given = given_symbols(text, work, o, Symbols::binary());
+            let symbols = given.bytes;
+            return Format {
+                data_type: DataType::Standard,
+                symbols,
+                count: given.count,
+                missing,
+                gap: o.gap,
+                respect_case: o.respect_case,
+                interleave: Options::NO < o.interleave,
+            };
+        }
+        let four = Symbols::acgt();
+        let symbols = four.bytes;
+        Format {
+            data_type: DataType::Dna,
+            symbols,
+            count: four.count,
+            missing,
+            gap: sign_or(o.gap, Format::DNA_GAP),
+            respect_case: o.respect_case,
+            interleave: Options::NO < o.interleave,
         }
     }
 

@@ -1,6 +1,7 @@
 -- The function `format_value` meets its contract, option by option. Assumes nothing.
 use Rattle.block.proofs.format_options.format_value.Statement.{statement}
 use Rattle.block.proofs.format_options.format_value.Tie as tie
+use Rattle.lexer.specs.Base.{pick}
 use borrow.Author.Needs.{needs}
 
 enum-told : tie.Need-enum-told
@@ -24,14 +25,14 @@ symbols-value-requires c κs = search needs
 enum-told-4 : tie.Need-enum-told-4
 enum-told-4 c = search needs
 
-missing-value-requires : tie.Need-missing-value-requires
-missing-value-requires c κs = search needs
+sign-value-requires : tie.Need-sign-value-requires
+sign-value-requires c κs = search needs
 
 enum-told-5 : tie.Need-enum-told-5
 enum-told-5 c = search needs
 
-gap-value-requires : tie.Need-gap-value-requires
-gap-value-requires c κs = search needs
+sign-value-requires-2 : tie.Need-sign-value-requires-2
+sign-value-requires-2 c κs = search needs
 
 returns : tie.Need-returns
 returns c = rw (c .before .enum-told .given .1) (c .type-value .ensures)
@@ -43,10 +44,12 @@ returns-3 : tie.Need-returns-3
 returns-3 c = rw (c .before .enum-told3 .given .1) (c .symbols-value .ensures)
 
 returns-4 : tie.Need-returns-4
-returns-4 c = rw (c .before .enum-told4 .given .1) (c .missing-value .ensures)
+unfolding pick
+returns-4 c = rw (c .before .enum-told4 .given .1) (c .sign-value .ensures)
 
 returns-5 : tie.Need-returns-5
-returns-5 c = rw (c .before .enum-told5 .given .1) (c .gap-value .ensures)
+unfolding pick
+returns-5 c = rw (c .before .enum-told5 .given .1) (c .sign-value2 .ensures)
 
 pub format-value-spec : {M : Type 1} → statement M
 format-value-spec =
@@ -59,9 +62,9 @@ format-value-spec =
     enum-told-3
     symbols-value-requires
     enum-told-4
-    missing-value-requires
+    sign-value-requires
     enum-told-5
-    gap-value-requires
+    sign-value-requires-2
     returns
     returns-2
     returns-3

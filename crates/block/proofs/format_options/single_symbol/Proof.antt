@@ -1,5 +1,5 @@
 -- The function `single_symbol` meets its contract: a text of one byte, which is valid. Assumes nothing.
-use Rattle.block.proofs.FormatCells.{word-left, single-valid, single-invalid, single-longer, single-empty}
+use Rattle.block.proofs.FormatSigns.{word-left, single-valid, single-invalid, single-longer, single-empty}
 use Rattle.block.proofs.format_options.single_symbol.Statement.{statement}
 use Rattle.block.proofs.format_options.single_symbol.Tie as tie
 use Rattle.lexer.proofs.NextBytes.{yielded}

@@ -6,7 +6,7 @@ use Rattle.block.proofs.symbols.unspaced.Tie as tie
 use Rattle.lexer.proofs.NextBytes.{yielded}
 use borrow.Author.Needs.{needs}
 use lib.ListN.{length}
-use mathlib.Core.Path.{refl, sym, _∙_}
+use mathlib.Core.Path.{refl}
 use native.Mathlib.Omega.{arith}
 
 abbrev Inv-loop : tie.InvT-loop

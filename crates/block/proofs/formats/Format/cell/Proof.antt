@@ -1,11 +1,12 @@
 -- The function `cell` meets its contract: a gap of 0 is none. Assumes nothing.
-use Rattle.block.proofs.FormatCells.{no-sign, some-sign, missing-cell, cell-without-gap, gap-cell, cell-beside-gap}
-use Rattle.block.specs.Cells.{cell·of}
-use Rattle.block.specs.Formats.{meant}
-use mathlib.Core.Path.{sym, _∙_}
-use borrow.Author.Needs.{needs}
+use Rattle.block.proofs.FormatCells.{missing-cell, cell-without-gap, gap-cell, cell-beside-gap}
+use Rattle.block.proofs.FormatSigns.{no-sign, some-sign}
 use Rattle.block.proofs.formats.Format.cell.Statement.{statement}
 use Rattle.block.proofs.formats.Format.cell.Tie as tie
+use Rattle.block.specs.Cells.{cell·of}
+use Rattle.block.specs.Formats.{meant}
+use borrow.Author.Needs.{needs}
+use mathlib.Core.Path.{sym, _∙_}
 
 equal-requires : tie.Need-equal-requires
 equal-requires c κs = search needs

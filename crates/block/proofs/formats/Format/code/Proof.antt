@@ -1,5 +1,5 @@
 -- The function `code` meets its contract: the index of a state is below 74. Assumes nothing.
-use Prim.Native.Nat.{_<_, _+_}
+use Prim.Native.Nat.{_+_}
 use Rattle.block.proofs.FormatCodes.{Below, cell-below, symbols-few, bits-back}
 use Rattle.block.proofs.formats.Format.code.Statement.{statement}
 use Rattle.block.proofs.formats.Format.code.Tie as tie

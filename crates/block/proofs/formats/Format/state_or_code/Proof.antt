@@ -1,12 +1,12 @@
 -- The function `state_or_code` meets its contract. Assumes nothing.
 use Rattle.block.proofs.FormatCells.{standard-cell, dna-code}
+use Rattle.block.proofs.formats.Format.state_or_code.Statement.{statement}
+use Rattle.block.proofs.formats.Format.state_or_code.Tie as tie
 use Rattle.block.specs.Cells.{cell·of, index·of}
 use Rattle.block.specs.Chunk.{state·cell}
 use Rattle.block.specs.Formats.{meant}
-use mathlib.Core.Path.{sym, ap, _∙_}
 use borrow.Author.Needs.{needs}
-use Rattle.block.proofs.formats.Format.state_or_code.Statement.{statement}
-use Rattle.block.proofs.formats.Format.state_or_code.Tie as tie
+use mathlib.Core.Path.{sym, ap, _∙_}
 
 enum-told : tie.Need-enum-told
 enum-told c = search needs
