@@ -14,6 +14,8 @@ pub mod NextWordLaws
 pub mod OutcomeLaws
 pub mod PagesSmall
 pub mod PagesSound
+pub mod PartLaws
+pub mod PartWalks
 pub mod Pigeonhole
 pub mod RangeTyped
 pub mod ReadCommands

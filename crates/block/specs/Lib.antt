@@ -21,6 +21,7 @@ pub mod CharacterList
 pub mod Typeset
 pub mod TypesHeld
 pub mod TypesetWalk
+pub mod ListParts
 pub mod Blocks
 pub mod Parse
 pub mod Sound

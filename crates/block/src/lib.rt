@@ -8,6 +8,7 @@ pub mod formats;
 pub mod labels;
 pub mod matrix;
 pub mod model;
+pub mod parts;
 pub mod words;
 
 use lexer::Refusal;
