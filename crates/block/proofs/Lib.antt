@@ -5,7 +5,9 @@ pub mod CommandWords
 pub mod DeclaredHeld
 pub mod DimensionsFew
 pub mod FormatSound
+pub mod ItemLaws
 pub mod LabelsSound
+pub mod ListTyped
 pub mod MatrixParts
 pub mod MatrixSound
 pub mod NamesFromTokens

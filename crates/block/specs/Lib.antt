@@ -22,6 +22,7 @@ pub mod Typeset
 pub mod TypesHeld
 pub mod TypesetWalk
 pub mod ListParts
+pub mod ListCode
 pub mod Blocks
 pub mod Parse
 pub mod Sound

@@ -2,6 +2,7 @@
 
 pub mod alignment;
 pub mod assumptions;
+pub mod characters;
 pub mod data;
 pub mod dimension;
 pub mod formats;
