@@ -27,12 +27,15 @@ pub mod FormatSettled
 pub mod FormatSigns
 pub mod FormatSound
 pub mod GoodSymbols
+pub mod ItemLaws
 pub mod LabelFaults
 pub mod LabelsApplied
 pub mod LabelsFollow
 pub mod LabelsGained
 pub mod LabelsHeld
 pub mod LabelsSound
+pub mod ListTyped
+pub mod ListWalks
 pub mod MatrixFaults
 pub mod MatrixParts
 pub mod MatrixSound
@@ -45,6 +48,8 @@ pub mod OpenedFaults
 pub mod OutcomeLaws
 pub mod PagesSmall
 pub mod PagesSound
+pub mod PartLaws
+pub mod PartWalks
 pub mod Pigeonhole
 pub mod PlaceWalk
 pub mod RangeTyped
@@ -70,8 +75,10 @@ pub mod TokenFaults
 pub mod ToldFaults
 pub mod TypeFaults
 pub mod TypesHeldLaws
+pub mod TypesetLists
 pub mod TypesetWalks
 pub mod VectorTypes
 pub mod WalkLaws
 pub mod WalkedRows
 pub mod Weights
+pub mod WordCut

@@ -26,6 +26,8 @@ pub mod CharacterList
 pub mod Typeset
 pub mod TypesHeld
 pub mod TypesetWalk
+pub mod ListParts
+pub mod ListCode
 pub mod Blocks
 pub mod Parse
 pub mod OrderHeld

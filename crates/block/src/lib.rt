@@ -4,6 +4,7 @@ pub mod alignment;
 pub mod assumptions;
 pub mod blocks;
 pub mod commands;
+pub mod characters;
 pub mod data;
 pub mod dimension;
 pub mod dimensions;
@@ -16,6 +17,7 @@ pub mod names;
 pub mod order;
 pub mod state;
 pub mod symbols;
+pub mod parts;
 pub mod words;
 
 use lexer::Refusal;
