@@ -20,6 +20,7 @@ pub mod FormatCodes
 pub mod FormatOptions
 pub mod FormatSound
 pub mod LabelFaults
+pub mod LabelSlotLaws
 pub mod LabelsApplied
 pub mod LabelsFollow
 pub mod LabelsGained

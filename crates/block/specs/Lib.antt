@@ -21,6 +21,7 @@ pub mod Lines
 pub mod SequentialShape
 pub mod Interleaved
 pub mod Labels
+pub mod LabelSlots
 pub mod CharacterList
 pub mod Typeset
 pub mod TypesHeld
