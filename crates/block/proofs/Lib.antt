@@ -21,6 +21,7 @@ pub mod FormatOptions
 pub mod FormatSound
 pub mod LabelFaults
 pub mod LabelSlotLaws
+pub mod LabelTurns
 pub mod LabelsApplied
 pub mod LabelsFollow
 pub mod LabelsGained
