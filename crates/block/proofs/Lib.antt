@@ -10,6 +10,7 @@ pub mod DeclaredFaults
 pub mod DeclaredHeld
 pub mod DimensionsFew
 pub mod DimensionsLaws
+pub mod EachLabelled
 pub mod EntriesCut
 pub mod EntriesFollow
 pub mod EntryWords

@@ -4,7 +4,7 @@
 ghost use Prim.Native.Nat.{ℕ, _+_, _-_, _*_, _≤_, _<_};
 ghost use Rattle.block.specs.Commands.{words};
 ghost use Rattle.block.specs.Judged.{judged};
-ghost use Rattle.block.specs.Labels.{unlabelled};
+ghost use Rattle.block.specs.Labels.{unlabelled, label·each, char·labels};
 ghost use Rattle.block.specs.LabelSlots.{labels·held, label·one};
 ghost use Rattle.lexer.specs.Stored.{word·of, range};
 ghost use lib.Dec.{eqb};
@@ -96,4 +96,60 @@ fn count_words(text: &[u8], work: &[u32], from: usize, to: usize) -> usize
         i += 1;
     }
     count
+}
+
+// One label for each character, in order, as far as there are words and characters.
+fn label_each(
+    text: &[u8],
+    work: &mut [u32],
+    at: usize,
+    characters: usize,
+    from: usize,
+    to: usize,
+) -> Judged
+    requires { ⌜ (at + 2 * characters ≤ length (now work)) × (to ≤ at) × (to ≤ 1048576) ⌝ }
+    ensures front { λ _. ⌜ take at (now (work .exit)) ≡ take at (now (work .entry)) ⌝ }
+    ensures labelled { λ r. ⌜ judged (labels·held (now (text .entry)) (now (work .exit)) at characters) r ≡ label·each (labels·held (now (text .entry)) (now (work .entry)) at characters) (words (range (now (text .entry)) (now (work .entry)) from to)) ⌝ }
+{
+    let mut k = 0;
+    let mut i = from;
+    while i < to {
+        if newline(text, work, i) {
+            i += 1;
+            continue;
+        }
+        if characters <= k {
+            return Judged::Good;
+        }
+        k += 1;
+        match label_one(text, work, at, characters, CharacterNumber(k), i, i) {
+            Judged::Good => {
+                i += 1;
+            }
+            Judged::Refused(n, j) => {
+                return Judged::Refused(n, j);
+            }
+        }
+    }
+    Judged::Good
+}
+
+// CHARLABELS: as many words as characters, each a label.
+fn char_labels(
+    text: &[u8],
+    work: &mut [u32],
+    at: usize,
+    characters: usize,
+    head: usize,
+    from: usize,
+    to: usize,
+) -> Judged
+    requires { ⌜ (at + 2 * characters ≤ length (now work)) × (to ≤ at) × (to ≤ 1048576) ⌝ }
+    ensures front { λ _. ⌜ take at (now (work .exit)) ≡ take at (now (work .entry)) ⌝ }
+    ensures labelled { λ r. ⌜ judged (labels·held (now (text .entry)) (now (work .exit)) at characters) r ≡ char·labels head (words (range (now (text .entry)) (now (work .entry)) from to)) (labels·held (now (text .entry)) (now (work .entry)) at characters) ⌝ }
+{
+    if count_words(text, work, from, to) == characters {
+        return label_each(text, work, at, characters, from, to);
+    }
+    Judged::Refused(Refusal::Count, head)
 }
