@@ -22,6 +22,7 @@ pub mod SequentialShape
 pub mod Interleaved
 pub mod Labels
 pub mod LabelSlots
+pub mod LabelEntries
 pub mod CharacterList
 pub mod Typeset
 pub mod TypesHeld

@@ -4,9 +4,11 @@
 ghost use Prim.Native.Nat.{ℕ, _+_, _-_, _*_, _≤_, _<_};
 ghost use Rattle.block.specs.Commands.{words};
 ghost use Rattle.block.specs.Judged.{judged};
-ghost use Rattle.block.specs.Labels.{unlabelled, label·each, char·labels};
+ghost use Rattle.block.specs.Labels.{unlabelled, label·each, char·labels, begin·states, entry·number, entry·begins};
+ghost use Rattle.block.specs.LabelEntries.{entered, placed·answer};
 ghost use Rattle.block.specs.LabelSlots.{labels·held, label·one};
 ghost use Rattle.lexer.specs.Stored.{word·of, range};
+ghost use Rattle.lexer.specs.Words.{Numbered, number};
 ghost use lib.Dec.{eqb};
 ghost use lib.ListN.{length, take, getD, set, replicate};
 ghost use mathlib.Core.Bool.{not};
@@ -16,12 +18,30 @@ use super::Judged;
 use super::data::CharacterNumber;
 use super::words::named;
 use super::words::newline;
+use super::words::number;
+use super::words::punct;
 use lexer::Refusal;
 
 pub enum Labelling {
     CharLabels,
     StateLabels,
     CharStateLabels,
+}
+
+// Where an entry list is: before its first entry; at the number of a next one; behind the number, or the label, of a character, with the index of the
+// number's token; or in its state labels, with the index behind the token in front of them.
+pub enum Entry {
+    First,
+    Next,
+    Numbered(CharacterNumber, usize),
+    Labelled(CharacterNumber, usize),
+    States(CharacterNumber, usize, usize),
+}
+
+// The list with one word more, or the refusal of the token with an index.
+pub enum Entered {
+    On(Entry),
+    Refused(Refusal, usize),
 }
 
 // No character has a label or state labels.
@@ -152,4 +172,43 @@ fn char_labels(
         return label_each(text, work, at, characters, from, to);
     }
     Judged::Refused(Refusal::Count, head)
+}
+
+// State labels of a character begin behind a word, unless they were given: 26 then at the entry's number.
+fn begin_states(
+    work: &[u32],
+    at: usize,
+    characters: usize,
+    k: CharacterNumber,
+    number: usize,
+    i: usize,
+) -> Entered
+    requires { ⌜ (1 ≤ k .0) × (k .0 ≤ characters) × (at + 2 * characters ≤ length (now work)) × (i < 1048576) ⌝ }
+    ensures placed { λ r. ⌜ placed·answer characters (i + 1) r ⌝ }
+    ensures entered { λ r. ⌜ ((text : List ℕ) → entered text (take at (now (work .entry))) (labels·held text (now (work .entry)) at characters) (i + 1) r ≡ begin·states (labels·held text (now (work .entry)) at characters) (k .0) number) ⌝ }
+{
+    if slot_given(work, at + characters, k) {
+        return Entered::Refused(Refusal::LabelEntry, number);
+    }
+    Entered::On(Entry::States(k, number, i + 1))
+}
+
+// Behind the number of an entry; in STATELABELS its state labels follow at once.
+fn entry_number(
+    work: &[u32],
+    at: usize,
+    characters: usize,
+    what: Labelling,
+    k: CharacterNumber,
+    i: usize,
+) -> Entered
+    requires { ⌜ (1 ≤ k .0) × (k .0 ≤ characters) × (at + 2 * characters ≤ length (now work)) × (i < 1048576) ⌝ }
+    ensures placed { λ r. ⌜ placed·answer characters (i + 1) r ⌝ }
+    ensures entered { λ r. ⌜ ((text : List ℕ) → entered text (take at (now (work .entry))) (labels·held text (now (work .entry)) at characters) (i + 1) r ≡ entry·number what (labels·held text (now (work .entry)) at characters) (word·of text (now (work .entry)) i) (k .0)) ⌝ }
+{
+    match what {
+        Labelling::CharLabels => Entered::On(Entry::Numbered(k, i)),
+        Labelling::StateLabels => begin_states(work, at, characters, k, i, i),
+        Labelling::CharStateLabels => Entered::On(Entry::Numbered(k, i)),
+    }
 }
