@@ -2,12 +2,14 @@
 use Prim.Native.Nat.{ℕ, _≤_}
 use mathlib.Core.List.{List}
 use Rattle.lexer.specs.Stored.{range}
+use Rattle.lexer.specs.Words.{Numbered}
 use Rattle.block.specs.Commands.{words}
-use Rattle.block.specs.Labels.{Labelled, Entry, first, next, numbered, labelled, states, Entries, at}
+use Rattle.block.specs.Labels.{Labelled, LabelCommand, Entry, first, next, numbered, labelled, states, Entries, at}
 use Rattle.block.specs.NamesHeld.{names·of}
 use Rattle.block.specs.Outcome.{Outcome, done, refused}
 use Rattle.block.specs.declared.labels.Entered.{Entered}
 use Rattle.block.specs.declared.labels.Entry as code
+use Rattle.block.specs.declared.labels.Labelling.{Labelling}
 
 -- In front of an index: the state labels so far are the names of the words from where they begin up to there.
 unfoldable pub entry·of : List ℕ → List ℕ → ℕ → code.Entry → Entry
@@ -33,3 +35,7 @@ entered text work cs here (Entered.Refused n i) = refused n i
 abbrev pub placed·answer : ℕ → ℕ → Entered → Type 0
 placed·answer count here (Entered.On e) = placed count here e
 placed·answer count here (Entered.Refused n i) = Unit {0}
+
+-- A label command by its parts.
+abbrev pub command·of : Labelling → ℕ → List Numbered → LabelCommand
+command·of what head ws = record { what = what; head = head; words = ws }

@@ -4,8 +4,8 @@
 ghost use Prim.Native.Nat.{ℕ, _+_, _-_, _*_, _≤_, _<_};
 ghost use Rattle.block.specs.Commands.{words};
 ghost use Rattle.block.specs.Judged.{judged};
-ghost use Rattle.block.specs.Labels.{unlabelled, label·each, char·labels, begin·states, entry·number, entry·begins};
-ghost use Rattle.block.specs.LabelEntries.{entered, placed·answer};
+ghost use Rattle.block.specs.Labels.{LabelCommand, unlabelled, label·each, char·labels, numbered, labelled, begin·states, entry·number, entry·begins, entry·turn};
+ghost use Rattle.block.specs.LabelEntries.{entered, placed·answer, command·of};
 ghost use Rattle.block.specs.LabelSlots.{labels·held, label·one};
 ghost use Rattle.lexer.specs.Stored.{word·of, range};
 ghost use Rattle.lexer.specs.Words.{Numbered, number};
@@ -211,4 +211,78 @@ fn entry_number(
         Labelling::StateLabels => begin_states(work, at, characters, k, i, i),
         Labelling::CharStateLabels => Entered::On(Entry::Numbered(k, i)),
     }
+}
+
+// An entry begins with the number of a character, in a token of any kind; a comma there is 26 at the command's word.
+fn entry_begins(
+    text: &[u8],
+    work: &[u32],
+    at: usize,
+    characters: usize,
+    what: Labelling,
+    head: usize,
+    i: usize,
+) -> Entered
+    requires { ⌜ (at + 2 * characters ≤ length (now work)) × (i < 1048576) ⌝ }
+    ensures placed { λ r. ⌜ placed·answer characters (i + 1) r ⌝ }
+    ensures entered { λ r. ⌜ ((ws : List Numbered) → entered (now (text .entry)) (take at (now (work .entry))) (labels·held (now (text .entry)) (now (work .entry)) at characters) (i + 1) r ≡ entry·begins (command·of what head ws) (labels·held (now (text .entry)) (now (work .entry)) at characters) (word·of (now (text .entry)) (now (work .entry)) i)) ⌝ }
+{
+    if punct(text, work, i, b',') {
+        return Entered::Refused(Refusal::LabelEntry, head);
+    }
+    let k = number(text, work, i);
+    if (1 <= k) & (k <= characters as u64) {
+        return entry_number(work, at, characters, what, CharacterNumber(k as usize), i);
+    }
+    Entered::Refused(Refusal::LabelEntry, i)
+}
+
+// A word behind the number of a character: the entry ends, or state labels begin, or it is the character's label.
+fn number_turn(
+    text: &[u8],
+    work: &mut [u32],
+    at: usize,
+    characters: usize,
+    k: CharacterNumber,
+    number: usize,
+    i: usize,
+) -> Entered
+    requires { ⌜ (1 ≤ k .0) × (k .0 ≤ characters) × (at + 2 * characters ≤ length (now work)) × (i < at) × (i < 1048576) ⌝ }
+    ensures front { λ _. ⌜ take at (now (work .exit)) ≡ take at (now (work .entry)) ⌝ }
+    ensures placed { λ r. ⌜ placed·answer characters (i + 1) r ⌝ }
+    ensures entered { λ r. ⌜ ((s : ℕ) (c : LabelCommand) → entered (now (text .entry)) (take at (now (work .entry))) (labels·held (now (text .entry)) (now (work .exit)) at characters) (i + 1) r ≡ entry·turn s c (labels·held (now (text .entry)) (now (work .entry)) at characters) (numbered (k .0) number) (word·of (now (text .entry)) (now (work .entry)) i)) ⌝ }
+{
+    if punct(text, work, i, b',') {
+        return Entered::On(Entry::Next);
+    }
+    if punct(text, work, i, b'/') {
+        return begin_states(work, at, characters, k, number, i);
+    }
+    match label_one(text, work, at, characters, k, number, i) {
+        Judged::Good => Entered::On(Entry::Labelled(k, number)),
+        Judged::Refused(n, j) => Entered::Refused(n, j),
+    }
+}
+
+// A word behind the label of a character: the entry ends, or state labels begin.
+fn label_turn(
+    text: &[u8],
+    work: &[u32],
+    at: usize,
+    characters: usize,
+    k: CharacterNumber,
+    number: usize,
+    i: usize,
+) -> Entered
+    requires { ⌜ (1 ≤ k .0) × (k .0 ≤ characters) × (at + 2 * characters ≤ length (now work)) × (i < 1048576) ⌝ }
+    ensures placed { λ r. ⌜ placed·answer characters (i + 1) r ⌝ }
+    ensures entered { λ r. ⌜ ((s : ℕ) (c : LabelCommand) → entered (now (text .entry)) (take at (now (work .entry))) (labels·held (now (text .entry)) (now (work .entry)) at characters) (i + 1) r ≡ entry·turn s c (labels·held (now (text .entry)) (now (work .entry)) at characters) (labelled (k .0) number) (word·of (now (text .entry)) (now (work .entry)) i)) ⌝ }
+{
+    if punct(text, work, i, b',') {
+        return Entered::On(Entry::Next);
+    }
+    if punct(text, work, i, b'/') {
+        return begin_states(work, at, characters, k, number, i);
+    }
+    Entered::Refused(Refusal::LabelEntry, i)
 }
