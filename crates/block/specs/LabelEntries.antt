@@ -7,8 +7,8 @@ use Rattle.block.specs.Commands.{words}
 use Rattle.block.specs.Labels.{Labelled, LabelCommand, Entry, first, next, numbered, labelled, states, Entries, at}
 use Rattle.block.specs.NamesHeld.{names·of}
 use Rattle.block.specs.Outcome.{Outcome, done, refused}
-use Rattle.block.specs.declared.labels.Entered.{Entered}
-use Rattle.block.specs.declared.labels.Entry as code
+use Rattle.block.specs.declared.entries.Entered.{Entered}
+use Rattle.block.specs.declared.entries.Entry as code
 use Rattle.block.specs.declared.labels.Labelling.{Labelling}
 
 -- In front of an index: the state labels so far are the names of the words from where they begin up to there.

@@ -4,11 +4,9 @@
 ghost use Prim.Native.Nat.{ℕ, _+_, _-_, _*_, _≤_, _<_};
 ghost use Rattle.block.specs.Commands.{words};
 ghost use Rattle.block.specs.Judged.{judged};
-ghost use Rattle.block.specs.Labels.{LabelCommand, unlabelled, label·each, char·labels, numbered, labelled, begin·states, entry·number, entry·begins, entry·turn};
-ghost use Rattle.block.specs.LabelEntries.{entered, placed·answer, command·of};
+ghost use Rattle.block.specs.Labels.{unlabelled, label·each, char·labels};
 ghost use Rattle.block.specs.LabelSlots.{labels·held, label·one};
 ghost use Rattle.lexer.specs.Stored.{word·of, range};
-ghost use Rattle.lexer.specs.Words.{Numbered, number};
 ghost use lib.Dec.{eqb};
 ghost use lib.ListN.{length, take, getD, set, replicate};
 ghost use mathlib.Core.Bool.{not};
@@ -18,30 +16,12 @@ use super::Judged;
 use super::data::CharacterNumber;
 use super::words::named;
 use super::words::newline;
-use super::words::number;
-use super::words::punct;
 use lexer::Refusal;
 
 pub enum Labelling {
     CharLabels,
     StateLabels,
     CharStateLabels,
-}
-
-// Where an entry list is: before its first entry; at the number of a next one; behind the number, or the label, of a character, with the index of the
-// number's token; or in its state labels, with the index behind the token in front of them.
-pub enum Entry {
-    First,
-    Next,
-    Numbered(CharacterNumber, usize),
-    Labelled(CharacterNumber, usize),
-    States(CharacterNumber, usize, usize),
-}
-
-// The list with one word more, or the refusal of the token with an index.
-pub enum Entered {
-    On(Entry),
-    Refused(Refusal, usize),
 }
 
 // No character has a label or state labels.
@@ -59,7 +39,7 @@ pub fn clear_labels(work: &mut [u32], at: usize, characters: usize)
 }
 
 // Is the number of a character set, among those that begin at a place?
-fn slot_given(work: &[u32], place: usize, k: CharacterNumber) -> bool
+pub fn slot_given(work: &[u32], place: usize, k: CharacterNumber) -> bool
     requires { ⌜ (1 ≤ k .0) × (place + k .0 ≤ length (now work)) ⌝ }
     ensures { λ r. ⌜ r ≡ not (eqb (getD (now (work .entry)) (place + (k .0 - 1)) 0) 0) ⌝ }
 {
@@ -69,7 +49,7 @@ fn slot_given(work: &[u32], place: usize, k: CharacterNumber) -> bool
 }
 
 // Sets the number of a character.
-fn put_slot(work: &mut [u32], place: usize, k: CharacterNumber, value: u32)
+pub fn put_slot(work: &mut [u32], place: usize, k: CharacterNumber, value: u32)
     requires { ⌜ (1 ≤ k .0) × (place + k .0 ≤ length (now work)) ⌝ }
     ensures { λ _. ⌜ now (work .exit) ≡ set (now (work .entry)) (place + (k .0 - 1)) value ⌝ }
 {
@@ -78,7 +58,7 @@ fn put_slot(work: &mut [u32], place: usize, k: CharacterNumber, value: u32)
 }
 
 // Makes a word the label of a character, unless that has one: 26 then at the index `number`, and 17 at a word that is no name.
-fn label_one(
+pub fn label_one(
     text: &[u8],
     work: &mut [u32],
     at: usize,
@@ -102,7 +82,7 @@ fn label_one(
 }
 
 // How many words stand from an index up to another?
-fn count_words(text: &[u8], work: &[u32], from: usize, to: usize) -> usize
+pub fn count_words(text: &[u8], work: &[u32], from: usize, to: usize) -> usize
     ensures { λ r. ⌜ r ≡ length (words (range (now (text .entry)) (now (work .entry)) from to)) ⌝ }
 {
     let mut count = 0;
@@ -172,117 +152,4 @@ fn char_labels(
         return label_each(text, work, at, characters, from, to);
     }
     Judged::Refused(Refusal::Count, head)
-}
-
-// State labels of a character begin behind a word, unless they were given: 26 then at the entry's number.
-fn begin_states(
-    work: &[u32],
-    at: usize,
-    characters: usize,
-    k: CharacterNumber,
-    number: usize,
-    i: usize,
-) -> Entered
-    requires { ⌜ (1 ≤ k .0) × (k .0 ≤ characters) × (at + 2 * characters ≤ length (now work)) × (i < 1048576) ⌝ }
-    ensures placed { λ r. ⌜ placed·answer characters (i + 1) r ⌝ }
-    ensures entered { λ r. ⌜ ((text : List ℕ) → entered text (take at (now (work .entry))) (labels·held text (now (work .entry)) at characters) (i + 1) r ≡ begin·states (labels·held text (now (work .entry)) at characters) (k .0) number) ⌝ }
-{
-    if slot_given(work, at + characters, k) {
-        return Entered::Refused(Refusal::LabelEntry, number);
-    }
-    Entered::On(Entry::States(k, number, i + 1))
-}
-
-// Behind the number of an entry; in STATELABELS its state labels follow at once.
-fn entry_number(
-    work: &[u32],
-    at: usize,
-    characters: usize,
-    what: Labelling,
-    k: CharacterNumber,
-    i: usize,
-) -> Entered
-    requires { ⌜ (1 ≤ k .0) × (k .0 ≤ characters) × (at + 2 * characters ≤ length (now work)) × (i < 1048576) ⌝ }
-    ensures placed { λ r. ⌜ placed·answer characters (i + 1) r ⌝ }
-    ensures entered { λ r. ⌜ ((text : List ℕ) → entered text (take at (now (work .entry))) (labels·held text (now (work .entry)) at characters) (i + 1) r ≡ entry·number what (labels·held text (now (work .entry)) at characters) (word·of text (now (work .entry)) i) (k .0)) ⌝ }
-{
-    match what {
-        Labelling::CharLabels => Entered::On(Entry::Numbered(k, i)),
-        Labelling::StateLabels => begin_states(work, at, characters, k, i, i),
-        Labelling::CharStateLabels => Entered::On(Entry::Numbered(k, i)),
-    }
-}
-
-// An entry begins with the number of a character, in a token of any kind; a comma there is 26 at the command's word.
-fn entry_begins(
-    text: &[u8],
-    work: &[u32],
-    at: usize,
-    characters: usize,
-    what: Labelling,
-    head: usize,
-    i: usize,
-) -> Entered
-    requires { ⌜ (at + 2 * characters ≤ length (now work)) × (i < 1048576) ⌝ }
-    ensures placed { λ r. ⌜ placed·answer characters (i + 1) r ⌝ }
-    ensures entered { λ r. ⌜ ((ws : List Numbered) → entered (now (text .entry)) (take at (now (work .entry))) (labels·held (now (text .entry)) (now (work .entry)) at characters) (i + 1) r ≡ entry·begins (command·of what head ws) (labels·held (now (text .entry)) (now (work .entry)) at characters) (word·of (now (text .entry)) (now (work .entry)) i)) ⌝ }
-{
-    if punct(text, work, i, b',') {
-        return Entered::Refused(Refusal::LabelEntry, head);
-    }
-    let k = number(text, work, i);
-    if (1 <= k) & (k <= characters as u64) {
-        return entry_number(work, at, characters, what, CharacterNumber(k as usize), i);
-    }
-    Entered::Refused(Refusal::LabelEntry, i)
-}
-
-// A word behind the number of a character: the entry ends, or state labels begin, or it is the character's label.
-fn number_turn(
-    text: &[u8],
-    work: &mut [u32],
-    at: usize,
-    characters: usize,
-    k: CharacterNumber,
-    number: usize,
-    i: usize,
-) -> Entered
-    requires { ⌜ (1 ≤ k .0) × (k .0 ≤ characters) × (at + 2 * characters ≤ length (now work)) × (i < at) × (i < 1048576) ⌝ }
-    ensures front { λ _. ⌜ take at (now (work .exit)) ≡ take at (now (work .entry)) ⌝ }
-    ensures placed { λ r. ⌜ placed·answer characters (i + 1) r ⌝ }
-    ensures entered { λ r. ⌜ ((s : ℕ) (c : LabelCommand) → entered (now (text .entry)) (take at (now (work .entry))) (labels·held (now (text .entry)) (now (work .exit)) at characters) (i + 1) r ≡ entry·turn s c (labels·held (now (text .entry)) (now (work .entry)) at characters) (numbered (k .0) number) (word·of (now (text .entry)) (now (work .entry)) i)) ⌝ }
-{
-    if punct(text, work, i, b',') {
-        return Entered::On(Entry::Next);
-    }
-    if punct(text, work, i, b'/') {
-        return begin_states(work, at, characters, k, number, i);
-    }
-    match label_one(text, work, at, characters, k, number, i) {
-        Judged::Good => Entered::On(Entry::Labelled(k, number)),
-        Judged::Refused(n, j) => Entered::Refused(n, j),
-    }
-}
-
-// A word behind the label of a character: the entry ends, or state labels begin.
-fn label_turn(
-    text: &[u8],
-    work: &[u32],
-    at: usize,
-    characters: usize,
-    k: CharacterNumber,
-    number: usize,
-    i: usize,
-) -> Entered
-    requires { ⌜ (1 ≤ k .0) × (k .0 ≤ characters) × (at + 2 * characters ≤ length (now work)) × (i < 1048576) ⌝ }
-    ensures placed { λ r. ⌜ placed·answer characters (i + 1) r ⌝ }
-    ensures entered { λ r. ⌜ ((s : ℕ) (c : LabelCommand) → entered (now (text .entry)) (take at (now (work .entry))) (labels·held (now (text .entry)) (now (work .entry)) at characters) (i + 1) r ≡ entry·turn s c (labels·held (now (text .entry)) (now (work .entry)) at characters) (labelled (k .0) number) (word·of (now (text .entry)) (now (work .entry)) i)) ⌝ }
-{
-    if punct(text, work, i, b',') {
-        return Entered::On(Entry::Next);
-    }
-    if punct(text, work, i, b'/') {
-        return begin_states(work, at, characters, k, number, i);
-    }
-    Entered::Refused(Refusal::LabelEntry, i)
 }

@@ -5,6 +5,7 @@ pub mod assumptions;
 pub mod data;
 pub mod dimension;
 pub mod dimensions;
+pub mod entries;
 pub mod format_options;
 pub mod formats;
 pub mod labels;

@@ -1,7 +1,7 @@
 -- The function `begin_states` meets its contract: the character has state labels, or they begin here. Assumes nothing.
 use Rattle.block.proofs.EntryTurns.{states-twice, states-begin}
-use Rattle.block.proofs.labels.begin_states.Statement.{statement}
-use Rattle.block.proofs.labels.begin_states.Tie as tie
+use Rattle.block.proofs.entries.begin_states.Statement.{statement}
+use Rattle.block.proofs.entries.begin_states.Tie as tie
 use Rattle.block.proofs.labels.slot_given.Reads as slot-given-reads
 use Rattle.block.specs.LabelEntries.{entered, entry·of}
 use borrow.Author.Needs.{needs}

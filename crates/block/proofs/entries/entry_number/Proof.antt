@@ -1,7 +1,7 @@
 -- The function `entry_number` meets its contract: by the command. Assumes nothing.
-use Rattle.block.proofs.labels.begin_states.Reads as begin-states-reads
-use Rattle.block.proofs.labels.entry_number.Statement.{statement}
-use Rattle.block.proofs.labels.entry_number.Tie as tie
+use Rattle.block.proofs.entries.begin_states.Reads as begin-states-reads
+use Rattle.block.proofs.entries.entry_number.Statement.{statement}
+use Rattle.block.proofs.entries.entry_number.Tie as tie
 use Rattle.block.specs.LabelEntries.{entered, entry·of}
 use Rattle.block.specs.Labels.{entry·number}
 use Rattle.lexer.specs.Stored.{word·of}

@@ -1,9 +1,9 @@
 -- The function `entry_begins` meets its contract: one test after the other. Assumes nothing.
 use Rattle.block.proofs.EntryTurns.{begins-comma, begins-outside, begins-number}
 use Rattle.block.proofs.LabelSlotLaws.{held-length}
-use Rattle.block.proofs.labels.entry_begins.Statement.{statement}
-use Rattle.block.proofs.labels.entry_begins.Tie as tie
-use Rattle.block.proofs.labels.entry_number.Reads as entry-number-reads
+use Rattle.block.proofs.entries.entry_begins.Statement.{statement}
+use Rattle.block.proofs.entries.entry_begins.Tie as tie
+use Rattle.block.proofs.entries.entry_number.Reads as entry-number-reads
 use Rattle.block.proofs.words.number.Reads as number-reads
 use Rattle.block.proofs.words.punct.Reads as punct-reads
 use Rattle.block.specs.LabelEntries.{entered}

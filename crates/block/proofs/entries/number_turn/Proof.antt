@@ -1,9 +1,9 @@
 -- The function `number_turn` meets its contract: one test after the other. Assumes nothing.
 use Rattle.block.proofs.EntryTurns.{number-comma, number-slash, number-label}
-use Rattle.block.proofs.labels.begin_states.Reads as begin-states-reads
+use Rattle.block.proofs.entries.begin_states.Reads as begin-states-reads
 use Rattle.block.proofs.labels.label_one.Reads as label-one-reads
-use Rattle.block.proofs.labels.number_turn.Statement.{statement}
-use Rattle.block.proofs.labels.number_turn.Tie as tie
+use Rattle.block.proofs.entries.number_turn.Statement.{statement}
+use Rattle.block.proofs.entries.number_turn.Tie as tie
 use Rattle.block.proofs.words.punct.Reads as punct-reads
 use Rattle.block.specs.Judged.{judged}
 use Rattle.block.specs.LabelEntries.{entered, entry·of}

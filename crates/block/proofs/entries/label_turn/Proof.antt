@@ -1,8 +1,8 @@
 -- The function `label_turn` meets its contract: one test after the other. Assumes nothing.
 use Rattle.block.proofs.EntryTurns.{label-comma, label-slash, label-more}
-use Rattle.block.proofs.labels.begin_states.Reads as begin-states-reads
-use Rattle.block.proofs.labels.label_turn.Statement.{statement}
-use Rattle.block.proofs.labels.label_turn.Tie as tie
+use Rattle.block.proofs.entries.begin_states.Reads as begin-states-reads
+use Rattle.block.proofs.entries.label_turn.Statement.{statement}
+use Rattle.block.proofs.entries.label_turn.Tie as tie
 use Rattle.block.proofs.words.punct.Reads as punct-reads
 use Rattle.block.specs.LabelEntries.{entered, entry·of}
 use Rattle.lexer.specs.Stored.{word·of}
