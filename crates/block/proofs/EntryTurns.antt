@@ -1,24 +1,28 @@
 -- What one word more comes to in an entry list of labels, by what work memory holds. Assumes nothing.
 use Prim.Native.Nat.{ℕ, _+_, _-_, _*_, _≤_, _<_}
-use Rattle.block.proofs.LabelSlotLaws.{character-states}
-use Rattle.block.proofs.WalkLaws.{words-end}
+use Rattle.block.proofs.LabelSlotLaws.{character-states, stored-states, word-front, range-front}
+use Rattle.block.proofs.WalkLaws.{words-end, words-last}
 use Rattle.block.specs.Commands.{newline, words}
 use Rattle.block.specs.LabelEntries.{command·of}
 use Rattle.block.specs.Labels.{Labelled, LabelCommand, next, numbered, labelled, states, Entries, at, character, with·label, with·states, begin·states, entry·number, entry·begins, entry·label, entry·states, state·label, entry·turn}
 use Rattle.block.specs.LabelSlots.{labels·held, label·one}
 use Rattle.block.specs.NamesHeld.{name·of, names·of}
 use Rattle.block.specs.Outcome.{Outcome, done, refused, then, need}
-use Rattle.lexer.proofs.Basics.{by-test}
+use Rattle.lexer.proofs.Basics.{by-test, and-left}
 use Rattle.lexer.proofs.LabelLaws.{label-some, label-none, label-given}
 use Rattle.lexer.specs.Base.{pick, given, byte}
 use Rattle.lexer.specs.Stored.{word·of, range}
-use Rattle.lexer.specs.Words.{Numbered, label, number, punct}
+use Rattle.lexer.specs.Words.{Numbered, label, number, punct, word?, quoted?, line·end?}
+use Rattle.lexer.specs.Classes.{blank}
+use Rattle.lexer.specs.declared.Kind.{Kind}
 use Rattle.block.specs.declared.labels.Labelling.{Labelling}
 use Rattle.lexer.specs.declared.refusal.Refusal.{Refusal}
 use lib.Dec.{eqb, leb, ltb}
-use lib.ListN.{length, getD, take, set}
-use mathlib.Core.Bool.{Bool, true, false, not, _&&_}
-use mathlib.Core.List.{List, [], _∷_, _++_}
+use borrow.Author.Tests.{lt-ltb, le-ltb}
+use lib.ListN.{length, getD, take, set, length-map}
+use lib.Seq.{take-set-le}
+use mathlib.Core.Bool.{Bool, true, false, not, _&&_, _||_, true≢false}
+use mathlib.Core.List.{List, [], _∷_, _++_, map-append}
 use mathlib.Core.Path.{_≡_, refl, sym, ap, _∙_}
 use native.Mathlib.Omega.{arith}
 
@@ -95,3 +99,45 @@ module _ (count : ℕ) (c : LabelCommand) (cs : List Labelled) (k i : ℕ) (w : 
     pub states-nameless : punct (byte ",") w ≡ false → given (label w) ≡ false → refused Refusal.NotName (w .index) ≡ entry·turn count c cs (states k i s) w
     unfolding entry·turn pick state·label then need
     states-nameless e g = rw (e, label-none w g)
+
+-- A name is no newline.
+line-nameless : (k : Kind) → word? k || quoted? k ≡ true → line·end? k ≡ false
+unfolding word? quoted? line·end?
+line-nameless Kind.Word h = refl
+line-nameless Kind.Quoted h = refl
+line-nameless Kind.String h = refl
+line-nameless (Kind.Punctuation b) h = refl
+line-nameless Kind.Newline h = sym h
+line-nameless Kind.OpenQuote h = refl
+line-nameless Kind.OpenComment h = refl
+
+name-lineless : (w : Numbered) → given (label w) ≡ true → newline w ≡ false
+unfolding newline
+name-lineless w h = line-nameless (w .token .kind) (and-left (word? (w .token .kind) || quoted? (w .token .kind)) (not (blank (w .token .text))) (sym (label-given w) ∙ h))
+
+-- State labels so far, with one name more
+pub names-grown : (text work : List ℕ) (here from i : ℕ) → from ≤ i → i < here → given (label (word·of text work i)) ≡ true
+    → names·of (words (range text (take here work) from (i + 1))) ≡ names·of (words (range text (take here work) from i)) ++ (name·of (word·of text work i) ∷ [])
+unfolding names·of
+names-grown text work here from i l h g =
+    let same = word-front text work here i h in
+    let full = name-lineless (word·of text work i) g in
+    rw (words-last text (take here work) from i l (rw same full), map-append, same)
+
+-- State labels end: too many, or stored.
+module _ (text work : List ℕ) (here n k : ℕ) (from : 1 ≤ k) (to : k ≤ n) (symbols number first i : ℕ) (h : i ≤ here) (count : ℕ) (counted : count ≡ length (words (range text work first i))) where
+  counted-names : length (names·of (words (range text (take here work) first i))) ≡ count
+  unfolding names·of
+  counted-names = length-map (words (range text (take here work) first i)) name·of ∙ rw (range-front text work here first i h) (sym counted)
+
+  pub states-many : symbols < count → refused Refusal.LabelEntry number ≡ entry·states symbols (labels·held text work here n) k number (names·of (words (range text (take here work) first i)))
+  unfolding entry·states pick
+  states-many l = rw (counted-names, lt-ltb symbols count l)
+
+  pub states-few : count ≤ symbols → symbols < 128 → here + 2 * n ≤ length work → first ≤ i → (after : List ℕ) → after ≡ set work (here + n + (k - 1)) (first * 128 + count + 1)
+      → (take here after ≡ take here work) × (done (labels·held text after here n) ≡ entry·states symbols (labels·held text work here n) k number (names·of (words (range text (take here work) first i))))
+  unfolding entry·states pick
+  states-few l few fits back after put = (
+    ap (take here) put ∙ take-set-le here work (here + n + (k - 1)) (first * 128 + count + 1) (omega arith),
+    rw (counted-names, le-ltb symbols count l, put, range-front text work here first i h) (ap done (stored-states text work here n fits k from to first i count back h counted (omega arith))),
+  )

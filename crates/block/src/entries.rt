@@ -1,10 +1,13 @@
 // The entries of STATELABELS and CHARSTATELABELS, after mod.rs.
 
 ghost use Prim.Native.Nat.{ℕ, _+_, _*_, _≤_, _<_};
+ghost use Rattle.block.specs.Commands.{words};
+ghost use Rattle.block.specs.Judged.{judged};
 ghost use Rattle.block.specs.LabelEntries.{entered, placed·answer, command·of};
 ghost use Rattle.block.specs.LabelSlots.{labels·held};
-ghost use Rattle.block.specs.Labels.{LabelCommand, numbered, labelled, begin·states, entry·number, entry·begins, entry·turn};
-ghost use Rattle.lexer.specs.Stored.{word·of};
+ghost use Rattle.block.specs.Labels.{LabelCommand, numbered, labelled, begin·states, entry·number, entry·begins, entry·states, entry·turn, states};
+ghost use Rattle.block.specs.NamesHeld.{names·of};
+ghost use Rattle.lexer.specs.Stored.{word·of, range};
 ghost use Rattle.lexer.specs.Words.{Numbered};
 ghost use lib.ListN.{length, take};
 ghost use mathlib.Core.List.{List};
@@ -12,8 +15,11 @@ ghost use mathlib.Core.Path.{_≡_};
 use super::Judged;
 use super::data::CharacterNumber;
 use super::labels::Labelling;
+use super::labels::count_words;
 use super::labels::label_one;
+use super::labels::put_slot;
 use super::labels::slot_given;
+use super::words::named;
 use super::words::number;
 use super::words::punct;
 use lexer::Refusal;
@@ -145,4 +151,58 @@ fn label_turn(
         return begin_states(work, at, characters, k, number, i);
     }
     Entered::Refused(Refusal::LabelEntry, i)
+}
+
+// The state labels of an entry end in front of an index: at most as many as there are symbols.
+fn entry_states(
+    text: &[u8],
+    work: &mut [u32],
+    at: usize,
+    characters: usize,
+    symbols: usize,
+    k: CharacterNumber,
+    number: usize,
+    from: usize,
+    i: usize,
+) -> Judged
+    requires { ⌜ (1 ≤ k .0) × (k .0 ≤ characters) × (at + 2 * characters ≤ length (now work)) × (from ≤ i) × (i ≤ at) × (i ≤ 1048576) × (symbols < 128) ⌝ }
+    ensures front { λ _. ⌜ take at (now (work .exit)) ≡ take at (now (work .entry)) ⌝ }
+    ensures labelled { λ r. ⌜ judged (labels·held (now (text .entry)) (now (work .exit)) at characters) r ≡ entry·states symbols (labels·held (now (text .entry)) (now (work .entry)) at characters) (k .0) number (names·of (words (range (now (text .entry)) (take at (now (work .entry))) from i))) ⌝ }
+{
+    let count = count_words(text, work, from, i);
+    if symbols < count {
+        return Judged::Refused(Refusal::LabelEntry, number);
+    }
+    let value = from * 128 + count + 1;
+    put_slot(work, at + characters, k, value as u32);
+    Judged::Good
+}
+
+// A word among the state labels of a character: the entry ends, or it is one more.
+fn states_turn(
+    text: &[u8],
+    work: &mut [u32],
+    at: usize,
+    characters: usize,
+    symbols: usize,
+    k: CharacterNumber,
+    number: usize,
+    from: usize,
+    i: usize,
+) -> Entered
+    requires { ⌜ (1 ≤ k .0) × (k .0 ≤ characters) × (at + 2 * characters ≤ length (now work)) × (from ≤ i) × (i < at) × (i < 1048576) × (symbols < 128) ⌝ }
+    ensures front { λ _. ⌜ take at (now (work .exit)) ≡ take at (now (work .entry)) ⌝ }
+    ensures placed { λ r. ⌜ placed·answer characters (i + 1) r ⌝ }
+    ensures entered { λ r. ⌜ ((c : LabelCommand) → entered (now (text .entry)) (take at (now (work .entry))) (labels·held (now (text .entry)) (now (work .exit)) at characters) (i + 1) r ≡ entry·turn symbols c (labels·held (now (text .entry)) (now (work .entry)) at characters) (states (k .0) number (names·of (words (range (now (text .entry)) (take at (now (work .entry))) from i)))) (word·of (now (text .entry)) (now (work .entry)) i)) ⌝ }
+{
+    if punct(text, work, i, b',') {
+        return match entry_states(text, work, at, characters, symbols, k, number, from, i) {
+            Judged::Good => Entered::On(Entry::Next),
+            Judged::Refused(n, j) => Entered::Refused(n, j),
+        };
+    }
+    if named(text, work, i) {
+        return Entered::On(Entry::States(k, number, from));
+    }
+    Entered::Refused(Refusal::NotName, i)
 }
