@@ -14,8 +14,10 @@ pub mod DeclaredFaults
 pub mod DeclaredHeld
 pub mod DimensionsFew
 pub mod DimensionsLaws
+pub mod EachLabelled
 pub mod EntriesCut
 pub mod EntriesFollow
+pub mod EntryTurns
 pub mod EntryWords
 pub mod FaultPlaces
 pub mod Faulted
@@ -29,6 +31,8 @@ pub mod FormatSound
 pub mod GoodSymbols
 pub mod ItemLaws
 pub mod LabelFaults
+pub mod LabelSlotLaws
+pub mod LabelTurns
 pub mod LabelsApplied
 pub mod LabelsFollow
 pub mod LabelsGained

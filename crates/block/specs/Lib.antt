@@ -22,6 +22,8 @@ pub mod Lines
 pub mod SequentialShape
 pub mod Interleaved
 pub mod Labels
+pub mod LabelSlots
+pub mod LabelEntries
 pub mod CharacterList
 pub mod Typeset
 pub mod TypesHeld

@@ -13,3 +13,8 @@ pub enum Cell {
     Gap,
     None,
 }
+
+// A taxon and a character by their numbers, each counted from 1 on.
+pub struct TaxonNumber(pub usize);
+
+pub struct CharacterNumber(pub usize);

@@ -8,6 +8,7 @@ pub mod characters;
 pub mod data;
 pub mod dimension;
 pub mod dimensions;
+pub mod entries;
 pub mod format_options;
 pub mod formats;
 pub mod labels;
