@@ -8,6 +8,7 @@ pub mod FormatSound
 pub mod ItemLaws
 pub mod LabelsSound
 pub mod ListTyped
+pub mod ListWalks
 pub mod MatrixParts
 pub mod MatrixSound
 pub mod NamesFromTokens
@@ -32,6 +33,8 @@ pub mod SymbolWalk
 pub mod TaxaFollow
 pub mod WalkLaws
 pub mod TypesHeldLaws
+pub mod TypesetLists
 pub mod TypesetWalks
 pub mod VectorTypes
 pub mod Weights
+pub mod WordCut

@@ -1,12 +1,13 @@
 // ASSUMPTIONS, after assumptions.rs: OPTIONS and TYPESET.
 
-ghost use Prim.Native.Nat.{ℕ, _+_, _-_, _≤_, min};
+ghost use Prim.Native.Nat.{ℕ, _+_, _-_, _<_, _≤_, min};
 ghost use Rattle.block.specs.Blocks.{options};
 ghost use Rattle.block.specs.Commands.{words};
 ghost use Rattle.block.specs.NextWord.{Next};
 ghost use Rattle.block.specs.Outcome.{need};
-ghost use Rattle.block.specs.Typeset.{ordering, typed·range, star, name, named, form, close, equals, types, typeset·turn, Typeset};
+ghost use Rattle.block.specs.Typeset.{ordering, typed·range, star, name, named, form, close, equals, types, type, typeset, typeset·turn, Typeset};
 ghost use Rattle.block.specs.TypesHeld.{type·number, type·word, options·answer, types·held, unless·twice};
+ghost use Rattle.block.specs.ListCode.{list·then};
 ghost use Rattle.block.specs.TypesetWalk.{set·of, typeset·at, after·equals, placed·then, form·then, form·word};
 ghost use Rattle.block.specs.Judged.{judged};
 ghost use Rattle.lexer.specs.Base.{pick};
@@ -19,6 +20,8 @@ ghost use mathlib.Core.List.{[]};
 ghost use mathlib.Core.Option.{none};
 ghost use mathlib.Core.Path.{_≡_};
 use super::Judged;
+use super::characters::ListAnswer;
+use super::characters::list_from;
 use super::model::CharacterOrdering;
 use super::words::is;
 use super::words::named;
@@ -422,4 +425,98 @@ fn vector(
         return Judged::Refused(Refusal::Count, head);
     }
     vector_types(text, work, head, from, to, at, characters)
+}
+
+// A type word, its `:` and its list.
+fn one_list(
+    text: &[u8],
+    work: &mut [u32],
+    head: usize,
+    from: usize,
+    to: usize,
+    at: usize,
+    characters: usize,
+) -> ListAnswer
+    requires { ⌜ (to ≤ at) × (at + characters ≤ length (now work)) ⌝ }
+    ensures front { λ r. ⌜ take at (now (work .exit)) ≡ take at (now (work .entry)) ⌝ }
+    ensures onward { λ r. ⌜ ((j : ℕ) → r ≡ ListAnswer.Next j → (from < j) × (j ≤ to)) ⌝ }
+    ensures answer { λ r. ⌜ list·then (types·held (now (work .exit)) at characters) r (typeset·at (set·of characters head) (now (text .entry)) (now (work .entry)) to (type (types·held (now (work .exit)) at characters))) ≡ typeset·at (set·of characters head) (now (text .entry)) (now (work .entry)) to (type (types·held (now (work .entry)) at characters)) from ⌝ }
+{
+    let word = next_word(text, work, from, to);
+    if to <= word {
+        return ListAnswer::Judged(Judged::Refused(Refusal::TypeSet, head));
+    }
+    match ordering(text, work, word) {
+        TypeWord::Type(o) => list_from(text, work, word, o, word + 1, to, at, characters),
+        TypeWord::None => ListAnswer::Judged(Judged::Refused(Refusal::TypeSet, word)),
+    }
+}
+
+// A list for each type, with commas between them.
+fn lists(
+    text: &[u8],
+    work: &mut [u32],
+    head: usize,
+    from: usize,
+    to: usize,
+    at: usize,
+    characters: usize,
+) -> Judged
+    requires { ⌜ (to ≤ at) × (at + characters ≤ length (now work)) ⌝ }
+    ensures front { λ r. ⌜ take at (now (work .exit)) ≡ take at (now (work .entry)) ⌝ }
+    ensures answer { λ r. ⌜ judged (types·held (now (work .exit)) at characters) r ≡ typeset·at (set·of characters head) (now (text .entry)) (now (work .entry)) to (type (types·held (now (work .entry)) at characters)) from ⌝ }
+{
+    let mut i = from;
+    loop {
+        match one_list(text, work, head, i, to, at, characters) {
+            ListAnswer::Next(j) => {
+                i = j;
+            }
+            ListAnswer::Judged(r) => {
+                return r;
+            }
+        }
+    }
+}
+
+// The lists of a set without a form, or of the form STANDARD.
+fn standard(
+    text: &[u8],
+    work: &mut [u32],
+    head: usize,
+    from: usize,
+    to: usize,
+    at: usize,
+    characters: usize,
+) -> Judged
+    requires { ⌜ (to ≤ at) × (at + characters ≤ length (now work)) ⌝ }
+    ensures front { λ r. ⌜ take at (now (work .exit)) ≡ take at (now (work .entry)) ⌝ }
+    ensures answer { λ r. ⌜ judged (types·held (now (work .exit)) at characters) r ≡ typeset·at (set·of characters head) (now (text .entry)) (now (work .entry)) to (type (replicate characters none)) from ⌝ }
+{
+    clear_types(work, at, characters);
+    lists(text, work, head, from, to, at, characters)
+}
+
+// TYPESET: the type of each character that it names, held from a place of work memory on.
+pub fn parse_typeset(
+    text: &[u8],
+    work: &mut [u32],
+    head: usize,
+    from: usize,
+    to: usize,
+    characters: usize,
+    at: usize,
+) -> Judged
+    requires { ⌜ (to ≤ at) × (at + characters ≤ length (now work)) ⌝ }
+    ensures front { λ r. ⌜ take at (now (work .exit)) ≡ take at (now (work .entry)) ⌝ }
+    ensures size { λ r. ⌜ length (now (work .exit)) ≡ length (now (work .entry)) ⌝ }
+    ensures answer { λ r. ⌜ judged (types·held (now (work .exit)) at characters) r ≡ typeset (record { characters = characters; head = head }) (words (range (now (text .entry)) (now (work .entry)) from to)) ⌝ }
+{
+    match typeset_head(text, work, head, from, to) {
+        FormAnswer::Form(form, i) => match form {
+            Form::Standard => standard(text, work, head, i, to, at, characters),
+            Form::Vector => vector(text, work, head, i, to, at, characters),
+        },
+        FormAnswer::Refused(n, i) => Judged::Refused(n, i),
+    }
 }

@@ -1,28 +1,42 @@
 // Character lists of a TYPESET, after assumptions.rs: numbers, `.` for the last, ALL, ranges, and `\` with a stride.
 
-ghost use Prim.Native.Nat.{ℕ, _+_, _≤_};
+ghost use Prim.Native.Nat.{ℕ, _+_, _<_, _≤_};
 ghost use Rattle.block.specs.CharacterList as L;
-ghost use Rattle.block.specs.CharacterList.{first·item, item·turn, listed, next·item, part·turn};
+ghost use Rattle.block.specs.CharacterList.{first·item, item·turn, list·turn, listed, next·item, part·turn};
 ghost use Rattle.block.specs.Judged.{judged};
-ghost use Rattle.block.specs.ListCode.{Follows, first·answer, item·answer};
+ghost use Rattle.block.specs.ListCode.{Follows, first·answer, item·answer, list·then};
 ghost use Rattle.block.specs.ListParts.{told};
-ghost use Rattle.block.specs.Outcome.{need};
-ghost use Rattle.block.specs.Typeset.{Types, list·ends, on·types, typed, typed·range};
+ghost use Rattle.block.specs.Outcome.{Outcome, need, then};
+ghost use Rattle.block.specs.Typeset.{Types, colon, list, list·ends, on·types, type, typed, typed·range};
 ghost use Rattle.block.specs.TypesHeld.{types·held, unless·twice};
+ghost use Rattle.block.specs.TypesetWalk.{set·of, typeset·at};
 ghost use Rattle.block.specs.declared.assumptions.Item as I;
 ghost use Rattle.block.specs.declared.assumptions.Range as R;
+ghost use Rattle.lexer.specs.Stored.{word·of};
+ghost use Rattle.lexer.specs.Words.{word?};
 ghost use Rattle.lexer.specs.declared.refusal.Refusal as T;
 ghost use lib.ListN.{length, take};
-ghost use mathlib.Core.List.{List};
+ghost use mathlib.Core.Bool.{true};
+ghost use mathlib.Core.List.{List, []};
 ghost use mathlib.Core.Path.{_≡_};
 use super::Judged;
 use super::assumptions::Further;
 use super::assumptions::Item;
 use super::assumptions::Range;
+use super::assumptions::next_word;
 use super::assumptions::type_range;
 use super::model::CharacterOrdering;
+use super::parts::NextPart;
 use super::parts::Part;
+use super::parts::whole_part;
+use super::parts::word_part;
+use super::words::is;
+use super::words::punct;
+use lexer::Kind;
 use lexer::Refusal;
+use lexer::kind_at;
+use lexer::start_of;
+use lexer::text_start;
 
 // The first number of a range, or ALL; or the refusal of the token with an index.
 pub enum FirstItem {
@@ -243,4 +257,161 @@ pub fn list_end(
         Item::To(_, index) => Judged::Refused(Refusal::CharacterList, index),
         Item::By(_, _, index) => Judged::Refused(Refusal::CharacterList, index),
     }
+}
+
+// One word more of a list, part by part.
+fn cut_word(
+    text: &[u8],
+    work: &mut [u32],
+    i: usize,
+    at: usize,
+    count: usize,
+    ordering: CharacterOrdering,
+    from: Item,
+    before: bool,
+) -> WordAnswer
+    requires { ⌜ (i < at) × (at + count ≤ length (now work)) ⌝ }
+    requires { ⌜ word? (word·of (now text) (now work) i .token .kind) ≡ true ⌝ }
+    ensures front { λ r. ⌜ take at (now (work .exit)) ≡ take at (now (work .entry)) ⌝ }
+    ensures answer { λ r. ⌜ ((rs : List R.Range) (ts : Types) → typed ordering rs ts ≡ unless·twice before (types·held (now (work .entry)) at count) → Follows ordering ts (types·held (now (work .exit)) at count) (list·turn count (listed rs from) (word·of (now (text .entry)) (now (work .entry)) i)) r) ⌝ }
+{
+    let all = is(text, work, i, b"ALL");
+    let mut c = text_start(text, start_of(work, i));
+    let mut item = from;
+    let mut twice = before;
+    loop {
+        match word_part(text, i, all, count as u64, c) {
+            NextPart::Part(part, d) => match part_turn(
+                work,
+                at,
+                count,
+                ordering,
+                item,
+                twice,
+                part,
+            ) {
+                WordAnswer::On(m, t) => {
+                    item = m;
+                    twice = t;
+                    c = d;
+                }
+                WordAnswer::Refused(n, k) => {
+                    return WordAnswer::Refused(n, k);
+                }
+            },
+            NextPart::End => {
+                return WordAnswer::On(item, twice);
+            }
+        }
+    }
+}
+
+// One word more of a list.
+pub fn list_word(
+    text: &[u8],
+    work: &mut [u32],
+    i: usize,
+    at: usize,
+    count: usize,
+    ordering: CharacterOrdering,
+    item: Item,
+    twice: bool,
+) -> WordAnswer
+    requires { ⌜ (i < at) × (at + count ≤ length (now work)) ⌝ }
+    ensures front { λ r. ⌜ take at (now (work .exit)) ≡ take at (now (work .entry)) ⌝ }
+    ensures answer { λ r. ⌜ ((rs : List R.Range) (ts : Types) → typed ordering rs ts ≡ unless·twice twice (types·held (now (work .entry)) at count) → Follows ordering ts (types·held (now (work .exit)) at count) (list·turn count (listed rs item) (word·of (now (text .entry)) (now (work .entry)) i)) r) ⌝ }
+{
+    match kind_at(text, start_of(work, i)) {
+        Kind::Word => cut_word(text, work, i, at, count, ordering, item, twice),
+        _ => {
+            let part = whole_part(text, work, i, count as u64);
+            part_turn(work, at, count, ordering, item, twice, part)
+        }
+    }
+}
+
+// A list has ended at a comma, behind which the command goes on.
+fn end_at_comma(verdict: Judged, behind: usize) -> ListAnswer
+    ensures place { λ r. ⌜ ((j : ℕ) → r ≡ ListAnswer.Next j → j ≡ behind) ⌝ }
+    ensures answer { λ r. ⌜ ((us : Types) (f : ℕ → Outcome Types) → list·then us r f ≡ then (judged us verdict) (λ _. f behind)) ⌝ }
+{
+    match verdict {
+        Judged::Good => ListAnswer::Next(behind),
+        Judged::Refused(n, i) => ListAnswer::Judged(Judged::Refused(n, i)),
+    }
+}
+
+// A list, word by word, up to a comma or the end.
+pub fn list_walk(
+    text: &[u8],
+    work: &mut [u32],
+    word: usize,
+    ordering: CharacterOrdering,
+    from: usize,
+    to: usize,
+    at: usize,
+    count: usize,
+) -> ListAnswer
+    requires { ⌜ (to ≤ at) × (at + count ≤ length (now work)) ⌝ }
+    ensures front { λ r. ⌜ take at (now (work .exit)) ≡ take at (now (work .entry)) ⌝ }
+    ensures onward { λ r. ⌜ ((j : ℕ) → r ≡ ListAnswer.Next j → (from < j) × (j ≤ to)) ⌝ }
+    ensures answer { λ r. ⌜ ((head : ℕ) → list·then (types·held (now (work .exit)) at count) r (typeset·at (set·of count head) (now (text .entry)) (now (work .entry)) to (type (types·held (now (work .exit)) at count))) ≡ typeset·at (set·of count head) (now (text .entry)) (now (work .entry)) to (list (types·held (now (work .entry)) at count) ordering word (listed [] I.Item.Number)) from) ⌝ }
+{
+    let mut item = Item::Number;
+    let mut twice = false;
+    let mut i = from;
+    loop {
+        let j = next_word(text, work, i, to);
+        if to <= j {
+            let end = list_end(work, at, count, ordering, word, item, twice);
+            return ListAnswer::Judged(end);
+        }
+        if punct(text, work, j, b',') {
+            let end = list_end(work, at, count, ordering, word, item, twice);
+            return end_at_comma(end, j + 1);
+        }
+        match list_word(text, work, j, at, count, ordering, item, twice) {
+            WordAnswer::On(m, t) => {
+                item = m;
+                twice = t;
+                i = j + 1;
+            }
+            WordAnswer::Refused(n, k) => {
+                return ListAnswer::Judged(Judged::Refused(n, k));
+            }
+        }
+    }
+}
+
+// The `:` behind the type word with an index, and its list, which is not empty.
+pub fn list_from(
+    text: &[u8],
+    work: &mut [u32],
+    word: usize,
+    ordering: CharacterOrdering,
+    from: usize,
+    to: usize,
+    at: usize,
+    count: usize,
+) -> ListAnswer
+    requires { ⌜ (to ≤ at) × (at + count ≤ length (now work)) ⌝ }
+    ensures front { λ r. ⌜ take at (now (work .exit)) ≡ take at (now (work .entry)) ⌝ }
+    ensures onward { λ r. ⌜ ((j : ℕ) → r ≡ ListAnswer.Next j → (from < j) × (j ≤ to)) ⌝ }
+    ensures answer { λ r. ⌜ ((head : ℕ) → list·then (types·held (now (work .exit)) at count) r (typeset·at (set·of count head) (now (text .entry)) (now (work .entry)) to (type (types·held (now (work .exit)) at count))) ≡ typeset·at (set·of count head) (now (text .entry)) (now (work .entry)) to (colon (types·held (now (work .entry)) at count) ordering word) from) ⌝ }
+{
+    let mark = next_word(text, work, from, to);
+    if to <= mark {
+        return ListAnswer::Judged(Judged::Refused(Refusal::TypeSet, word));
+    }
+    if !punct(text, work, mark, b':') {
+        return ListAnswer::Judged(Judged::Refused(Refusal::TypeSet, word));
+    }
+    let first = next_word(text, work, mark + 1, to);
+    if to <= first {
+        return ListAnswer::Judged(Judged::Refused(Refusal::CharacterList, word));
+    }
+    if punct(text, work, first, b',') {
+        return ListAnswer::Judged(Judged::Refused(Refusal::CharacterList, word));
+    }
+    list_walk(text, work, word, ordering, mark + 1, to, at, count)
 }
