@@ -3,13 +3,13 @@
 ghost use Prim.Native.Nat.{ℕ, _+_, _-_, _<_, _≤_, min};
 ghost use Rattle.block.specs.Blocks.{options};
 ghost use Rattle.block.specs.Commands.{words};
+ghost use Rattle.block.specs.Judged.{judged};
+ghost use Rattle.block.specs.ListCode.{list·then};
 ghost use Rattle.block.specs.NextWord.{Next};
 ghost use Rattle.block.specs.Outcome.{need};
-ghost use Rattle.block.specs.Typeset.{ordering, typed·range, star, name, named, form, close, equals, types, type, typeset, typeset·turn, Typeset};
 ghost use Rattle.block.specs.TypesHeld.{type·number, type·word, options·answer, types·held, unless·twice};
-ghost use Rattle.block.specs.ListCode.{list·then};
+ghost use Rattle.block.specs.Typeset.{ordering, typed·range, star, name, named, form, close, equals, types, type, typeset, typeset·turn, Typeset};
 ghost use Rattle.block.specs.TypesetWalk.{set·of, typeset·at, after·equals, placed·then, form·then, form·word};
-ghost use Rattle.block.specs.Judged.{judged};
 ghost use Rattle.lexer.specs.Base.{pick};
 ghost use Rattle.lexer.specs.Stored.{word·of, range};
 ghost use Rattle.lexer.specs.declared.refusal.Refusal as R;

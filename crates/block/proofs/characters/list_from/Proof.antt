@@ -7,7 +7,7 @@ use Rattle.block.specs.Judged.{judged}
 use Rattle.block.specs.ListCode.{list·then}
 use borrow.Author.Needs.{needs}
 use borrow.Author.Tests.{not-true, not-false}
-use mathlib.Core.Path.{refl, sym, _∙_}
+use mathlib.Core.Path.{_≡_, refl, sym, _∙_}
 use native.Mathlib.Omega.{arith}
 
 next-word-requires : tie.Need-next-word-requires

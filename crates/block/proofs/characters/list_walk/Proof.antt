@@ -6,7 +6,7 @@ use Rattle.block.proofs.characters.list_walk.Tie as tie
 use Rattle.block.specs.Judged.{judged}
 use Rattle.block.specs.ListCode.{list·then}
 use borrow.Author.Needs.{needs}
-use mathlib.Core.Path.{sym, _∙_}
+use mathlib.Core.Path.{_≡_, sym, _∙_}
 use native.Mathlib.Omega.{arith}
 
 abbrev Inv-loop : tie.InvT-loop
