@@ -1,12 +1,15 @@
 // Blocks, after mod.rs: how each begins.
 
 ghost use Prim.Native.Nat.{ℕ};
-ghost use Rattle.block.specs.Blocks.{begin·assumptions, begin·block, begin·words, no·data, in·phase};
-ghost use Rattle.block.specs.Commands.{words};
+ghost use Rattle.block.specs.Blocks.{begin·assumptions, begin·block, in·data, in·phase, in·taxa, no·data};
+ghost use Rattle.block.specs.Outcome.{done, refused};
 ghost use Rattle.block.specs.StateHeld.{Reader, data·of, matrix·of, names·in, phase·of, state·of, stepped};
-ghost use Rattle.lexer.specs.Base.{given};
-ghost use Rattle.lexer.specs.Stored.{word·of, range};
+ghost use Rattle.lexer.specs.Base.{given, pick};
+ghost use Rattle.lexer.specs.Stored.{word·of};
+ghost use Rattle.lexer.specs.declared.refusal.Refusal.{Refusal};
+ghost use mathlib.Core.Bool.{_||_};
 ghost use mathlib.Core.List.{List};
+ghost use mathlib.Core.Option.{none};
 ghost use mathlib.Core.Path.{_≡_};
 use super::assumptions::TypeWord;
 use super::state::Data;
@@ -85,4 +88,53 @@ fn begin_assumptions(s: State, i: usize) -> Stepped
             s,
         )),
     }
+}
+
+// TAXA may stand once, before the matrix.
+fn begin_taxa(s: State, i: usize) -> Stepped
+    ensures { λ r. ⌜ ((m : Reader) (text work : List ℕ) → stepped m text work r ≡ pick (given (names·in text work (s .taxa)) || given (matrix·of m text work (s .matrix))) (refused Refusal.Block i) (done (in·phase (in·taxa i 0 none) (state·of m text work s)))) ⌝ }
+{
+    let taxa = s.taxa;
+    let matrix = s.matrix;
+    if names_given(taxa) | matrix_given(matrix) {
+        return Stepped::Refused(Refusal::Block, i);
+    }
+    Stepped::State(in_phase(Phase::Taxa(i, 0, Names::None), s))
+}
+
+// DATA or CHARACTERS may stand once; the taxa of a TAXA block are declared in it from the start.
+fn begin_data(s: State, i: usize) -> Stepped
+    ensures { λ r. ⌜ ((m : Reader) (text work : List ℕ) → stepped m text work r ≡ pick (given (matrix·of m text work (s .matrix))) (refused Refusal.Block i) (done (in·phase (in·data i (no·data (names·in text work (s .taxa)))) (state·of m text work s)))) ⌝ }
+{
+    let taxa = s.taxa;
+    let matrix = s.matrix;
+    if matrix_given(matrix) {
+        return Stepped::Refused(Refusal::Block, i);
+    }
+    Stepped::State(State {
+        phase: Phase::Data(i),
+        data: no_data(taxa),
+        taxa,
+        matrix,
+        assumptions: s.assumptions,
+    })
+}
+
+// The block that a name begins.
+fn begin_block(text: &[u8], work: &[u32], s: State, i: usize) -> Stepped
+    ensures { λ r. ⌜ ((m : Reader) → stepped m (now (text .entry)) (now (work .entry)) r ≡ begin·block (state·of m (now (text .entry)) (now (work .entry)) s) (word·of (now (text .entry)) (now (work .entry)) i)) ⌝ }
+{
+    if is(text, work, i, b"TAXA") {
+        return begin_taxa(s, i);
+    }
+    if is(text, work, i, b"DATA") | is(text, work, i, b"CHARACTERS") {
+        return begin_data(s, i);
+    }
+    if is(text, work, i, b"ASSUMPTIONS") {
+        return begin_assumptions(s, i);
+    }
+    if is(text, work, i, b"TREES") {
+        return Stepped::State(in_phase(Phase::Trees(i), s));
+    }
+    Stepped::Refused(Refusal::Block, i)
 }

@@ -3,8 +3,8 @@
 pub mod alignment;
 pub mod assumptions;
 pub mod blocks;
-pub mod commands;
 pub mod characters;
+pub mod commands;
 pub mod data;
 pub mod dimension;
 pub mod dimensions;
@@ -16,9 +16,9 @@ pub mod matrix;
 pub mod model;
 pub mod names;
 pub mod order;
+pub mod parts;
 pub mod state;
 pub mod symbols;
-pub mod parts;
 pub mod words;
 
 use lexer::Refusal;
