@@ -1,10 +1,20 @@
--- The walk over the names of stored rows for the name of a word. Assumes nothing.
+-- The names of stored rows: the walk over them for the name of a word, and how a row begins behind them. Assumes nothing.
 use Prim.Native.Nat.{ℕ, suc, _+_, _-_, _≤_, _<_}
 use Rattle.block.specs.Lines.{name·at, stored, names·stored}
 use Rattle.block.specs.Names.{known}
+use Rattle.block.specs.SequentialShape.{named·shape, begun·shape}
+use Rattle.block.specs.declared.matrix.Chunk.{Chunk}
+use Rattle.block.specs.declared.matrix.Sequence.{Sequence}
+use Rattle.block.specs.declared.matrix.Turned.{Turned}
+use Rattle.lexer.proofs.LabelLaws.{label-some, label-none}
 use Rattle.lexer.proofs.ListLaws.{drop-next}
-use Rattle.lexer.specs.Base.{alike}
-use lib.ListN.{length, getD}
+use Rattle.lexer.specs.Base.{pick, alike, given}
+use Rattle.lexer.specs.Stored.{word·of}
+use Rattle.lexer.specs.Words.{label}
+use Rattle.lexer.specs.declared.refusal.Refusal.{Refusal}
+use borrow.Author.Tests.{eq-eqb, ne-eqb}
+use lib.ListN.{length, getD, take, drop, length-map, length-drop}
+use lib.Seq.{length-take-le}
 use mathlib.Core.Bool.{Bool, true, false, _||_}
 use mathlib.Core.List.{List, _∷_}
 use mathlib.Core.Path.{_≡_, sym, _∙_}
@@ -43,3 +53,32 @@ module _ (text work : List ℕ) (at rows i : ℕ) where
     pub naming-end : at + rows ≤ k → false ≡ known (name·at text work i) (names·stored text work (stored work at rows))
     unfolding known names·stored stored
     naming-end h = let count : at + rows - k ≡ 0 = omega arith in sym (rw count) ∙ n .rest
+
+-- The names of so many stored rows are as many.
+pub names-count : (text work : List ℕ) (at rows : ℕ) → at + rows ≤ length work → length (names·stored text work (stored work at rows)) ≡ rows
+unfolding names·stored stored
+names-count text work at rows h =
+    length-map (take rows (drop at work)) (name·at text work) ∙ length-take-le rows (drop at work) (omega (arith, length-drop at work))
+
+-- A row begins, or the word is refused.
+module _ (text work : List ℕ) (at rows i taxa : ℕ) (room : at + rows ≤ length work) where
+  abbrev Begun : Turned → Type 0
+  Begun r = r ≡ begun·shape taxa (names·stored text work (stored work at rows)) (word·of text work i)
+
+  pub begun-all : rows ≡ taxa → Begun (Turned.Refused Refusal.Count i)
+  unfolding begun·shape word·of pick
+  begun-all e = rw (names-count text work at rows room, eq-eqb rows taxa e)
+
+  module _ (fewer : rows ≡ taxa → ⊥) where
+    pub begun-nameless : given (label (word·of text work i)) ≡ false → Begun (Turned.Refused Refusal.NotName i)
+    unfolding begun·shape named·shape word·of pick
+    begun-nameless e = rw (names-count text work at rows room, ne-eqb rows taxa fewer, label-none (word·of text work i) e)
+
+    module _ (name : given (label (word·of text work i)) ≡ true) where
+      pub begun-twice : known (name·at text work i) (names·stored text work (stored work at rows)) ≡ true → Begun (Turned.Refused Refusal.TaxonTwice i)
+      unfolding begun·shape named·shape name·at word·of pick
+      begun-twice e = rw (names-count text work at rows room, ne-eqb rows taxa fewer, label-some (word·of text work i) name, e)
+
+      pub begun-on : known (name·at text work i) (names·stored text work (stored work at rows)) ≡ false → Begun (Turned.On (Sequence.Inside i (Chunk.Plain 0)))
+      unfolding begun·shape named·shape name·at word·of pick
+      begun-on e = rw (names-count text work at rows room, ne-eqb rows taxa fewer, label-some (word·of text work i) name, e)

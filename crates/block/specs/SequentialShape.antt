@@ -1,19 +1,23 @@
 -- A sequential matrix as the code judges it: by the shape of its rows, and by the names of those that are stored.
-use Prim.Native.Nat.{ℕ}
+use Prim.Native.Nat.{ℕ, _≤_}
 use lib.Dec.{ltb, eqb}
-use lib.ListN.{length}
+use lib.ListN.{length, take}
 use mathlib.Core.List.{List}
 use mathlib.Core.Option.{Option, none, some}
+use mathlib.Core.Path.{_≡_}
 use Rattle.lexer.specs.Base.{pick}
+use Rattle.lexer.specs.Stored.{range}
 use Rattle.lexer.specs.Words.{Numbered, label}
 use Rattle.lexer.specs.declared.refusal.Refusal.{Refusal}
+use Rattle.block.specs.Codes.{Coded}
+use Rattle.block.specs.Commands.{words}
 use Rattle.block.specs.Format.{Format}
 use Rattle.block.specs.Lines.{stored, rows·sequential}
 use Rattle.block.specs.Names.{known}
 use Rattle.block.specs.Outcome.{Outcome, done, refused}
 use Rattle.block.specs.Reading.{Taxon}
 use Rattle.block.specs.RowShape.{so·far, chunk·shape}
-use Rattle.block.specs.declared.matrix.Bracket.{Bracket}
+use Rattle.block.specs.Sequential.{sequential}
 use Rattle.block.specs.declared.matrix.Chunk.{Chunk}
 use Rattle.block.specs.declared.matrix.Rows.{Rows}
 use Rattle.block.specs.declared.matrix.Sequence.{Sequence}
@@ -24,25 +28,27 @@ unfoldable pub cells·of·row : Sequence → ℕ
 cells·of·row Sequence.Between = 0
 cells·of·row (Sequence.Inside s row) = so·far row
 
--- A row begins with its name, which is none of these.
-unfoldable pub begun : List (List ℕ) → ℕ → Option (List ℕ) → Turned
-begun names i none = Turned.Refused Refusal.NotName i
-begun names i (some n) = pick (known n names) (Turned.Refused Refusal.TaxonTwice i) (Turned.On (Sequence.Inside i (Chunk.Plain 0)))
+-- A row begins with its name, which is none of these, if there are to be more rows.
+unfoldable pub named·shape : List (List ℕ) → ℕ → Option (List ℕ) → Turned
+named·shape names i none = Turned.Refused Refusal.NotName i
+named·shape names i (some n) = pick (known n names) (Turned.Refused Refusal.TaxonTwice i) (Turned.On (Sequence.Inside i (Chunk.Plain 0)))
+
+unfoldable pub begun·shape : ℕ → List (List ℕ) → Numbered → Turned
+begun·shape taxa names w = pick (eqb (length names) taxa) (Turned.Refused Refusal.Count (w .index)) (named·shape names (w .index) (label w))
 
 -- A row after one token more, the one of an index: a full row is complete; a word that is too much is refused.
-unfoldable pub grown : ℕ → ℕ → ℕ → Outcome Chunk → Turned
-grown characters s i (refused n j) = Turned.Refused n j
-grown characters s i (done (Chunk.Within n k mark empty)) = Turned.On (Sequence.Inside s (Chunk.Within n k mark empty))
-grown characters s i (done (Chunk.Plain n)) =
+unfoldable pub grown·shape : ℕ → ℕ → ℕ → Outcome Chunk → Turned
+grown·shape characters s i (refused n j) = Turned.Refused n j
+grown·shape characters s i (done (Chunk.Within n k mark empty)) = Turned.On (Sequence.Inside s (Chunk.Within n k mark empty))
+grown·shape characters s i (done (Chunk.Plain n)) =
     pick (ltb characters n) (Turned.Refused Refusal.Row i)
     (pick (eqb n characters) (Turned.Full s)
     (Turned.On (Sequence.Inside s (Chunk.Plain n))))
 
 -- One word of the matrix, behind rows of these names.
 unfoldable pub turn·shape : List ℕ → ℕ → ℕ → List (List ℕ) → Sequence → Numbered → Turned
-turn·shape codes taxa characters names Sequence.Between w =
-    pick (eqb (length names) taxa) (Turned.Refused Refusal.Count (w .index)) (begun names (w .index) (label w))
-turn·shape codes taxa characters names (Sequence.Inside s row) w = grown characters s (w .index) (chunk·shape codes row w)
+turn·shape codes taxa characters names Sequence.Between w = begun·shape taxa names w
+turn·shape codes taxa characters names (Sequence.Inside s row) w = grown·shape characters s (w .index) (chunk·shape codes row w)
 
 -- At the end of the matrix all rows must be there and whole.
 unfoldable pub open·shape : ℕ → Chunk → Rows
@@ -57,3 +63,11 @@ end·shape taxa head rows (Sequence.Inside s row) = open·shape s row
 unfoldable pub sequenced : List ℕ → List ℕ → ℕ → Format → ℕ → ℕ → Rows → Outcome (List Taxon)
 sequenced text work at f n to (Rows.Done rows) = done (rows·sequential text work f n to (stored work at rows))
 sequenced text work at f n to (Rows.Refused m i) = refused m i
+
+-- What is promised of a sequential matrix that was read from the tokens of two indices: work memory is as it was in front of the rows, of which there
+-- are no more than tokens; and whatever format has these codes, the answer means the rows that it reads, or its refusal.
+pub record Rows·read (text codes before after : List ℕ) (at from to taxa characters head : ℕ) (r : Rows) : Type 0 where
+  pub kept : take at after ≡ take at before
+  pub few : (n : ℕ) → r ≡ Rows.Done n → n ≤ to
+  pub read : (f : Format) → Coded f codes → length (f .symbols) ≤ 74
+      → sequenced text after at f characters to r ≡ sequential (record { taxa = taxa; characters = characters; format = f; head = head }) (words (range text before from to))

@@ -6,12 +6,15 @@ ghost use Rattle.block.specs.Codes.{coded};
 ghost use Rattle.block.specs.Lines.{name·at, names·stored, stored};
 ghost use Rattle.block.specs.Names.{known};
 ghost use Rattle.block.specs.RowShape.{symbols·coded, chunk·shape, chunked·of, so·far};
+ghost use Rattle.block.specs.SequentialShape.{begun·shape, cells·of·row, end·shape, grown·shape, turn·shape};
 ghost use Rattle.lexer.specs.Lexing.{token·at};
 ghost use Rattle.lexer.specs.Stored.{word·of};
 ghost use lib.ListN.{length, getD};
 ghost use mathlib.Core.Bool.{true};
 ghost use mathlib.Core.Path.{_≡_};
 use super::words::alike;
+use super::words::named;
+use super::words::newline;
 use super::words::punct;
 use lexer::Item;
 use lexer::Kind;
@@ -195,4 +198,87 @@ pub fn known_row(text: &[u8], work: &[u32], at: usize, rows: usize, i: usize) ->
         k += 1;
     }
     false
+}
+
+// A row begins with its name, if there are to be more than so many.
+fn row_begins(text: &[u8], work: &[u32], at: usize, rows: usize, i: usize, taxa: u64) -> Turned
+    requires { ⌜ at + rows ≤ length (now work) ⌝ }
+    ensures { λ r. ⌜ r ≡ begun·shape taxa (names·stored (now (text .entry)) (now (work .entry)) (stored (now (work .entry)) at rows)) (word·of (now (text .entry)) (now (work .entry)) i) ⌝ }
+{
+    if rows as u64 == taxa {
+        return Turned::Refused(Refusal::Count, i);
+    }
+    if !named(text, work, i) {
+        return Turned::Refused(Refusal::NotName, i);
+    }
+    if known_row(text, work, at, rows, i) {
+        return Turned::Refused(Refusal::TaxonTwice, i);
+    }
+    Turned::On(Sequence::Inside(i, Chunk::Plain(0)))
+}
+
+// A row after one token more, the one of an index: is it full?
+fn row_grown(chunked: Chunked, characters: u64, s: usize, i: usize) -> Turned
+    ensures { λ r. ⌜ r ≡ grown·shape characters s i (chunked·of chunked) ⌝ }
+{
+    match chunked {
+        Chunked::Row(row) => match row {
+            Chunk::Plain(n) => {
+                let count = n as u64;
+                if characters < count {
+                    return Turned::Refused(Refusal::Row, i);
+                }
+                if count == characters {
+                    return Turned::Full(s);
+                }
+                Turned::On(Sequence::Inside(s, row))
+            }
+            Chunk::Within(_, _, _, _) => Turned::On(Sequence::Inside(s, row)),
+        },
+        Chunked::Refused(n, j) => Turned::Refused(n, j),
+    }
+}
+
+// At the end of a sequential matrix all rows must be there and whole.
+fn sequential_end(line: Sequence, taxa: u64, head: usize, rows: usize) -> Rows
+    ensures { λ r. ⌜ r ≡ end·shape taxa head rows line ⌝ }
+{
+    match line {
+        Sequence::Between => {
+            if rows as u64 == taxa {
+                return Rows::Done(rows);
+            }
+            Rows::Refused(Refusal::Count, head)
+        }
+        Sequence::Inside(s, row) => match row {
+            Chunk::Plain(_) => Rows::Refused(Refusal::Row, s),
+            Chunk::Within(_, _, mark, _) => Rows::Refused(Refusal::StateSet, mark),
+        },
+    }
+}
+
+// One word of a sequential matrix, behind so many rows.
+fn sequential_turn(
+    text: &[u8],
+    work: &[u32],
+    at: usize,
+    rows: usize,
+    i: usize,
+    taxa: u64,
+    characters: u64,
+    codes: &[u8; 256],
+    line: Sequence,
+) -> Turned
+    requires { ⌜ (at + rows ≤ length (now work)) × (cells·of·row line ≤ 2 ^ 41) ⌝ }
+    ensures { λ r. ⌜ r ≡ turn·shape (now (codes .entry)) taxa characters (names·stored (now (text .entry)) (now (work .entry)) (stored (now (work .entry)) at rows)) line (word·of (now (text .entry)) (now (work .entry)) i) ⌝ }
+{
+    match line {
+        Sequence::Between => row_begins(text, work, at, rows, i, taxa),
+        Sequence::Inside(s, row) => row_grown(
+            chunk_at(text, work, i, codes, row),
+            characters,
+            s,
+            i,
+        ),
+    }
 }
