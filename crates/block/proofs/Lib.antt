@@ -43,11 +43,15 @@ pub mod ReadCommands
 pub mod ReadingSmall
 pub mod ReadingSound
 pub mod RisingLaws
+pub mod RowBounds
 pub mod RowNames
+pub mod RowWalk
 pub mod RowsSmall
 pub mod RowsSound
+pub mod SequentialWalk
 pub mod ShapeLaws
 pub mod SoundParts
+pub mod StoredRows
 pub mod SymbolCounts
 pub mod SymbolWalk
 pub mod TaxaFollow

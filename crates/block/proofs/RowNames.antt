@@ -13,7 +13,7 @@ use Rattle.lexer.specs.Stored.{word·of}
 use Rattle.lexer.specs.Words.{label}
 use Rattle.lexer.specs.declared.refusal.Refusal.{Refusal}
 use borrow.Author.Tests.{eq-eqb, ne-eqb}
-use lib.ListN.{length, getD, take, drop, length-map, length-drop}
+use lib.ListN.{length, getD, drop, length-map, length-drop}
 use lib.Seq.{length-take-le}
 use mathlib.Core.Bool.{Bool, true, false, _||_}
 use mathlib.Core.List.{List, _∷_}
@@ -54,11 +54,14 @@ module _ (text work : List ℕ) (at rows i : ℕ) where
     unfolding known names·stored stored
     naming-end h = let count : at + rows - k ≡ 0 = omega arith in sym (rw count) ∙ n .rest
 
--- The names of so many stored rows are as many.
+-- So many stored numbers, and the names of so many stored rows, are as many.
+pub stored-count : (work : List ℕ) (at rows : ℕ) → at + rows ≤ length work → length (stored work at rows) ≡ rows
+unfolding stored
+stored-count work at rows h = length-take-le rows (drop at work) (omega (arith, length-drop at work))
+
 pub names-count : (text work : List ℕ) (at rows : ℕ) → at + rows ≤ length work → length (names·stored text work (stored work at rows)) ≡ rows
-unfolding names·stored stored
-names-count text work at rows h =
-    length-map (take rows (drop at work)) (name·at text work) ∙ length-take-le rows (drop at work) (omega (arith, length-drop at work))
+unfolding names·stored
+names-count text work at rows h = length-map (stored work at rows) (name·at text work) ∙ stored-count work at rows h
 
 -- A row begins, or the word is refused.
 module _ (text work : List ℕ) (at rows i taxa : ℕ) (room : at + rows ≤ length work) where
