@@ -25,6 +25,7 @@ pub mod LabelsFollow
 pub mod LabelsGained
 pub mod LabelsHeld
 pub mod LabelsSound
+pub mod LineLaws
 pub mod MatrixFaults
 pub mod MatrixParts
 pub mod MatrixSound
@@ -37,6 +38,7 @@ pub mod OpenedFaults
 pub mod OutcomeLaws
 pub mod PagesSmall
 pub mod PagesSound
+pub mod PageShapes
 pub mod Pigeonhole
 pub mod RangeTyped
 pub mod ReadCommands

@@ -7,6 +7,7 @@ pub mod dimension;
 pub mod dimensions;
 pub mod format_options;
 pub mod formats;
+pub mod interleaved;
 pub mod labels;
 pub mod matrix;
 pub mod model;
