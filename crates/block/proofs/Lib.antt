@@ -39,6 +39,8 @@ pub mod OutcomeLaws
 pub mod PagesSmall
 pub mod PagesSound
 pub mod PageShapes
+pub mod PageTurns
+pub mod PageWalk
 pub mod Pigeonhole
 pub mod RangeTyped
 pub mod ReadCommands

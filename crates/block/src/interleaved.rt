@@ -219,3 +219,44 @@ fn interleaved_end(page: Pages, taxa: u64, characters: u64, head: usize, rows: u
     }
     Rows::Refused(Refusal::Count, head)
 }
+
+// The rows of an interleaved matrix, from the tokens of two indices. The index of each line's name is stored, one after the other from `at` on.
+pub fn interleaved(
+    text: &[u8],
+    work: &mut [u32],
+    at: usize,
+    from: usize,
+    to: usize,
+    taxa: u64,
+    characters: u64,
+    head: usize,
+    codes: &[u8; 256],
+) -> Rows
+    requires { ⌜ (to ≤ at) × (at + to ≤ length (now work)) × (to ≤ 1048576) × (length (now text) ≤ 1048576) ⌝ }
+    ensures { λ r. ⌜ Pages·read (now (text .entry)) (now (codes .entry)) (now (work .entry)) (now (work .exit)) at from to taxa characters head r ⌝ }
+{
+    let mut page = Pages {
+        first: true,
+        row: 0,
+        earlier: 0,
+        width: 0,
+    };
+    let mut rows = 0;
+    let mut i = next_line(text, work, from, to);
+    while i < to {
+        match line_turn(text, work, at, rows, page, i, to, taxa, characters, codes) {
+            Lined::Page(grown) => {
+                let next = next_line(text, work, line_end(text, work, i + 1, to), to);
+                let end = at + rows;
+                work[end] = i as u32;
+                rows += 1;
+                page = grown;
+                i = next;
+            }
+            Lined::Refused(n, j) => {
+                return Rows::Refused(n, j);
+            }
+        }
+    }
+    interleaved_end(page, taxa, characters, head, rows)
+}
