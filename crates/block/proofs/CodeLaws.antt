@@ -9,16 +9,16 @@ use Rattle.block.specs.Dna.{dna·letter, dna·cell}
 use Rattle.block.specs.Format.{Format, equal}
 use Rattle.block.specs.declared.data.DataType.{DataType}
 use Rattle.block.specs.declared.matrix.Cells.{Cells}
-use Rattle.lexer.proofs.Basics.{by-test, chosen, and-true, and-assoc, all-under, under-at}
+use Rattle.lexer.proofs.Basics.{chosen, and-true, and-assoc, all-under, under-at}
 use Rattle.lexer.proofs.SmallBytes.{Small}
-use Rattle.lexer.specs.Base.{pick, given, lower, byte}
+use Rattle.lexer.specs.Base.{pick, given, lower}
 use borrow.Author.Tests.{ltb-true, lt-ltb, le-ltb, ne-eqb}
 use lib.Dec.{eqb, ltb}
 use lib.ListN.{length, getD}
 use mathlib.Core.Bool.{Bool, true, false, _&&_, false≢true}
 use mathlib.Core.List.{List, [], _∷_}
 use mathlib.Core.Option.{Option, none, some}
-use mathlib.Core.Path.{_≡_, refl, sym, ap, _∙_}
+use mathlib.Core.Path.{_≡_, refl, _∙_}
 use native.Mathlib.Nat.{add-zero, zero-add}
 use native.Mathlib.Omega.{arith}
 

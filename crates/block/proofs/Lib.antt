@@ -64,4 +64,5 @@ pub mod ToldFaults
 pub mod TypeFaults
 pub mod TypesHeldLaws
 pub mod WalkLaws
+pub mod WalkedRows
 pub mod Weights

@@ -5,7 +5,6 @@ use Rattle.block.proofs.CodeLaws.{coded-counted}
 use Rattle.block.proofs.RowsSound.{length-names}
 use Rattle.block.proofs.ShapeLaws.{chunk-shaped}
 use Rattle.block.proofs.WalkLaws.{words-next}
-use Rattle.block.specs.Cell.{Cell}
 use Rattle.block.specs.Chunk.{Row, plain, within, chunk}
 use Rattle.block.specs.Codes.{Coded}
 use Rattle.block.specs.Commands.{newline, words}
@@ -23,14 +22,14 @@ use Rattle.block.specs.declared.matrix.Turned.{Turned}
 use Rattle.lexer.proofs.Basics.{by-test}
 use Rattle.lexer.proofs.LabelLaws.{label-some}
 use Rattle.lexer.proofs.SmallBytes.{Small, token-small}
-use Rattle.lexer.specs.Base.{pick, given, empty?}
+use Rattle.lexer.specs.Base.{pick, given}
 use Rattle.lexer.specs.Stored.{word·of, range}
-use Rattle.lexer.specs.Words.{Numbered, label}
+use Rattle.lexer.specs.Words.{label}
 use Rattle.lexer.specs.declared.refusal.Refusal.{Refusal}
 use borrow.Author.Tests.{ltb-false, eqb-true, eqb-false, le-leb, lt-leb}
-use lib.Dec.{eqb, ltb, leb}
+use lib.Dec.{eqb, ltb}
 use lib.ListN.{length, getD}
-use mathlib.Core.Bool.{true, false}
+use mathlib.Core.Bool.{false}
 use mathlib.Core.List.{List, [], _∷_, _++_}
 use mathlib.Core.Option.{Option, none, some}
 use mathlib.Core.Path.{_≡_, refl, sym, ap, _∙_}

@@ -1,5 +1,5 @@
 -- What stored rows mean. Of a row only the index of its name's token is stored; its cells are what the words behind it give.
-use Prim.Native.Nat.{ℕ, _+_}
+use Prim.Native.Nat.{ℕ, _+_, _≤_}
 use lib.Dec.{leb}
 use lib.ListN.{length, take, drop}
 use mathlib.Core.List.{List, [], _∷_, map}
@@ -35,6 +35,14 @@ row·at text work f n to s = record { name = name·at text work s; cells = row·
 -- So many numbers that stand in work memory from an index on.
 unfoldable pub stored : List ℕ → ℕ → ℕ → List ℕ
 stored work at n = take n (drop at work)
+
+-- What reading rows asks of a text and of work memory: the rows are stored behind the tokens, with room for one a token, and both are short enough that
+-- no count of cells overflows.
+pub record Rows·room (text work : List ℕ) (at to : ℕ) : Type 0 where
+  pub apart : to ≤ at
+  pub behind : at + to ≤ length work
+  pub tokens : to ≤ 1048576
+  pub bytes : length text ≤ 1048576
 
 -- The names that stored indices name, and the rows of a sequential matrix.
 unfoldable pub names·stored : List ℕ → List ℕ → List ℕ → List (List ℕ)

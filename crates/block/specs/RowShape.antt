@@ -2,8 +2,8 @@
 use Prim.Native.Nat.{ℕ, _+_}
 use lib.Dec.{eqb}
 use lib.ListN.{length}
-use mathlib.Core.Bool.{Bool, true, false, _&&_, _||_}
-use mathlib.Core.List.{List, []}
+use mathlib.Core.Bool.{Bool, true, _&&_, _||_}
+use mathlib.Core.List.{List}
 use Rattle.lexer.specs.Base.{pick, empty?, byte}
 use Rattle.lexer.specs.Words.{Numbered, punct, word?}
 use Rattle.lexer.specs.declared.refusal.Refusal.{Refusal}

@@ -3,10 +3,10 @@
 ghost use Prim.Native.Nat.{_+_, _^_, _≤_};
 ghost use Rattle.block.specs.Chunk.{closer};
 ghost use Rattle.block.specs.Codes.{coded};
-ghost use Rattle.block.specs.Lines.{name·at, names·stored, stored};
+ghost use Rattle.block.specs.Lines.{Rows·room, name·at, names·stored, stored};
 ghost use Rattle.block.specs.Names.{known};
 ghost use Rattle.block.specs.RowShape.{symbols·coded, chunk·shape, chunked·of, so·far};
-ghost use Rattle.block.specs.SequentialShape.{begun·shape, cells·of·row, end·shape, grown·shape, turn·shape};
+ghost use Rattle.block.specs.SequentialShape.{Rows·read, begun·shape, cells·of·row, end·shape, grown·shape, turn·shape};
 ghost use Rattle.lexer.specs.Lexing.{token·at};
 ghost use Rattle.lexer.specs.Stored.{word·of};
 ghost use lib.ListN.{length, getD};
@@ -173,7 +173,8 @@ fn set_chunk(
     }
 }
 
-// A row with one token more.
+// A row with one token more. A token adds at most one cell more than the text has bytes, so that a bound on the cells so far keeps their count from
+// overflowing.
 pub fn chunk_at(text: &[u8], work: &[u32], i: usize, codes: &[u8; 256], row: Chunk) -> Chunked
     requires { ⌜ so·far row ≤ 2 ^ 41 ⌝ }
     ensures { λ r. ⌜ chunked·of r ≡ chunk·shape (now (codes .entry)) row (word·of (now (text .entry)) (now (work .entry)) i) ⌝ }
@@ -281,4 +282,45 @@ fn sequential_turn(
             i,
         ),
     }
+}
+
+// The rows of a sequential matrix, from the tokens of two indices. The index of each row's name is stored, one after the other from `at` on.
+pub fn sequential(
+    text: &[u8],
+    work: &mut [u32],
+    at: usize,
+    from: usize,
+    to: usize,
+    taxa: u64,
+    characters: u64,
+    head: usize,
+    codes: &[u8; 256],
+) -> Rows
+    requires { ⌜ Rows·room (now text) (now work) at to ⌝ }
+    ensures { λ r. ⌜ Rows·read (now (text .entry)) (now (codes .entry)) (now (work .entry)) (now (work .exit)) at from to taxa characters head r ⌝ }
+{
+    let mut rows = 0;
+    let mut line = Sequence::Between;
+    let mut i = from;
+    while i < to {
+        let k = i;
+        i += 1;
+        if !newline(text, work, k) {
+            match sequential_turn(text, work, at, rows, k, taxa, characters, codes, line) {
+                Turned::On(next) => {
+                    line = next;
+                }
+                Turned::Full(s) => {
+                    let end = at + rows;
+                    work[end] = s as u32;
+                    rows += 1;
+                    line = Sequence::Between;
+                }
+                Turned::Refused(n, j) => {
+                    return Rows::Refused(n, j);
+                }
+            }
+        }
+    }
+    sequential_end(line, taxa, head, rows)
 }

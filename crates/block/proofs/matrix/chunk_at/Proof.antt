@@ -1,8 +1,8 @@
 -- The function `chunk_at` meets its contract, by what is open. Assumes nothing.
-use Rattle.block.specs.RowShape.{so·far}
-use borrow.Author.Needs.{needs}
 use Rattle.block.proofs.matrix.chunk_at.Statement.{statement}
 use Rattle.block.proofs.matrix.chunk_at.Tie as tie
+use Rattle.block.specs.RowShape.{so·far}
+use borrow.Author.Needs.{needs}
 
 enum-known-row : tie.Need-enum-known-row
 enum-known-row c = search needs

@@ -1,8 +1,8 @@
 -- The function `closer` meets its contract. Assumes nothing.
-use Rattle.block.specs.Chunk.{closer}
-use borrow.Author.Needs.{needs}
 use Rattle.block.proofs.matrix.closer.Statement.{statement}
 use Rattle.block.proofs.matrix.closer.Tie as tie
+use Rattle.block.specs.Chunk.{closer}
+use borrow.Author.Needs.{needs}
 
 enum-told : tie.Need-enum-told
 enum-told c = search needs

@@ -1,13 +1,13 @@
 -- The function `plain_chunk` meets its contract, test by test. Assumes nothing.
 use Rattle.block.proofs.SymbolCounts.{symbols-size}
+use Rattle.block.proofs.matrix.plain_chunk.Statement.{statement}
+use Rattle.block.proofs.matrix.plain_chunk.Tie as tie
 use Rattle.block.specs.RowShape.{chunk·shape, chunked·of, plain·with}
 use Rattle.lexer.specs.Base.{pick}
 use Rattle.lexer.specs.Stored.{word·of}
+use borrow.Author.Needs.{needs}
 use mathlib.Core.Path.{sym, _∙_}
 use native.Mathlib.Omega.{arith}
-use borrow.Author.Needs.{needs}
-use Rattle.block.proofs.matrix.plain_chunk.Statement.{statement}
-use Rattle.block.proofs.matrix.plain_chunk.Tie as tie
 
 punct-requires : tie.Need-punct-requires
 punct-requires c κs = search needs

@@ -1,10 +1,10 @@
 -- The function `row_begins` meets its contract, test by test. Assumes nothing.
 use Rattle.block.proofs.RowNames.{begun-all, begun-nameless, begun-twice, begun-on}
+use Rattle.block.proofs.matrix.row_begins.Statement.{statement}
+use Rattle.block.proofs.matrix.row_begins.Tie as tie
 use borrow.Author.Needs.{needs}
 use borrow.Author.Tests.{not-true, not-false}
 use mathlib.Core.Path.{sym, _∙_}
-use Rattle.block.proofs.matrix.row_begins.Statement.{statement}
-use Rattle.block.proofs.matrix.row_begins.Tie as tie
 
 returns : tie.Need-returns
 returns c = begun-all _ _ _ _ _ _ (c .before .before .before .pre) (c .if1 .taken)

@@ -1,11 +1,11 @@
 -- The function `row_grown` meets its contract, test by test. Assumes nothing.
+use Rattle.block.proofs.matrix.row_grown.Statement.{statement}
+use Rattle.block.proofs.matrix.row_grown.Tie as tie
 use Rattle.block.specs.RowShape.{chunked·of}
 use Rattle.block.specs.SequentialShape.{grown·shape}
 use Rattle.lexer.specs.Base.{pick}
 use borrow.Author.Needs.{needs}
 use borrow.Author.Tests.{lt-ltb, le-ltb, eq-eqb, ne-eqb}
-use Rattle.block.proofs.matrix.row_grown.Statement.{statement}
-use Rattle.block.proofs.matrix.row_grown.Tie as tie
 
 enum-known-chunked : tie.Need-enum-known-chunked
 enum-known-chunked c = search needs

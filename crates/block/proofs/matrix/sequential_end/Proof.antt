@@ -1,10 +1,10 @@
 -- The function `sequential_end` meets its contract, by what is open. Assumes nothing.
+use Rattle.block.proofs.matrix.sequential_end.Statement.{statement}
+use Rattle.block.proofs.matrix.sequential_end.Tie as tie
 use Rattle.block.specs.SequentialShape.{open·shape, end·shape}
 use Rattle.lexer.specs.Base.{pick}
 use borrow.Author.Needs.{needs}
 use borrow.Author.Tests.{eq-eqb, ne-eqb}
-use Rattle.block.proofs.matrix.sequential_end.Statement.{statement}
-use Rattle.block.proofs.matrix.sequential_end.Tie as tie
 
 enum-told : tie.Need-enum-told
 enum-told c = search needs

@@ -1,9 +1,9 @@
 -- The function `sequential_turn` meets its contract, by where the matrix is. Assumes nothing.
+use Rattle.block.proofs.matrix.sequential_turn.Statement.{statement}
+use Rattle.block.proofs.matrix.sequential_turn.Tie as tie
 use Rattle.block.specs.SequentialShape.{cells·of·row, turn·shape}
 use Rattle.lexer.specs.Stored.{word·of}
 use borrow.Author.Needs.{needs}
-use Rattle.block.proofs.matrix.sequential_turn.Statement.{statement}
-use Rattle.block.proofs.matrix.sequential_turn.Tie as tie
 
 enum-told : tie.Need-enum-told
 enum-told c = search needs

@@ -1,10 +1,10 @@
 -- The function `set_chunk` meets its contract, test by test. Assumes nothing.
+use Rattle.block.proofs.matrix.set_chunk.Statement.{statement}
+use Rattle.block.proofs.matrix.set_chunk.Tie as tie
 use Rattle.block.specs.RowShape.{chunk·shape, chunked·of, within·with}
 use Rattle.lexer.specs.Base.{pick}
 use Rattle.lexer.specs.Stored.{word·of}
 use borrow.Author.Needs.{needs}
-use Rattle.block.proofs.matrix.set_chunk.Statement.{statement}
-use Rattle.block.proofs.matrix.set_chunk.Tie as tie
 
 closer-requires : tie.Need-closer-requires
 closer-requires c κs = search needs

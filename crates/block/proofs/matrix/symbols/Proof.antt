@@ -1,11 +1,11 @@
 -- The function `symbols` meets its contract: a word's text is judged, and that of the mark `+`. Assumes nothing.
 use Rattle.block.proofs.CellWalk.{symbols-word, symbols-plus, symbols-none}
-use Rattle.lexer.proofs.KindTags.{tags-other}
-use Rattle.lexer.specs.Words.{word?}
-use mathlib.Core.Path.{sym, ap, _∙_}
-use borrow.Author.Needs.{needs}
 use Rattle.block.proofs.matrix.symbols.Statement.{statement}
 use Rattle.block.proofs.matrix.symbols.Tie as tie
+use Rattle.lexer.proofs.KindTags.{tags-other}
+use Rattle.lexer.specs.Words.{word?}
+use borrow.Author.Needs.{needs}
+use mathlib.Core.Path.{sym, ap, _∙_}
 
 start-of-requires : tie.Need-start-of-requires
 start-of-requires c κs = search needs

@@ -5,7 +5,10 @@ use Rattle.block.proofs.CellWalk.{Coding, coding-start, coding-turn, co
 use Rattle.block.proofs.matrix.word_cells.Statement.{statement}
 use Rattle.block.proofs.matrix.word_cells.Tie as tie
 use Rattle.lexer.proofs.NextBytes.{yielded}
+use Rattle.lexer.proofs.Yielded.{Yields·byte}
+use Rattle.lexer.specs.Bytes.{left}
 use borrow.Author.Needs.{needs}
+use denote.Ref.{now}
 use lib.ListN.{length}
 use mathlib.Core.Path.{sym, _∙_}
 use native.Mathlib.Omega.{arith}
@@ -15,6 +18,13 @@ Inv-loop text start codes n₀ states₀ c₀ n states c = Coding text codes sta
 
 abbrev μ-loop : tie.MeasureT-loop
 μ-loop text start codes n₀ states₀ c₀ n states c = length text - c .at
+
+-- The byte that a turn read is the first of what was left.
+read : (c : tie.After-known-told Inv-loop μ-loop)
+    → let l = c .before .before .before .before in
+    let text = now (l .before .before .before .args .text) in
+    Yields·byte text (l .loop .c .at) (left text (l .loop .c)) (c .before .b .given .0 .0) (c .before .b .given .0 .1 .0)
+read c = yielded _ _ _ (c .before .before .before .next-byte .ensures) .byte _ _ (c .before .b .given .1)
 
 text-start-requires : tie.Need-text-start-requires Inv-loop μ-loop
 text-start-requires c κs = search needs
@@ -34,26 +44,22 @@ code-of-requires c κs = search needs
 returns : tie.Need-returns Inv-loop μ-loop
 returns c =
     let k = c .before .before in
-    let read = yielded _ _ _ (k .before .before .before .next-byte .ensures) .byte _ _ (k .before .b .given .1) in
-    coding-wrong _ _ _ _ _ _ (k .before .before .before .before .loop .inv) _ _ read (sym (c .before .code-of .ensures) ∙ c .if1 .taken)
+    coding-wrong _ _ _ _ _ _ (k .before .before .before .before .loop .inv) _ _ (read k) (sym (c .before .code-of .ensures) ∙ c .if1 .taken)
 
 add-n : tie.Need-add-n Inv-loop μ-loop
 add-n c =
     let k = c .before .before in
-    let read = yielded _ _ _ (k .before .before .before .next-byte .ensures) .byte _ _ (k .before .b .given .1) in
-    omega (arith, read .ahead, read .within, k .before .before .before .before .loop .inv .passed)
+    omega (arith, read k .ahead, read k .within, k .before .before .before .before .loop .inv .passed)
 
 loop-less : tie.Need-loop-less Inv-loop μ-loop
 loop-less c =
     let k = c .before .before in
-    let read = yielded _ _ _ (k .before .before .before .next-byte .ensures) .byte _ _ (k .before .b .given .1) in
-    omega (arith, read .ahead, read .within)
+    omega (arith, read k .ahead, read k .within)
 
 loop-again : tie.Need-loop-again Inv-loop μ-loop
 loop-again c =
     let k = c .before .before in
-    let read = yielded _ _ _ (k .before .before .before .next-byte .ensures) .byte _ _ (k .before .b .given .1) in
-    rw (c .before .code-of .ensures) (coding-turn _ _ _ _ _ _ (k .before .before .before .before .loop .inv) _ _ read (λ e. c .if1 .left (c .before .code-of .ensures ∙ e)))
+    rw (c .before .code-of .ensures) (coding-turn _ _ _ _ _ _ (k .before .before .before .before .loop .inv) _ _ (read k) (λ e. c .if1 .left (c .before .code-of .ensures ∙ e)))
 
 enum-told : tie.Need-enum-told Inv-loop μ-loop
 enum-told c = search needs
