@@ -1,7 +1,7 @@
 -- The lines that begin in tokens, token by token: where one begins, where it is over, how many there are, and the tokens of one. Assumes nothing.
 use Prim.Native.Nat.{ℕ, suc, _+_, _-_, _≤_, _<_}
 use Rattle.block.specs.Commands.{newline}
-use Rattle.block.specs.Interleaved.{Line, to·newline, lines·from}
+use Rattle.block.specs.Interleaved.{to·newline, lines·from}
 use Rattle.block.specs.PagesHeld.{Line·begins, Line·ends}
 use Rattle.lexer.proofs.Basics.{by-test}
 use Rattle.lexer.proofs.RangeLaws.{range-next, range-end}
@@ -12,7 +12,7 @@ use lib.Dec.{ltb}
 use lib.ListN.{length}
 use mathlib.Core.Bool.{Bool, true, false}
 use mathlib.Core.List.{List, [], _∷_}
-use mathlib.Core.Path.{_≡_, refl, sym, ap, _∙_}
+use mathlib.Core.Path.{_≡_, refl, sym, _∙_}
 use native.Mathlib.Omega.{arith}
 
 module _ (text work : List ℕ) (i to : ℕ) where
@@ -65,14 +65,14 @@ pub record Within (text work : List ℕ) (i to j : ℕ) : Type 0 where
   pub ahead : i ≤ j
   pub lines : lines·from true (range text work i to) ≡ lines·from true (range text work j to)
 
-module _ (text work : List ℕ) (i to : ℕ) where
+module _ {text work : List ℕ} {i to : ℕ} where
   pub passing-start : Passing text work i to i
   passing-start = record { ahead = omega arith; lines = refl }
 
   pub within-start : Within text work i to i
   within-start = record { ahead = omega arith; lines = refl }
 
-  module _ (j : ℕ) (k : Passing text work i to j) where
+  module _ {j : ℕ} (k : Passing text work i to j) where
     pub passing-turn : j < to → newline (word·of text work j) ≡ true → Passing text work i to (j + 1)
     passing-turn h e = record { ahead = omega (arith, k .ahead); lines = k .lines ∙ lines-newline text work j to h e }
 
@@ -82,7 +82,7 @@ module _ (text work : List ℕ) (i to : ℕ) where
     pub passing-end : to ≤ j → Line·begins text work i to j
     passing-end h = record { ahead = k .ahead; lines = k .lines; here = λ l. absurd (omega arith) }
 
-  module _ (j : ℕ) (k : Within text work i to j) where
+  module _ {j : ℕ} (k : Within text work i to j) where
     pub within-turn : j < to → newline (word·of text work j) ≡ false → Within text work i to (j + 1)
     within-turn h e = record { ahead = omega (arith, k .ahead); lines = k .lines ∙ line-on text work j to h e }
 
@@ -110,13 +110,13 @@ ltb-less a n h =
     by-test (ltb a (n - 1)) (λ e. let l = ltb-true a (n - 1) e in lt-ltb (suc a) n (omega arith) ∙ sym e)
     (λ e. let l = ltb-false a (n - 1) e in le-ltb (suc a) n (omega arith) ∙ sym e)
 
-module _ (text work : List ℕ) (i to taxa : ℕ) where
-  pub counting-start : (j : ℕ) → Line·begins text work i to j → Counting text work i to taxa taxa j
-  counting-start j b = record { here = b .here; rest = rw (b .lines) }
+module _ {text work : List ℕ} {i to taxa : ℕ} where
+  pub counting-start : {j : ℕ} → Line·begins text work i to j → Counting text work i to taxa taxa j
+  counting-start b = record { here = b .here; rest = rw (b .lines) }
 
-  module _ (left j : ℕ) (k : Counting text work i to taxa left j) where
-    pub counting-turn : (e next : ℕ) → j < to → 0 < left → Line·ends text work (j + 1) to e → Line·begins text work e to next → Counting text work i to taxa (left - 1) next
-    counting-turn e next h more over begins =
+  module _ {left j : ℕ} (k : Counting text work i to taxa left j) where
+    pub counting-turn : {e next : ℕ} → j < to → 0 < left → Line·ends text work (j + 1) to e → Line·begins text work e to next → Counting text work i to taxa (left - 1) next
+    counting-turn {e} {next} h more over begins =
         record {
           here = begins .here;
           rest = sym (ltb-less (length (lines·from false (range text work next to))) left more) ∙ sym (rw (line-then text work j to e next h (k .here h) over begins)) ∙ k .rest;

@@ -3,11 +3,11 @@ use Prim.Native.Nat.{ℕ, _+_, _*_, _-_, _^_, _≤_, _<_}
 use Rattle.block.proofs.LineLaws.{line-next, line-none, line-stops}
 use Rattle.block.proofs.SymbolCounts.{chunk-size}
 use Rattle.block.specs.Commands.{newline}
-use Rattle.block.specs.Interleaved.{to·newline, lines·from}
+use Rattle.block.specs.Interleaved.{to·newline}
 use Rattle.block.specs.Judged.{judged}
 use Rattle.block.specs.Lines.{name·at, stored, names·stored}
 use Rattle.block.specs.Names.{known}
-use Rattle.block.specs.Outcome.{Outcome, done, refused, then, fold}
+use Rattle.block.specs.Outcome.{done, refused, then, fold}
 use Rattle.block.specs.PagesHeld.{end·count, count·from, cells·counted, name·judged, line·name, misfit, line·grown, page·short, line·shape, lined·of}
 use Rattle.block.specs.RowShape.{so·far, chunk·shape, chunked·of}
 use Rattle.block.specs.declared.Judged.{Judged}
@@ -24,8 +24,8 @@ use Rattle.lexer.specs.declared.refusal.Refusal.{Refusal}
 use borrow.Author.Tests.{ltb-false}
 use lib.Dec.{eqb, ltb}
 use lib.ListN.{length, getD}
-use mathlib.Core.Bool.{Bool, true, false, _&&_, _||_, not}
-use mathlib.Core.List.{List, [], _∷_}
+use mathlib.Core.Bool.{true, false, _&&_, _||_, not}
+use mathlib.Core.List.{List}
 use mathlib.Core.Path.{_≡_, refl, sym, ap, _∙_}
 use native.Mathlib.Omega.{arith}
 
@@ -62,12 +62,12 @@ pub record Growing (text work codes : List ℕ) (i to : ℕ) (row : Chunk) (j : 
   pub small : so·far row ≤ 1048577 * j
   pub rest : count·from codes row (to·newline (range text work j to)) ≡ count·from codes (Chunk.Plain 0) (to·newline (range text work i to))
 
-module _ (text work codes : List ℕ) (i to : ℕ) where
+module _ {text work codes : List ℕ} {i to : ℕ} where
   pub growing-start : Growing text work codes i to (Chunk.Plain 0) i
   unfolding so·far
   growing-start = record { small = omega arith; rest = refl }
 
-  module _ (row : Chunk) (j : ℕ) (k : Growing text work codes i to row j) where
+  module _ {row : Chunk} {j : ℕ} (k : Growing text work codes i to row j) where
     pub growing-room : j < to → to ≤ 1048576 → so·far row ≤ 2 ^ 41
     growing-room h l = omega (arith, k .small)
 

@@ -1,8 +1,8 @@
 -- One line of an interleaved matrix, as the code judges it by the shape of its page and as it is defined. Assumes nothing.
 use Prim.Native.Nat.{ℕ, zero, suc, _+_, _-_, _≤_, _<_}
 use Rattle.block.proofs.CodeLaws.{coded-counted}
-use Rattle.block.proofs.OutcomeLaws.{All, all-one, all-map}
-use Rattle.block.proofs.PageShapes.{name-none, name-twice, name-new, name-same, name-other, grown-room}
+use Rattle.block.proofs.OutcomeLaws.{All, all-one}
+use Rattle.block.proofs.PageShapes.{name-none, name-twice, name-new, name-same, name-other}
 use Rattle.block.proofs.RowNames.{names-count}
 use Rattle.block.proofs.RowsSound.{names-one, length-names}
 use Rattle.block.proofs.ShapeLaws.{chunk-shaped}
@@ -30,9 +30,9 @@ use Rattle.lexer.specs.Base.{pick, alike, given, empty?}
 use Rattle.lexer.specs.Stored.{word·of, words·of, range}
 use Rattle.lexer.specs.Words.{Numbered, label}
 use Rattle.lexer.specs.declared.refusal.Refusal.{Refusal}
-use borrow.Author.Tests.{ltb-true, ltb-false, lt-ltb, le-ltb, eqb-true, eqb-false, eq-eqb, ne-eqb}
+use borrow.Author.Tests.{ltb-true, ltb-false, lt-ltb, le-ltb, eqb-true, eqb-false, ne-eqb}
 use lib.Dec.{eqb, ltb}
-use lib.ListN.{length, getD, take, drop, length-append, List·getD-map, List·getD-append}
+use lib.ListN.{length, getD, take, drop, length-append, List·getD-map}
 use lib.Seq.{getD-take, getD-drop, getD-at}
 use mathlib.Core.Bool.{Bool, true, false, _&&_, _||_, not, false≢true}
 use mathlib.Core.List.{List, [], _∷_, _++_, append-assoc, append-nil}
@@ -80,6 +80,7 @@ line-small : (text work : List ℕ) → Small text → (i to : ℕ) → All (λ 
 unfolding range
 line-small text work small i to = line-all (λ w. Small (w .token .text)) (words·of text work i (to - i)) (words-small text work small (to - i) i)
 
+-- A row has so many cells.
 abbrev pub Long : ℕ → Taxon → Type 0
 Long n t = length (t .cells) ≡ n
 
@@ -263,6 +264,7 @@ module _ (taxa : ℕ) (stored : List (List ℕ)) (q : Pages) (p : Page) (k : Sha
     line-follows (done cells) = cells-follow cells
     line-follows (refused m j) = refl
 
+-- Three steps, whichever two are taken together.
 then-then : {A B C : Type 0} (o : Outcome A) (g : A → Outcome B) (h : B → Outcome C) → then o (λ a. then (g a) h) ≡ then (then o g) h
 unfolding then
 then-then (done a) g h = refl

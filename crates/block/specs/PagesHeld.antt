@@ -22,7 +22,6 @@ use Rattle.block.specs.Names.{known}
 use Rattle.block.specs.Outcome.{Outcome, done, refused, then, fold}
 use Rattle.block.specs.Reading.{Taxon}
 use Rattle.block.specs.RowShape.{chunk·shape}
-use Rattle.block.specs.Sequential.{Shape}
 use Rattle.block.specs.declared.Judged.{Judged}
 use Rattle.block.specs.declared.interleaved.LineCells.{LineCells}
 use Rattle.block.specs.declared.interleaved.Lined.{Lined}
@@ -125,6 +124,16 @@ line·grown taxa characters p i n = pick (misfit characters p n) (refused Refusa
 -- Is the page too short, at its first line?
 unfoldable pub page·short : List ℕ → List ℕ → ℕ → Pages → ℕ → ℕ → Bool
 page·short text work taxa p i to = eqb (p .row) 0 && ltb (length (lines·from false (range text work i to))) taxa
+
+-- What is asked for a line to be judged behind so many stored lines, those of its page among them.
+pub record Line·room (text work : List ℕ) (at rows to characters : ℕ) (p : Pages) (i : ℕ) : Type 0 where
+  pub stored : at + rows ≤ length work
+  pub row : p .row ≤ rows
+  pub earlier : p .earlier ≤ characters
+  pub below : i < to
+  pub lines : rows ≤ 1048576
+  pub tokens : to ≤ 1048576
+  pub bytes : length text ≤ 1048576
 
 -- The line that begins with the token of an index, behind so many stored lines.
 unfoldable pub line·shape : List ℕ → List ℕ → List ℕ → ℕ → ℕ → ℕ → ℕ → Pages → ℕ → ℕ → Outcome Pages

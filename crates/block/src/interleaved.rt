@@ -1,8 +1,9 @@
 // Interleaved pages of MATRIX, after matrix.rs: lines of a name and some cells, NTAX to a page.
 
-ghost use Prim.Native.Nat.{_+_, _^_, _≤_, _<_};
+ghost use Prim.Native.Nat.{_+_, _≤_};
 ghost use Rattle.block.specs.Interleaved.{lines·from, to·newline};
-ghost use Rattle.block.specs.PagesHeld.{Line·begins, Line·ends, Pages·read, cells·counted, count·from, end·count, line·grown, line·name, line·shape, lined·of, page·short, pages·end};
+ghost use Rattle.block.specs.Lines.{Rows·room};
+ghost use Rattle.block.specs.PagesHeld.{Line·begins, Line·ends, Line·room, Pages·read, cells·counted, count·from, end·count, line·grown, line·name, line·shape, lined·of, page·short, pages·end};
 ghost use Rattle.lexer.specs.Stored.{range};
 ghost use lib.Dec.{ltb};
 ghost use lib.ListN.{length};
@@ -189,7 +190,7 @@ fn line_turn(
     characters: u64,
     codes: &[u8; 256],
 ) -> Lined
-    requires { ⌜ (at + rows ≤ length (now work)) × (page .row ≤ rows) × (page .earlier ≤ characters) × (i < to) × (rows ≤ 1048576) × (to ≤ 1048576) × (length (now text) ≤ 1048576) ⌝ }
+    requires { ⌜ Line·room (now text) (now work) at rows to characters page i ⌝ }
     ensures { λ r. ⌜ lined·of r ≡ line·shape (now (text .entry)) (now (work .entry)) (now (codes .entry)) at rows taxa characters page i to ⌝ }
 {
     if short_page(text, work, page, i, to, taxa) {
@@ -232,7 +233,7 @@ pub fn interleaved(
     head: usize,
     codes: &[u8; 256],
 ) -> Rows
-    requires { ⌜ (to ≤ at) × (at + to ≤ length (now work)) × (to ≤ 1048576) × (length (now text) ≤ 1048576) ⌝ }
+    requires { ⌜ Rows·room (now text) (now work) at to ⌝ }
     ensures { λ r. ⌜ Pages·read (now (text .entry)) (now (codes .entry)) (now (work .entry)) (now (work .exit)) at from to taxa characters head r ⌝ }
 {
     let mut page = Pages {

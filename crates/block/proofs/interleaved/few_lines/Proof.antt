@@ -16,10 +16,10 @@ next-line-requires : tie.Need-next-line-requires Inv-loop μ-loop
 next-line-requires c κs = search needs
 
 loop-holds : tie.Need-loop-holds Inv-loop μ-loop
-loop-holds c = counting-start _ _ _ _ _ _ (c .next-line .ensures)
+loop-holds c = counting-start (c .next-line .ensures)
 
 returns : tie.Need-returns Inv-loop μ-loop
-returns c = counting-enough _ _ _ _ _ _ _ (c .before .before .loop .inv) (c .if1 .taken)
+returns c = counting-enough (c .before .before .loop .inv) (c .if1 .taken)
 
 sub-left : tie.Need-sub-left Inv-loop μ-loop
 sub-left c = omega (arith, c .if1 .left)
@@ -39,10 +39,10 @@ loop-less c = omega (arith, c .before .line-end .ensures .ahead, c .next-line2 .
 loop-again : tie.Need-loop-again Inv-loop μ-loop
 loop-again c =
     let l = c .before .before .before in
-    counting-turn _ _ _ _ _ _ _ (l .before .loop .inv) _ _ (l .loop-test .taken) (omega (arith, c .before .before .if1 .left)) (c .before .line-end .ensures) (c .next-line2 .ensures)
+    counting-turn (l .before .loop .inv) (l .loop-test .taken) (omega (arith, c .before .before .if1 .left)) (c .before .line-end .ensures) (c .next-line2 .ensures)
 
 returns-2 : tie.Need-returns-2 Inv-loop μ-loop
-returns-2 c = counting-end _ _ _ _ _ _ _ (c .before .loop .inv) (c .loop-test .left)
+returns-2 c = counting-end (c .before .loop .inv) (c .loop-test .left)
 
 pub few-lines-spec : {M : Type 1} → statement M
 few-lines-spec =

@@ -1,10 +1,11 @@
 -- The function `interleaved` meets its contract. A turn judges a line, stores it, and keeps what all comes to. The measure is what is left of the
 -- tokens. Assumes nothing.
 use Prim.Native.Nat.{_+_, _-_, _<_}
-use Rattle.block.proofs.PageWalk.{Paging, paging-start, paging-asks, paging-space, paging-page, paging-refused, paging-end}
+use Rattle.block.proofs.PageWalk.{Paging, Judging, paging-start, paging-room, paging-space, paging-page, paging-refused, paging-end}
 use Rattle.block.proofs.interleaved.interleaved.Statement.{statement}
 use Rattle.block.proofs.interleaved.interleaved.Tie as tie
 use borrow.Author.Needs.{needs}
+use denote.Ref.{now}
 use lib.ListN.{length}
 use native.Mathlib.Omega.{arith}
 
@@ -14,20 +15,32 @@ Inv-loop text work₀ at from to taxa characters head codes page₀ rows₀ i₀
 abbrev μ-loop : tie.MeasureT-loop
 μ-loop text work₀ at from to taxa characters head codes page₀ rows₀ i₀ work page rows i = to - i
 
--- In a turn there is room for one line more.
+-- In a turn there is room for one line more; and a line that was judged is one of the walk.
 space : (c : tie.In-loop Inv-loop μ-loop) → c .before .before .before .before .before .before .args .at + c .before .loop .rows < length (c .before .loop .work)
-space c = paging-space _ _ _ _ _ _ _ _ _ (c .before .before .before .before .before .before .pre) _ _ _ _ (c .before .loop .inv) (c .loop-test .taken)
+space c = paging-space (c .before .before .before .before .before .before .pre) (c .before .loop .inv) (c .loop-test .taken)
+
+judging : (c : tie.After-line-turn Inv-loop μ-loop)
+    → let l = c .before .before .before in
+    let a = l .before .before .before .before .before .args in
+    Judging (now (a .text)) (now (a .codes)) (now (a .work)) (a .at) (a .from) (a .to) (a .taxa) (a .characters) (a .head) (l .loop .work) (l .loop .rows) (l .loop .page) (l .loop .i) (c .line-turn .result)
+judging c =
+    let l = c .before .before in
+    record {
+      room = l .before .before .before .before .before .before .pre;
+      place = l .before .loop .inv;
+      below = l .loop-test .taken;
+      small = λ b. l .before .before .before .before .before .shared-slice-known .given b .fits;
+      lined = c .line-turn .ensures;
+    }
 
 next-line-requires : tie.Need-next-line-requires Inv-loop μ-loop
 next-line-requires c κs = search needs
 
 loop-holds : tie.Need-loop-holds Inv-loop μ-loop
-loop-holds c = paging-start _ _ _ _ _ _ _ _ _ _ (c .next-line .ensures)
+loop-holds c = paging-start (c .next-line .ensures)
 
 line-turn-requires : tie.Need-line-turn-requires Inv-loop μ-loop
-line-turn-requires c κs =
-    let l = c .before in
-    paging-asks _ _ _ _ _ _ _ _ _ (l .before .before .before .before .before .before .pre) _ _ _ _ (l .before .loop .inv) (l .loop-test .taken)
+line-turn-requires c κs = let l = c .before in paging-room (l .before .before .before .before .before .before .pre) (l .before .loop .inv) (l .loop-test .taken)
 
 enum-known-grown : tie.Need-enum-known-grown Inv-loop μ-loop
 enum-known-grown c = search needs
@@ -45,7 +58,7 @@ add-end : tie.Need-add-end Inv-loop μ-loop
 add-end c = let l = c .before .before .before .before .before .before .before .before in omega (arith, space l, l .before .loop .inv .size, l .before .before .before .before .before .before .good)
 
 cast-work : tie.Need-cast-work Inv-loop μ-loop
-cast-work c = let l = c .before .before .before .before .before .before .before .before in omega (arith, l .loop-test .taken, l .before .before .before .before .before .before .pre .2)
+cast-work c = let l = c .before .before .before .before .before .before .before .before in omega (arith, l .loop-test .taken, l .before .before .before .before .before .before .pre .tokens)
 
 mul-work : tie.Need-mul-work Inv-loop μ-loop
 mul-work c = let l = c .before .before .before .before .before .before .before .before in omega (arith, space l, l .before .loop .inv .size, l .before .before .before .before .before .before .good)
@@ -60,10 +73,7 @@ loop-less : tie.Need-loop-less Inv-loop μ-loop
 loop-less c = omega (arith, c .before .line-end .ensures .ahead, c .next-line2 .ensures .ahead, c .before .before .before .before .before .before .before .before .loop-test .taken)
 
 loop-again : tie.Need-loop-again Inv-loop μ-loop
-loop-again c =
-    let t = c .before .before .before .before .before .before in
-    let l = t .before .before in
-    paging-page _ _ _ _ _ _ _ _ _ (l .before .before .before .before .before .before .pre) _ _ _ _ (l .before .loop .inv) (l .loop-test .taken) (λ b. l .before .before .before .before .before .shared-slice-known .given b .fits) _ (t .line-turn .ensures) _ _ (c .before .line-end .ensures) (c .next-line2 .ensures) _ (c .before .before .before .before .grown .given .1)
+loop-again c = paging-page (judging (c .before .before .before .before .before .before)) (c .before .line-end .ensures) (c .next-line2 .ensures) _ (c .before .before .before .before .grown .given .1)
 
 enum-known-n : tie.Need-enum-known-n Inv-loop μ-loop
 enum-known-n c = search needs
@@ -72,10 +82,7 @@ same-length : tie.Need-same-length Inv-loop μ-loop
 same-length c = c .before .before .before .before .before .before .loop .inv .size
 
 returns : tie.Need-returns Inv-loop μ-loop
-returns c =
-    let t = c .before .before .before in
-    let l = t .before .before in
-    paging-refused _ _ _ _ _ _ _ _ _ (l .before .before .before .before .before .before .pre) _ _ _ _ (l .before .loop .inv) (l .loop-test .taken) (λ b. l .before .before .before .before .before .shared-slice-known .given b .fits) _ (t .line-turn .ensures) _ _ (c .before .n .given .1)
+returns c = paging-refused (judging (c .before .before .before)) _ _ (c .before .n .given .1)
 
 interleaved-end-requires : tie.Need-interleaved-end-requires Inv-loop μ-loop
 interleaved-end-requires c κs = search needs
@@ -84,9 +91,7 @@ same-length-2 : tie.Need-same-length-2 Inv-loop μ-loop
 same-length-2 c = c .before .before .loop .inv .size
 
 returns-2 : tie.Need-returns-2 Inv-loop μ-loop
-returns-2 c =
-    let l = c .before in
-    paging-end _ _ _ _ _ _ _ _ _ (l .before .before .before .before .before .before .pre) _ _ _ _ (l .before .loop .inv) _ (c .interleaved-end .ensures) (l .loop-test .left)
+returns-2 c = let l = c .before in paging-end (l .before .before .before .before .before .before .pre) (l .before .loop .inv) (c .interleaved-end .ensures) (l .loop-test .left)
 
 pub interleaved-spec : {M : Type 1} → statement M
 interleaved-spec =

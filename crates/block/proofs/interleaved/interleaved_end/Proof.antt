@@ -3,7 +3,6 @@ use Rattle.block.proofs.interleaved.interleaved_end.Statement.{statemen
 use Rattle.block.proofs.interleaved.interleaved_end.Tie as tie
 use Rattle.block.specs.PagesHeld.{pages·end}
 use Rattle.lexer.specs.Base.{pick}
-use borrow.Author.Needs.{needs}
 use borrow.Author.Tests.{eq-eqb, ne-eqb}
 
 returns : tie.Need-returns

@@ -13,7 +13,7 @@ abbrev μ-loop : tie.MeasureT-loop
 μ-loop text work i to codes row₀ j₀ row j = to - j
 
 loop-holds : tie.Need-loop-holds Inv-loop μ-loop
-loop-holds c = growing-start _ _ _ _ _
+loop-holds c = growing-start
 
 newline-requires : tie.Need-newline-requires Inv-loop μ-loop
 newline-requires c κs = search needs
@@ -24,12 +24,12 @@ row-count-requires c κs = search needs
 returns : tie.Need-returns Inv-loop μ-loop
 returns c =
     let l = c .before .before .before in
-    c .row-count .ensures ∙ growing-newline _ _ _ _ _ _ _ (l .before .loop .inv) (l .loop-test .taken) (sym (c .before .before .newline .ensures) ∙ c .before .if1 .taken)
+    c .row-count .ensures ∙ growing-newline (l .before .loop .inv) (l .loop-test .taken) (sym (c .before .before .newline .ensures) ∙ c .before .if1 .taken)
 
 chunk-at-requires : tie.Need-chunk-at-requires Inv-loop μ-loop
 chunk-at-requires c κs =
     let l = c .before .before in
-    growing-room _ _ _ _ _ _ _ (l .before .loop .inv) (l .loop-test .taken) (l .before .before .before .before .pre .0)
+    growing-room (l .before .loop .inv) (l .loop-test .taken) (l .before .before .before .before .pre .0)
 
 enum-known-next : tie.Need-enum-known-next Inv-loop μ-loop
 enum-known-next c = search needs
@@ -44,7 +44,7 @@ loop-again : tie.Need-loop-again Inv-loop μ-loop
 loop-again c =
     let n = c .before .before .before in
     let l = n .before .before .before in
-    growing-turn _ _ _ _ _ _ _ (l .before .loop .inv) (l .loop-test .taken) (sym (n .before .before .newline .ensures) ∙ n .before .if1 .left) _ (n .chunk-at .ensures) (l .before .before .before .before .pre .1) _ (c .before .next .given .1)
+    growing-turn (l .before .loop .inv) (l .loop-test .taken) (sym (n .before .before .newline .ensures) ∙ n .before .if1 .left) _ (n .chunk-at .ensures) (l .before .before .before .before .pre .1) _ (c .before .next .given .1)
 
 enum-known-n : tie.Need-enum-known-n Inv-loop μ-loop
 enum-known-n c = search needs
@@ -53,13 +53,13 @@ returns-2 : tie.Need-returns-2 Inv-loop μ-loop
 returns-2 c =
     let n = c .before .before .before in
     let l = n .before .before .before in
-    growing-refused _ _ _ _ _ _ _ (l .before .loop .inv) (l .loop-test .taken) (sym (n .before .before .newline .ensures) ∙ n .before .if1 .left) _ (n .chunk-at .ensures) _ _ (c .before .n .given .1)
+    growing-refused (l .before .loop .inv) (l .loop-test .taken) (sym (n .before .before .newline .ensures) ∙ n .before .if1 .left) _ (n .chunk-at .ensures) _ _ (c .before .n .given .1)
 
 row-count-requires-2 : tie.Need-row-count-requires-2 Inv-loop μ-loop
 row-count-requires-2 c κs = search needs
 
 returns-3 : tie.Need-returns-3 Inv-loop μ-loop
-returns-3 c = c .row-count2 .ensures ∙ growing-end _ _ _ _ _ _ _ (c .before .before .loop .inv) (c .before .loop-test .left)
+returns-3 c = c .row-count2 .ensures ∙ growing-end (c .before .before .loop .inv) (c .before .loop-test .left)
 
 pub line-cells-spec : {M : Type 1} → statement M
 line-cells-spec =

@@ -14,13 +14,13 @@ abbrev μ-loop : tie.MeasureT-loop
 μ-loop text work i to j₀ j = to - j
 
 loop-holds : tie.Need-loop-holds Inv-loop μ-loop
-loop-holds c = passing-start _ _ _ _
+loop-holds c = passing-start
 
 newline-requires : tie.Need-newline-requires Inv-loop μ-loop
 newline-requires c κs = search needs
 
 returns : tie.Need-returns Inv-loop μ-loop
-returns c = let l = c .before .before in passing-line _ _ _ _ _ (l .before .loop .inv) (sym (c .before .newline .ensures) ∙ not-true _ (c .if1 .taken))
+returns c = let l = c .before .before in passing-line (l .before .loop .inv) (sym (c .before .newline .ensures) ∙ not-true _ (c .if1 .taken))
 
 add-j : tie.Need-add-j Inv-loop μ-loop
 add-j c = search needs
@@ -29,10 +29,10 @@ loop-less : tie.Need-loop-less Inv-loop μ-loop
 loop-less c = search needs
 
 loop-again : tie.Need-loop-again Inv-loop μ-loop
-loop-again c = let l = c .before .before in passing-turn _ _ _ _ _ (l .before .loop .inv) (l .loop-test .taken) (sym (c .before .newline .ensures) ∙ not-false _ (c .if1 .left))
+loop-again c = let l = c .before .before in passing-turn (l .before .loop .inv) (l .loop-test .taken) (sym (c .before .newline .ensures) ∙ not-false _ (c .if1 .left))
 
 returns-2 : tie.Need-returns-2 Inv-loop μ-loop
-returns-2 c = passing-end _ _ _ _ _ (c .before .loop .inv) (c .loop-test .left)
+returns-2 c = passing-end (c .before .loop .inv) (c .loop-test .left)
 
 pub next-line-spec : {M : Type 1} → statement M
 next-line-spec =
