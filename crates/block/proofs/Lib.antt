@@ -38,6 +38,7 @@ pub mod LabelsFollow
 pub mod LabelsGained
 pub mod LabelsHeld
 pub mod LabelsSound
+pub mod LineLaws
 pub mod ListTyped
 pub mod ListWalks
 pub mod MatrixFaults
@@ -50,6 +51,9 @@ pub mod NextWordLaws
 pub mod OpenMarks
 pub mod OpenedFaults
 pub mod OutcomeLaws
+pub mod PageShapes
+pub mod PageTurns
+pub mod PageWalk
 pub mod PagesSmall
 pub mod PagesSound
 pub mod PartLaws

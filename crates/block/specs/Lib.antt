@@ -21,6 +21,7 @@ pub mod Sequential
 pub mod Lines
 pub mod SequentialShape
 pub mod Interleaved
+pub mod PagesHeld
 pub mod Labels
 pub mod LabelSlots
 pub mod LabelEntries

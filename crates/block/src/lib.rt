@@ -11,6 +11,7 @@ pub mod dimensions;
 pub mod entries;
 pub mod format_options;
 pub mod formats;
+pub mod interleaved;
 pub mod labels;
 pub mod matrix;
 pub mod model;
