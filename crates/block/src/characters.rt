@@ -280,27 +280,17 @@ fn cut_word(
     let mut item = from;
     let mut twice = before;
     loop {
-        match word_part(text, i, all, count as u64, c) {
-            NextPart::Part(part, d) => match part_turn(
-                work,
-                at,
-                count,
-                ordering,
-                item,
-                twice,
-                part,
-            ) {
-                WordAnswer::On(m, t) => {
-                    item = m;
-                    twice = t;
-                    c = d;
-                }
-                WordAnswer::Refused(n, k) => {
-                    return WordAnswer::Refused(n, k);
-                }
-            },
-            NextPart::End => {
-                return WordAnswer::On(item, twice);
+        let NextPart::Part(part, d) = word_part(text, i, all, count as u64, c) else {
+            return WordAnswer::On(item, twice);
+        };
+        match part_turn(work, at, count, ordering, item, twice, part) {
+            WordAnswer::On(m, t) => {
+                item = m;
+                twice = t;
+                c = d;
+            }
+            WordAnswer::Refused(n, k) => {
+                return WordAnswer::Refused(n, k);
             }
         }
     }

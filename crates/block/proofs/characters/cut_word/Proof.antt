@@ -45,6 +45,15 @@ word-part-requires c κs = search needs
 enum-known-part : tie.Need-enum-known-part Inv-loop μ-loop
 enum-known-part c = search needs
 
+enum-told : tie.Need-enum-told Inv-loop μ-loop
+enum-told c = search needs
+
+same-length : tie.Need-same-length Inv-loop μ-loop
+same-length c = search needs
+
+returns : tie.Need-returns Inv-loop μ-loop
+returns c = (c .before .before .before .loop .inv .front, cutting-end _ _ _ _ _ _ _ _ _ _ _ _ (c .before .before .before .loop .inv) (parted (c .before .before) .end (c .enum-told .given .1)))
+
 part-turn-requires : tie.Need-part-turn-requires Inv-loop μ-loop
 part-turn-requires c κs = search needs
 
@@ -60,20 +69,11 @@ loop-again c = cutting-turn _ _ _ _ _ _ _ _ _ _ _ _ (c .before .before .before .
 enum-known-n : tie.Need-enum-known-n Inv-loop μ-loop
 enum-known-n c = search needs
 
-same-length : tie.Need-same-length Inv-loop μ-loop
-same-length c = search needs
-
-returns : tie.Need-returns Inv-loop μ-loop
-returns c = (c .before .before .before .before .before .part-turn .ensures .0 ∙ c .before .before .before .before .before .before .before .before .before .before .before .loop .inv .front, cutting-over _ _ _ _ _ _ _ _ _ _ _ _ (c .before .before .before .before .before .before .before .before .before .before .before .loop .inv) _ _ (parted (c .before .before .before .before .before .before .before .before .before .before) .more _ _ (c .before .before .before .before .before .before .before .before .part .given .1)) _ _ (c .before .before .before .before .before .part-turn .ensures .1) _ _ (c .before .n .given .1))
-
-enum-told : tie.Need-enum-told Inv-loop μ-loop
-enum-told c = search needs
-
 same-length-2 : tie.Need-same-length-2 Inv-loop μ-loop
 same-length-2 c = search needs
 
 returns-2 : tie.Need-returns-2 Inv-loop μ-loop
-returns-2 c = (c .before .before .before .loop .inv .front, cutting-end _ _ _ _ _ _ _ _ _ _ _ _ (c .before .before .before .loop .inv) (parted (c .before .before) .end (c .enum-told .given .1)))
+returns-2 c = (c .before .before .before .before .before .part-turn .ensures .0 ∙ c .before .before .before .before .before .before .before .before .before .before .before .loop .inv .front, cutting-over _ _ _ _ _ _ _ _ _ _ _ _ (c .before .before .before .before .before .before .before .before .before .before .before .loop .inv) _ _ (parted (c .before .before .before .before .before .before .before .before .before .before) .more _ _ (c .before .before .before .before .before .before .before .before .part .given .1)) _ _ (c .before .before .before .before .before .part-turn .ensures .1) _ _ (c .before .n .given .1))
 
 pub cut-word-spec : {M : Type 1} → statement M
 cut-word-spec =
@@ -88,13 +88,13 @@ cut-word-spec =
     loop-holds
     word-part-requires
     enum-known-part
+    enum-told
+    same-length
+    returns
     part-turn-requires
     enum-known-m
     loop-less
     loop-again
     enum-known-n
-    same-length
-    returns
-    enum-told
     same-length-2
     returns-2)
