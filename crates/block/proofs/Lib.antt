@@ -13,6 +13,7 @@ pub mod DimensionsLaws
 pub mod EachLabelled
 pub mod EntriesCut
 pub mod EntriesFollow
+pub mod EntriesWalk
 pub mod EntryTurns
 pub mod EntryWords
 pub mod FaultPlaces
