@@ -262,3 +262,39 @@ fn entry_end(
         }
     }
 }
+
+// The labels that the words of STATELABELS or CHARSTATELABELS give.
+pub fn label_entries(
+    text: &[u8],
+    work: &mut [u32],
+    at: usize,
+    characters: usize,
+    symbols: usize,
+    what: Labelling,
+    head: usize,
+    from: usize,
+    to: usize,
+) -> Judged
+    requires { ⌜ (at + 2 * characters ≤ length (now work)) × (to ≤ at) × (to ≤ 1048576) × (symbols < 128) ⌝ }
+    ensures front { λ _. ⌜ take at (now (work .exit)) ≡ take at (now (work .entry)) ⌝ }
+    ensures labelled { λ r. ⌜ judged (labels·held (now (text .entry)) (now (work .exit)) at characters) r ≡ label·entries symbols (command·of what head (words (range (now (text .entry)) (now (work .entry)) from to))) (labels·held (now (text .entry)) (now (work .entry)) at characters) ⌝ }
+{
+    let mut entry = Entry::First;
+    let mut i = from;
+    while i < to {
+        if newline(text, work, i) {
+            i += 1;
+            continue;
+        }
+        match entry_turn(text, work, at, characters, symbols, what, head, entry, i) {
+            Entered::On(e) => {
+                entry = e;
+                i += 1;
+            }
+            Entered::Refused(n, j) => {
+                return Judged::Refused(n, j);
+            }
+        }
+    }
+    entry_end(text, work, at, characters, symbols, head, entry, to)
+}
