@@ -22,6 +22,7 @@ pub mod FormatCells
 pub mod FormatCodes
 pub mod FormatOptions
 pub mod FormatSound
+pub mod LabelCommands
 pub mod LabelFaults
 pub mod LabelSlotLaws
 pub mod LabelTurns

@@ -4,7 +4,8 @@
 ghost use Prim.Native.Nat.{ℕ, _+_, _-_, _*_, _≤_, _<_};
 ghost use Rattle.block.specs.Commands.{words};
 ghost use Rattle.block.specs.Judged.{judged};
-ghost use Rattle.block.specs.Labels.{unlabelled, label·each, char·labels};
+ghost use Rattle.block.specs.Labels.{unlabelled, label·each, char·labels, label·command};
+ghost use Rattle.block.specs.LabelEntries.{command·of};
 ghost use Rattle.block.specs.LabelSlots.{labels·held, label·one};
 ghost use Rattle.lexer.specs.Stored.{word·of, range};
 ghost use lib.Dec.{eqb};
@@ -14,6 +15,7 @@ ghost use mathlib.Core.List.{List};
 ghost use mathlib.Core.Path.{_≡_};
 use super::Judged;
 use super::data::CharacterNumber;
+use super::entries::label_entries;
 use super::words::named;
 use super::words::newline;
 use lexer::Refusal;
@@ -152,4 +154,31 @@ fn char_labels(
         return label_each(text, work, at, characters, from, to);
     }
     Judged::Refused(Refusal::Count, head)
+}
+
+// A label command, whose words stand from an index up to another.
+pub fn label_command(
+    text: &[u8],
+    work: &mut [u32],
+    what: Labelling,
+    head: usize,
+    from: usize,
+    to: usize,
+    symbols: usize,
+    characters: usize,
+    at: usize,
+) -> Judged
+    requires { ⌜ (at + 2 * characters ≤ length (now work)) × (to ≤ at) × (to ≤ 1048576) × (symbols < 128) ⌝ }
+    ensures front { λ _. ⌜ take at (now (work .exit)) ≡ take at (now (work .entry)) ⌝ }
+    ensures labelled { λ r. ⌜ judged (labels·held (now (text .entry)) (now (work .exit)) at characters) r ≡ label·command symbols what (command·of what head (words (range (now (text .entry)) (now (work .entry)) from to))) (labels·held (now (text .entry)) (now (work .entry)) at characters) ⌝ }
+{
+    match what {
+        Labelling::CharLabels => char_labels(text, work, at, characters, head, from, to),
+        Labelling::StateLabels => {
+            label_entries(text, work, at, characters, symbols, what, head, from, to)
+        }
+        Labelling::CharStateLabels => {
+            label_entries(text, work, at, characters, symbols, what, head, from, to)
+        }
+    }
 }
