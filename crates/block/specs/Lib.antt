@@ -23,6 +23,7 @@ pub mod Interleaved
 pub mod Labels
 pub mod LabelSlots
 pub mod LabelEntries
+pub mod LabelLists
 pub mod CharacterList
 pub mod Typeset
 pub mod TypesHeld
