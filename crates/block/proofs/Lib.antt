@@ -17,6 +17,7 @@ pub mod DimensionsLaws
 pub mod EachLabelled
 pub mod EntriesCut
 pub mod EntriesFollow
+pub mod EntriesWalk
 pub mod EntryTurns
 pub mod EntryWords
 pub mod FaultPlaces
@@ -30,6 +31,7 @@ pub mod FormatSigns
 pub mod FormatSound
 pub mod GoodSymbols
 pub mod ItemLaws
+pub mod LabelCommands
 pub mod LabelFaults
 pub mod LabelSlotLaws
 pub mod LabelTurns

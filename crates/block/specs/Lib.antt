@@ -25,6 +25,7 @@ pub mod PagesHeld
 pub mod Labels
 pub mod LabelSlots
 pub mod LabelEntries
+pub mod LabelLists
 pub mod CharacterList
 pub mod Typeset
 pub mod TypesHeld

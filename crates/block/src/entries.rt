@@ -3,12 +3,13 @@
 ghost use Prim.Native.Nat.{ℕ, _+_, _*_, _≤_, _<_};
 ghost use Rattle.block.specs.Commands.{words};
 ghost use Rattle.block.specs.Judged.{judged};
-ghost use Rattle.block.specs.LabelEntries.{entered, placed·answer, command·of};
+ghost use Rattle.block.specs.LabelEntries.{entered, entry·of, placed, placed·answer, command·of};
 ghost use Rattle.block.specs.LabelSlots.{labels·held};
-ghost use Rattle.block.specs.Labels.{LabelCommand, numbered, labelled, begin·states, entry·number, entry·begins, entry·states, entry·turn, states};
+ghost use Rattle.block.specs.Labels.{LabelCommand, numbered, labelled, begin·states, entry·number, entry·begins, entry·states, entry·turn, entry·end, label·entries, states};
 ghost use Rattle.block.specs.NamesHeld.{names·of};
 ghost use Rattle.lexer.specs.Stored.{word·of, range};
 ghost use Rattle.lexer.specs.Words.{Numbered};
+ghost use Rattle.block.specs.declared.labels.Labelling as L;
 ghost use lib.ListN.{length, take};
 ghost use mathlib.Core.List.{List};
 ghost use mathlib.Core.Path.{_≡_};
@@ -20,6 +21,7 @@ use super::labels::label_one;
 use super::labels::put_slot;
 use super::labels::slot_given;
 use super::words::named;
+use super::words::newline;
 use super::words::number;
 use super::words::punct;
 use lexer::Refusal;
@@ -205,4 +207,94 @@ fn states_turn(
         return Entered::On(Entry::States(k, number, from));
     }
     Entered::Refused(Refusal::NotName, i)
+}
+
+// One word more.
+fn entry_turn(
+    text: &[u8],
+    work: &mut [u32],
+    at: usize,
+    characters: usize,
+    symbols: usize,
+    what: Labelling,
+    head: usize,
+    entry: Entry,
+    i: usize,
+) -> Entered
+    requires { ⌜ (at + 2 * characters ≤ length (now work)) × (i < at) × (i < 1048576) × (symbols < 128) × (placed characters i entry) ⌝ }
+    ensures front { λ _. ⌜ take at (now (work .exit)) ≡ take at (now (work .entry)) ⌝ }
+    ensures placed { λ r. ⌜ placed·answer characters (i + 1) r ⌝ }
+    ensures entered { λ r. ⌜ ((ws : List Numbered) → entered (now (text .entry)) (take at (now (work .entry))) (labels·held (now (text .entry)) (now (work .exit)) at characters) (i + 1) r ≡ entry·turn symbols (command·of what head ws) (labels·held (now (text .entry)) (now (work .entry)) at characters) (entry·of (now (text .entry)) (take at (now (work .entry))) i entry) (word·of (now (text .entry)) (now (work .entry)) i)) ⌝ }
+{
+    match entry {
+        Entry::First => entry_begins(text, work, at, characters, what, head, i),
+        Entry::Next => entry_begins(text, work, at, characters, what, head, i),
+        Entry::Numbered(k, j) => number_turn(text, work, at, characters, k, j, i),
+        Entry::Labelled(k, j) => label_turn(text, work, at, characters, k, j, i),
+        Entry::States(k, j, from) => {
+            states_turn(text, work, at, characters, symbols, k, j, from, i)
+        }
+    }
+}
+
+// The end of the words: one last comma is taken, and a command with no entry is refused.
+fn entry_end(
+    text: &[u8],
+    work: &mut [u32],
+    at: usize,
+    characters: usize,
+    symbols: usize,
+    head: usize,
+    entry: Entry,
+    to: usize,
+) -> Judged
+    requires { ⌜ (at + 2 * characters ≤ length (now work)) × (to ≤ at) × (to ≤ 1048576) × (symbols < 128) × (placed characters to entry) ⌝ }
+    ensures front { λ _. ⌜ take at (now (work .exit)) ≡ take at (now (work .entry)) ⌝ }
+    ensures labelled { λ r. ⌜ ((what : L.Labelling) (ws : List Numbered) → judged (labels·held (now (text .entry)) (now (work .exit)) at characters) r ≡ entry·end symbols (command·of what head ws) (labels·held (now (text .entry)) (now (work .entry)) at characters) (entry·of (now (text .entry)) (take at (now (work .entry))) to entry)) ⌝ }
+{
+    match entry {
+        Entry::First => Judged::Refused(Refusal::LabelEntry, head),
+        Entry::Next => Judged::Good,
+        Entry::Numbered(_, _) => Judged::Good,
+        Entry::Labelled(_, _) => Judged::Good,
+        Entry::States(k, j, from) => {
+            entry_states(text, work, at, characters, symbols, k, j, from, to)
+        }
+    }
+}
+
+// The labels that the words of STATELABELS or CHARSTATELABELS give.
+pub fn label_entries(
+    text: &[u8],
+    work: &mut [u32],
+    at: usize,
+    characters: usize,
+    symbols: usize,
+    what: Labelling,
+    head: usize,
+    from: usize,
+    to: usize,
+) -> Judged
+    requires { ⌜ (at + 2 * characters ≤ length (now work)) × (to ≤ at) × (to ≤ 1048576) × (symbols < 128) ⌝ }
+    ensures front { λ _. ⌜ take at (now (work .exit)) ≡ take at (now (work .entry)) ⌝ }
+    ensures labelled { λ r. ⌜ judged (labels·held (now (text .entry)) (now (work .exit)) at characters) r ≡ label·entries symbols (command·of what head (words (range (now (text .entry)) (now (work .entry)) from to))) (labels·held (now (text .entry)) (now (work .entry)) at characters) ⌝ }
+{
+    let mut entry = Entry::First;
+    let mut i = from;
+    while i < to {
+        if newline(text, work, i) {
+            i += 1;
+            continue;
+        }
+        match entry_turn(text, work, at, characters, symbols, what, head, entry, i) {
+            Entered::On(e) => {
+                entry = e;
+                i += 1;
+            }
+            Entered::Refused(n, j) => {
+                return Judged::Refused(n, j);
+            }
+        }
+    }
+    entry_end(text, work, at, characters, symbols, head, entry, to)
 }

@@ -4,8 +4,11 @@
 ghost use Prim.Native.Nat.{ℕ, _+_, _-_, _*_, _≤_, _<_};
 ghost use Rattle.block.specs.Commands.{words};
 ghost use Rattle.block.specs.Judged.{judged};
-ghost use Rattle.block.specs.Labels.{unlabelled, label·each, char·labels};
+ghost use Rattle.block.specs.Labels.{unlabelled, label·each, char·labels, label·command, apply·labels};
+ghost use Rattle.block.specs.LabelEntries.{command·of};
+ghost use Rattle.block.specs.LabelLists.{listed, commands·held, command·step, Fits};
 ghost use Rattle.block.specs.LabelSlots.{labels·held, label·one};
+ghost use Rattle.block.specs.Outcome.{fold};
 ghost use Rattle.lexer.specs.Stored.{word·of, range};
 ghost use lib.Dec.{eqb};
 ghost use lib.ListN.{length, take, getD, set, replicate};
@@ -14,6 +17,7 @@ ghost use mathlib.Core.List.{List};
 ghost use mathlib.Core.Path.{_≡_};
 use super::Judged;
 use super::data::CharacterNumber;
+use super::entries::label_entries;
 use super::words::named;
 use super::words::newline;
 use lexer::Refusal;
@@ -22,6 +26,21 @@ pub enum Labelling {
     CharLabels,
     StateLabels,
     CharStateLabels,
+}
+
+// A label command: which it is, the index of its first word, and the index of its end.
+pub struct LabelCommand {
+    pub what: Labelling,
+    pub head: usize,
+    pub to: usize,
+}
+
+// The label commands of a block, each of which comes at most once: so many of the three.
+pub struct LabelCommands {
+    pub count: usize,
+    pub first: LabelCommand,
+    pub second: LabelCommand,
+    pub third: LabelCommand,
 }
 
 // No character has a label or state labels.
@@ -152,4 +171,103 @@ fn char_labels(
         return label_each(text, work, at, characters, from, to);
     }
     Judged::Refused(Refusal::Count, head)
+}
+
+// A label command, whose words stand from an index up to another.
+pub fn label_command(
+    text: &[u8],
+    work: &mut [u32],
+    what: Labelling,
+    head: usize,
+    from: usize,
+    to: usize,
+    symbols: usize,
+    characters: usize,
+    at: usize,
+) -> Judged
+    requires { ⌜ (at + 2 * characters ≤ length (now work)) × (to ≤ at) × (to ≤ 1048576) × (symbols < 128) ⌝ }
+    ensures front { λ _. ⌜ take at (now (work .exit)) ≡ take at (now (work .entry)) ⌝ }
+    ensures labelled { λ r. ⌜ judged (labels·held (now (text .entry)) (now (work .exit)) at characters) r ≡ label·command symbols what (command·of what head (words (range (now (text .entry)) (now (work .entry)) from to))) (labels·held (now (text .entry)) (now (work .entry)) at characters) ⌝ }
+{
+    match what {
+        Labelling::CharLabels => char_labels(text, work, at, characters, head, from, to),
+        Labelling::StateLabels => {
+            label_entries(text, work, at, characters, symbols, what, head, from, to)
+        }
+        Labelling::CharStateLabels => {
+            label_entries(text, work, at, characters, symbols, what, head, from, to)
+        }
+    }
+}
+
+// The command of an index: the third from 2 on.
+fn command_at(commands: LabelCommands, i: usize) -> LabelCommand
+    ensures { λ r. ⌜ r ≡ getD (listed commands) i (commands .third) ⌝ }
+{
+    if i == 0 {
+        return commands.first;
+    }
+    if i == 1 {
+        return commands.second;
+    }
+    commands.third
+}
+
+// Applies the label commands, one after the other, to the labels that are held.
+fn apply_each(
+    text: &[u8],
+    work: &mut [u32],
+    commands: LabelCommands,
+    symbols: usize,
+    characters: usize,
+    at: usize,
+) -> Judged
+    requires { ⌜ (at + 2 * characters ≤ length (now work)) × (symbols < 128) × (Fits at (commands .first)) × (Fits at (commands .second)) × (Fits at (commands .third)) ⌝ }
+    ensures front { λ _. ⌜ take at (now (work .exit)) ≡ take at (now (work .entry)) ⌝ }
+    ensures labelled { λ r. ⌜ judged (labels·held (now (text .entry)) (now (work .exit)) at characters) r ≡ fold (command·step symbols) (labels·held (now (text .entry)) (now (work .entry)) at characters) (commands·held (now (text .entry)) (now (work .entry)) commands) ⌝ }
+{
+    let count = commands.count;
+    let mut i = 0;
+    while (i < count) & (i < 3) {
+        let c = command_at(commands, i);
+        let what = c.what;
+        let head = c.head;
+        let to = c.to;
+        match label_command(
+            text,
+            work,
+            what,
+            head,
+            head + 1,
+            to,
+            symbols,
+            characters,
+            at,
+        ) {
+            Judged::Good => {
+                i += 1;
+            }
+            Judged::Refused(n, j) => {
+                return Judged::Refused(n, j);
+            }
+        }
+    }
+    Judged::Good
+}
+
+// The labels that the label commands of a block give, where there are so many symbols.
+pub fn apply_labels(
+    text: &[u8],
+    work: &mut [u32],
+    commands: LabelCommands,
+    symbols: usize,
+    characters: usize,
+    at: usize,
+) -> Judged
+    requires { ⌜ (at + 2 * characters ≤ length (now work)) × (symbols < 128) × (Fits at (commands .first)) × (Fits at (commands .second)) × (Fits at (commands .third)) ⌝ }
+    ensures front { λ _. ⌜ take at (now (work .exit)) ≡ take at (now (work .entry)) ⌝ }
+    ensures labelled { λ r. ⌜ judged (labels·held (now (text .entry)) (now (work .exit)) at characters) r ≡ apply·labels symbols characters (commands·held (now (text .entry)) (now (work .entry)) commands) ⌝ }
+{
+    clear_labels(work, at, characters);
+    apply_each(text, work, commands, symbols, characters, at)
 }
