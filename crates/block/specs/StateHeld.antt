@@ -1,7 +1,7 @@
 -- What the code's state of reading means.
-use Prim.Native.Nat.{ℕ, _+_}
-use mathlib.Core.Bool.{Bool, true, false}
-use mathlib.Core.List.{List, [], _∷_}
+use Prim.Native.Nat.{ℕ}
+use mathlib.Core.Bool.{Bool}
+use mathlib.Core.List.{List}
 use mathlib.Core.Option.{Option, none, some}
 use Rattle.lexer.specs.Base.{pick}
 use Rattle.lexer.specs.Stored.{range}
@@ -9,7 +9,7 @@ use Rattle.block.specs.Blocks as B
 use Rattle.block.specs.Commands.{words}
 use Rattle.block.specs.Format as F
 use Rattle.block.specs.Formats.{options·of}
-use Rattle.block.specs.Labels as L
+use Rattle.block.specs.LabelLists.{commands·held}
 use Rattle.block.specs.NamesHeld.{names·of}
 use Rattle.block.specs.Outcome.{Outcome, done, refused}
 use Rattle.block.specs.Reading.{Reading}
@@ -18,8 +18,6 @@ use Rattle.block.specs.TypesHeld.{type·word}
 use Rattle.block.specs.declared.dimension.Dimensions.{Dimensions}
 use Rattle.block.specs.declared.state.Data.{Data}
 use Rattle.block.specs.declared.state.Held.{Held}
-use Rattle.block.specs.declared.state.LabelCommands.{LabelCommands}
-use Rattle.block.specs.declared.state.Labels.{Labels}
 use Rattle.block.specs.declared.state.Matrix.{Matrix}
 use Rattle.block.specs.declared.state.Names.{Names}
 use Rattle.block.specs.declared.state.Phase.{Phase}
@@ -43,15 +41,6 @@ module _ (text work : List ℕ) where
   style·of Style.None = none
   style·of (Style.Given o) = some (F.format·of (options·of text work o))
 
-  unfoldable pub labels·of : Labels → L.LabelCommand
-  labels·of l = record { what = l .what; head = l .head; words = words (range text work (l .head + 1) (l .to)) }
-
-  unfoldable pub commands·in : LabelCommands → List L.LabelCommand
-  commands·in LabelCommands.None = []
-  commands·in (LabelCommands.One a) = labels·of a ∷ []
-  commands·in (LabelCommands.Two a b) = labels·of a ∷ labels·of b ∷ []
-  commands·in (LabelCommands.Three a b c) = labels·of a ∷ labels·of b ∷ labels·of c ∷ []
-
 -- How a matrix that is held reads, and the types that a set gave to its characters.
 pub record Reader : Type 0 where
   pub reading : Held → Reading
@@ -68,7 +57,7 @@ module _ (m : Reader) (text work : List ℕ) where
         dimensions = sizes·of (d .sizes);
         format = style·of text work (d .style);
         taxa = names·in text work (d .names);
-        labels = commands·in text work (d .labels);
+        labels = commands·held text work (d .labels);
         matrix = matrix·of (d .matrix);
       }
 

@@ -12,8 +12,10 @@ ghost use mathlib.Core.List.{List};
 ghost use mathlib.Core.Option.{none};
 ghost use mathlib.Core.Path.{_≡_};
 use super::assumptions::TypeWord;
+use super::labels::LabelCommand;
+use super::labels::LabelCommands;
+use super::labels::Labelling;
 use super::state::Data;
-use super::state::LabelCommands;
 use super::state::Matrix;
 use super::state::Names;
 use super::state::Phase;
@@ -48,11 +50,21 @@ fn matrix_given(matrix: Matrix) -> bool
 fn no_data(names: Names) -> Data
     ensures { λ r. ⌜ ((m : Reader) (text work : List ℕ) → data·of m text work r ≡ no·data (names·in text work names)) ⌝ }
 {
+    let none = LabelCommand {
+        what: Labelling::CharLabels,
+        head: 0,
+        to: 0,
+    };
     Data {
         sizes: Sizes::None,
         style: Style::None,
         names,
-        labels: LabelCommands::None,
+        labels: LabelCommands {
+            count: 0,
+            first: none,
+            second: none,
+            third: none,
+        },
         matrix: Matrix::None,
     }
 }

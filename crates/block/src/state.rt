@@ -3,7 +3,7 @@
 use super::assumptions::TypeWord;
 use super::dimension::Dimensions;
 use super::format_options::Options;
-use super::labels::Labelling;
+use super::labels::LabelCommands;
 use lexer::Refusal;
 
 // Declared names: none, or those of the words from an index up to another.
@@ -22,21 +22,6 @@ pub enum Sizes {
 pub enum Style {
     None,
     Given(Options),
-}
-
-// A label command: which it is, its first word and its `;`.
-pub struct Labels {
-    pub what: Labelling,
-    pub head: usize,
-    pub to: usize,
-}
-
-// The label commands of a block, each kind at most once, in their order.
-pub enum LabelCommands {
-    None,
-    One(Labels),
-    Two(Labels, Labels),
-    Three(Labels, Labels, Labels),
 }
 
 // A matrix that was read: by which declarations, between which tokens, and how many lines, taxa and characters it has.

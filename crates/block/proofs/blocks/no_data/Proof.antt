@@ -2,11 +2,12 @@
 use Rattle.block.proofs.blocks.no_data.Statement.{statement}
 use Rattle.block.proofs.blocks.no_data.Tie as tie
 use Rattle.block.specs.Blocks.{no·data}
-use Rattle.block.specs.StateHeld.{data·of, sizes·of, style·of, commands·in, matrix·of}
+use Rattle.block.specs.LabelLists.{commands·held}
+use Rattle.block.specs.StateHeld.{data·of, sizes·of, style·of, matrix·of}
 use mathlib.Core.Path.{refl}
 
 returns : tie.Need-returns
-unfolding data·of sizes·of style·of commands·in matrix·of no·data
+unfolding data·of sizes·of style·of commands·held matrix·of no·data
 returns c = λ m text work. refl
 
 pub no-data-spec : {M : Type 1} → statement M
