@@ -19,7 +19,7 @@ use Rattle.block.specs.Sequential.{Shape}
 use Rattle.block.specs.Typeset as Typeset
 use Rattle.block.specs.Typeset.{Types, ordering}
 use Rattle.block.specs.declared.dimension.Dimensions.{Dimensions}
-use Rattle.block.specs.declared.labels.Labelling.{Labelling}
+use Rattle.block.specs.declared.kinds.Labelling.{Labelling}
 use Rattle.block.specs.declared.model.CharacterOrdering.{CharacterOrdering}
 use Rattle.lexer.proofs.Basics.{and-left}
 use Rattle.lexer.specs.Base.{bytes, byte, empty?, given}

@@ -12,7 +12,7 @@ use Rattle.block.specs.Names.{unique·names}
 use Rattle.block.specs.Outcome.{Outcome, done, refused, then}
 use Rattle.block.specs.Reading.{Reading}
 use Rattle.block.specs.Typeset.{Types, typeset}
-use Rattle.block.specs.declared.labels.Labelling.{Labelling}
+use Rattle.block.specs.declared.kinds.Labelling.{Labelling}
 use Rattle.block.specs.declared.model.CharacterOrdering.{CharacterOrdering}
 use Rattle.lexer.proofs.Basics.{by-test}
 use Rattle.lexer.specs.Base.{pick, empty?, given, bytes, alike, lower}

@@ -13,7 +13,7 @@ use Rattle.block.specs.Reading.{Reading}
 use Rattle.block.specs.TaxonOrder.{declaring?}
 use Rattle.block.specs.Typeset.{Types, typeset, Typeset}
 use Rattle.block.specs.declared.dimension.Dimensions.{Dimensions}
-use Rattle.block.specs.declared.labels.Labelling.{Labelling}
+use Rattle.block.specs.declared.kinds.Labelling.{Labelling}
 use Rattle.block.specs.declared.model.CharacterOrdering.{CharacterOrdering}
 use Rattle.lexer.specs.Base.{pick, empty?, given, bytes}
 use Rattle.lexer.specs.Words.{Numbered, is}

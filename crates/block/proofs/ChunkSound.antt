@@ -10,7 +10,7 @@ use Rattle.block.specs.Format.{Format, equal}
 use Rattle.block.specs.Outcome.{done, then, need}
 use Rattle.block.specs.Sound.{rising, sound·set, sound·cell, gap?}
 use Rattle.block.specs.declared.data.DataType.{DataType}
-use Rattle.block.specs.declared.matrix.Bracket.{Bracket}
+use Rattle.block.specs.declared.kinds.Bracket.{Bracket}
 use Rattle.lexer.proofs.Basics.{by-test}
 use Rattle.lexer.specs.Base.{pick, given, bytes, lower, empty?}
 use Rattle.lexer.specs.Words.{Numbered, punct, word?}

@@ -11,7 +11,7 @@ use Rattle.block.specs.Outcome.{done, refused, then, fold}
 use Rattle.block.specs.Reading.{Reading}
 use Rattle.block.specs.TaxonOrder.{declaring?, Declares}
 use Rattle.block.specs.Typeset.{Types, typeset}
-use Rattle.block.specs.declared.labels.Labelling.{Labelling}
+use Rattle.block.specs.declared.kinds.Labelling.{Labelling}
 use Rattle.block.specs.declared.model.CharacterOrdering.{CharacterOrdering}
 use Rattle.lexer.proofs.Basics.{and-right, or-both, or-left, or-right, by-test, alike-both}
 use Rattle.lexer.specs.Base.{pick, empty?, given, bytes, alike, lower}

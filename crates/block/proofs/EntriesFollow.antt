@@ -8,7 +8,7 @@ use Rattle.block.proofs.OutcomeLaws.{then-done, need-done, pick-else, p
 use Rattle.block.specs.LabelOrder.{comma, slash, no·comma, before·states, Entry·states}
 use Rattle.block.specs.Labels.{Labelled, LabelCommand, Entry, first, next, numbered, labelled, states, Entries, at, character, with·label, with·states, begin·states, entry·number, entry·begins, entry·label, entry·states, state·label, entry·turn, entry·end, label·entries}
 use Rattle.block.specs.Outcome.{Outcome, done, fold, need}
-use Rattle.block.specs.declared.labels.Labelling.{Labelling}
+use Rattle.block.specs.declared.kinds.Labelling.{Labelling}
 use Rattle.lexer.proofs.Basics.{and-left, and-right, by-test, not-both}
 use Rattle.lexer.specs.Base.{pick, given}
 use Rattle.lexer.specs.Words.{Numbered, punct, label, number}

@@ -4,7 +4,7 @@ use Rattle.block.proofs.ChunkSound.{some-inj}
 use Rattle.block.proofs.EntriesCut.{only-entry, entry-only, first-entry, later-entry, cut-entry}
 use Rattle.block.proofs.LabelsGained.{Item, its·label, its·states}
 use Rattle.block.specs.LabelOrder.{comma, slash, no·comma, Entry·of, Entry·label, before·states, Entry·states}
-use Rattle.block.specs.declared.labels.Labelling.{Labelling}
+use Rattle.block.specs.declared.kinds.Labelling.{Labelling}
 use Rattle.lexer.proofs.Basics.{and-left, not-both}
 use Rattle.lexer.specs.Words.{Numbered, label, number}
 use borrow.Author.Tests.{not-true}

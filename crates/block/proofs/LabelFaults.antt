@@ -3,7 +3,7 @@ use Prim.Native.Nat.{ℕ}
 use Rattle.block.proofs.Faulted.{Faults, Ends, gives, refuses, both, needed, then-ends, fold-ends}
 use Rattle.block.proofs.OutcomeLaws.{All, Any}
 use Rattle.block.specs.Labels.{Labelled, unlabelled, LabelCommand, label·each, char·labels, Entry, first, next, numbered, labelled, states, Entries, at, character, begin·states, entry·number, entry·begins, entry·label, entry·states, state·label, entry·turn, entry·end, label·entries, label·command, apply·labels}
-use Rattle.block.specs.declared.labels.Labelling.{Labelling}
+use Rattle.block.specs.declared.kinds.Labelling.{Labelling}
 use Rattle.lexer.specs.Base.{byte, given}
 use Rattle.lexer.specs.Words.{Numbered, label, number, punct}
 use Rattle.lexer.specs.declared.refusal.Refusal.{Refusal}

@@ -8,7 +8,7 @@ use Rattle.block.proofs.OutcomeLaws.{then-done, need-done, pick-else, p
 use Rattle.block.specs.LabelOrder.{Kth, before·states, Gives·label, Gives·states}
 use Rattle.block.specs.Labels.{Labelled, unlabelled, LabelCommand, label·each, char·labels, character, label·command, apply·labels}
 use Rattle.block.specs.Outcome.{done, fold, need}
-use Rattle.block.specs.declared.labels.Labelling.{Labelling}
+use Rattle.block.specs.declared.kinds.Labelling.{Labelling}
 use Rattle.lexer.specs.Base.{given}
 use Rattle.lexer.specs.Words.{Numbered, label}
 use Rattle.lexer.specs.declared.refusal.Refusal.{Refusal}

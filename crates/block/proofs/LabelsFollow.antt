@@ -17,7 +17,7 @@ use Rattle.block.specs.Parse.{reading, read}
 use Rattle.block.specs.Reading.{Character, Reading}
 use Rattle.block.specs.TaxonOrder.{commands·of}
 use Rattle.block.specs.Typeset.{Types}
-use Rattle.block.specs.declared.labels.Labelling.{Labelling}
+use Rattle.block.specs.declared.kinds.Labelling.{Labelling}
 use Rattle.block.specs.declared.model.CharacterOrdering.{CharacterOrdering}
 use Rattle.lexer.specs.Base.{given}
 use Rattle.lexer.specs.Words.{Numbered, is}

@@ -8,7 +8,7 @@ use Rattle.block.specs.Commands.{Command, command, words}
 use Rattle.block.specs.LabelOrder.{keyword, Label·command}
 use Rattle.block.specs.Labels.{LabelCommand}
 use Rattle.block.specs.Outcome.{done, fold}
-use Rattle.block.specs.declared.labels.Labelling.{Labelling}
+use Rattle.block.specs.declared.kinds.Labelling.{Labelling}
 use Rattle.lexer.proofs.Basics.{not-both, or-first, or-second}
 use Rattle.lexer.specs.Words.{Numbered, is}
 use mathlib.Core.Bool.{true, false}

@@ -4,7 +4,7 @@ use Rattle.block.proofs.NamesSound.{Names, need-named}
 use Rattle.block.proofs.OutcomeLaws.{then-done, pick-else, pick-when, pick-either, refused-done, done-inj, All, all-one, all-set, all-at, all-replicate, Opt, fold-keeps}
 use Rattle.block.specs.Labels.{Labelled, unlabelled, LabelCommand, label·each, char·labels, Entry, first, next, numbered, labelled, states, Entries, at, character, with·label, with·states, begin·states, entry·number, entry·begins, entry·label, entry·states, state·label, entry·turn, entry·end, label·entries, label·command, apply·labels}
 use Rattle.block.specs.Outcome.{Outcome, done, then, fold, need}
-use Rattle.block.specs.declared.labels.Labelling.{Labelling}
+use Rattle.block.specs.declared.kinds.Labelling.{Labelling}
 use Rattle.lexer.specs.Base.{given}
 use Rattle.lexer.specs.Words.{Numbered, punct, label, number}
 use Rattle.lexer.specs.declared.refusal.Refusal.{Refusal}

@@ -13,7 +13,7 @@ use Rattle.block.specs.Names.{known}
 use Rattle.block.specs.Outcome.{done, refused}
 use Rattle.block.specs.Reading.{Taxon}
 use Rattle.block.specs.Sequential.{Shape, names, Sequence, between, inside, row·begins, row·grown, sequential·turn, row·open, sequential·end, sequential}
-use Rattle.block.specs.declared.matrix.Bracket.{Bracket}
+use Rattle.block.specs.declared.kinds.Bracket.{Bracket}
 use Rattle.lexer.proofs.Basics.{or-first, or-second}
 use Rattle.lexer.specs.Base.{byte, empty?, alike}
 use Rattle.lexer.specs.Words.{Numbered, label, punct, word?}

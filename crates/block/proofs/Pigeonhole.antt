@@ -1,8 +1,8 @@
 -- The pigeonhole principle: numbers without repetition that are all among others are no more than those. Assumes nothing.
 use Prim.Native.Nat.{ℕ, suc, _≤_}
+use Rattle.block.specs.Sound.{distinct}
 use Rattle.lexer.proofs.Basics.{and-left, and-right, by-test, eqb-same}
 use Rattle.lexer.specs.Base.{pick, among}
-use Rattle.block.specs.Sound.{distinct}
 use borrow.Author.Tests.{eqb-true, not-true}
 use lib.Dec.{eqb}
 use lib.ListN.{length}

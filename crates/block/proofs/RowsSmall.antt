@@ -10,7 +10,7 @@ use Rattle.block.specs.Names.{known}
 use Rattle.block.specs.Outcome.{done, then, fold, need}
 use Rattle.block.specs.Reading.{Taxon}
 use Rattle.block.specs.Sequential.{Shape, names, Sequence, between, inside, row·begins, row·grown, sequential·turn, row·open, sequential·end, sequential}
-use Rattle.block.specs.declared.matrix.Bracket.{Bracket}
+use Rattle.block.specs.declared.kinds.Bracket.{Bracket}
 use Rattle.lexer.proofs.Basics.{and-right, by-test, picked}
 use Rattle.lexer.specs.Base.{pick}
 use Rattle.lexer.specs.Classes.{blank}

@@ -9,7 +9,7 @@ use Rattle.block.specs.Blocks.{labelling}
 use Rattle.block.specs.Commands.{command, words, newline}
 use Rattle.block.specs.Faults.{Token·of, Comes·to, First·word, Later·word, label·word, taxon·word, name·word, count·word, May·stand·at, dimension, label·count, not·name, taxon·twice, no·count, no·value, format·option, format·in, cell·symbol, open·set, not·states, wrong·row, row·count, no·entry, label·entry, type·word, default·type, character·list}
 use Rattle.block.specs.Interleaved.{Line, to·newline, lines·from, lines}
-use Rattle.block.specs.declared.labels.Labelling.{Labelling}
+use Rattle.block.specs.declared.kinds.Labelling.{Labelling}
 use Rattle.lexer.proofs.Basics.{by-test, or-first, or-second}
 use Rattle.lexer.specs.Base.{pick, bytes, given}
 use Rattle.lexer.specs.Tokens.{tokens}

@@ -4,10 +4,10 @@ use Rattle.block.proofs.Faulted.{Faults, Ends, gives, refuses, both, ne
 use Rattle.block.proofs.OutcomeLaws.{All, Any, Opt}
 use Rattle.block.specs.CharacterList.{Part, part, cut·from, parts, dash?, stride?, all?, character·number, range, first·number, first·item, next·item, last·number, stride·number, item·turn, Listed, listed, with·further, part·turn, list·turn, item·end}
 use Rattle.block.specs.Typeset.{ordering, Types, typed, Typing, star, name, named, form, close, equals, types, type, colon, begin, list, Typeset, name·word, equals·word, vector·word, list·ends, list·word, typeset·turn, vector·end, typeset·end, typeset}
-use Rattle.block.specs.declared.assumptions.Form.{Form}
-use Rattle.block.specs.declared.assumptions.Further.{Further}
-use Rattle.block.specs.declared.assumptions.Item.{Item}
-use Rattle.block.specs.declared.assumptions.Range.{Range}
+use Rattle.block.specs.declared.kinds.Form.{Form}
+use Rattle.block.specs.declared.kinds.Further.{Further}
+use Rattle.block.specs.declared.kinds.Item.{Item}
+use Rattle.block.specs.declared.kinds.Range.{Range}
 use Rattle.block.specs.declared.model.CharacterOrdering.{CharacterOrdering}
 use Rattle.lexer.proofs.Basics.{chosen}
 use Rattle.lexer.specs.Base.{bytes, byte}

@@ -1,13 +1,5 @@
 -- Blocks: the state of reading after each command, and the step that a command makes.
 use Prim.Native.Nat.{ℕ, zero, suc}
-use lib.Dec.{leb, eqb}
-use lib.ListN.{length}
-use mathlib.Core.Bool.{Bool, true, false, _&&_, _||_, not}
-use mathlib.Core.List.{List, [], _∷_, _++_}
-use mathlib.Core.Option.{Option, none, some, Option·getD}
-use Rattle.lexer.specs.Base.{pick, bytes, alike, empty?, given, byte}
-use Rattle.lexer.specs.Words.{Numbered, is, punct, largest}
-use Rattle.lexer.specs.declared.refusal.Refusal.{Refusal}
 use Rattle.block.specs.Commands.{Command, command, empty, unended, words}
 use Rattle.block.specs.Dimensions.{dimensions}
 use Rattle.block.specs.Format.{Format, format, default·format}
@@ -20,8 +12,16 @@ use Rattle.block.specs.Sequential.{Shape, sequential}
 use Rattle.block.specs.Typeset.{Types, ordering, typeset}
 use Rattle.block.specs.declared.data.DataType.{DataType}
 use Rattle.block.specs.declared.dimension.Dimensions.{Dimensions}
-use Rattle.block.specs.declared.labels.Labelling.{Labelling}
+use Rattle.block.specs.declared.kinds.Labelling.{Labelling}
 use Rattle.block.specs.declared.model.CharacterOrdering.{CharacterOrdering}
+use Rattle.lexer.specs.Base.{pick, bytes, alike, empty?, given, byte}
+use Rattle.lexer.specs.Words.{Numbered, is, punct, largest}
+use Rattle.lexer.specs.declared.refusal.Refusal.{Refusal}
+use lib.Dec.{leb, eqb}
+use lib.ListN.{length}
+use mathlib.Core.Bool.{Bool, true, false, _&&_, _||_, not}
+use mathlib.Core.List.{List, [], _∷_, _++_}
+use mathlib.Core.Option.{Option, none, some, Option·getD}
 
 -- A data block so far: what was declared in it, the taxa declared in it or before, its label commands, and the matrix.
 pub record Data : Type 0 where

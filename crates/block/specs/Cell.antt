@@ -1,8 +1,8 @@
 -- Cells: what stands for one taxon and one character.
 use Prim.Native.Nat.{ℕ}
+use Rattle.lexer.specs.Base.{pick}
 use lib.Dec.{ltb, eqb}
 use mathlib.Core.List.{List, [], _∷_}
-use Rattle.lexer.specs.Base.{pick}
 
 -- A state by its index among the symbols; a set of states, uncertain (in braces) or polymorphic (in parentheses); missing; a gap.
 pub data Cell : Type 0 where

@@ -1,12 +1,12 @@
 -- What the code's cells of one symbol mean.
 use Prim.Native.Nat.{ℕ, _/_, _%_}
-use lib.Dec.{eqb}
-use mathlib.Core.List.{List, [], _∷_}
-use mathlib.Core.Option.{Option, none, some}
-use Rattle.lexer.specs.Base.{pick}
 use Rattle.block.specs.Cell as C
 use Rattle.block.specs.declared.data.Cell.{Cell}
 use Rattle.block.specs.declared.formats.Index.{Index}
+use Rattle.lexer.specs.Base.{pick}
+use lib.Dec.{eqb}
+use mathlib.Core.List.{List, [], _∷_}
+use mathlib.Core.Option.{Option, none, some}
 
 -- A bit's index in front of others, if the number is odd.
 unfoldable pub bit : ℕ → ℕ → List ℕ → List ℕ

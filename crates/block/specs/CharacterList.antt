@@ -1,15 +1,15 @@
 -- Character lists in a TYPESET: numbers, `.` for the last, ALL, ranges, and `\` with a stride.
 use Prim.Native.Nat.{ℕ, zero, suc, _-_, _%_}
-use lib.Dec.{ltb, leb, eqb}
-use mathlib.Core.Bool.{Bool, true, false, _&&_, _||_}
-use mathlib.Core.List.{List, [], _∷_, _++_}
+use Rattle.block.specs.Outcome.{Outcome, done, refused, then, fold}
+use Rattle.block.specs.declared.kinds.Further.{Further}
+use Rattle.block.specs.declared.kinds.Item.{Item}
+use Rattle.block.specs.declared.kinds.Range.{Range}
 use Rattle.lexer.specs.Base.{pick, bytes, same, byte}
 use Rattle.lexer.specs.Words.{Numbered, is, punct, number, word?, quoted?, string?}
 use Rattle.lexer.specs.declared.refusal.Refusal.{Refusal}
-use Rattle.block.specs.Outcome.{Outcome, done, refused, then, fold}
-use Rattle.block.specs.declared.assumptions.Further.{Further}
-use Rattle.block.specs.declared.assumptions.Item.{Item}
-use Rattle.block.specs.declared.assumptions.Range.{Range}
+use lib.Dec.{ltb, leb, eqb}
+use mathlib.Core.Bool.{Bool, true, false, _&&_, _||_}
+use mathlib.Core.List.{List, [], _∷_, _++_}
 
 -- A part of a list, as a token of its own, and the token that it is part of. Words are cut at each `-`, which is a part of its own; any other
 -- token is one part.

@@ -1,17 +1,17 @@
 -- Cells as they are written: words of symbols, and sets in braces or parentheses.
 use Prim.Native.Nat.{ℕ, suc}
-use mathlib.Core.Bool.{_||_}
-use mathlib.Core.List.{List, [], _∷_, _++_}
-use mathlib.Core.Option.{Option, none, some}
-use Rattle.lexer.specs.Base.{pick, byte}
-use Rattle.lexer.specs.Words.{Numbered, punct, word?}
-use Rattle.lexer.specs.declared.refusal.Refusal.{Refusal}
 use Rattle.block.specs.Cell.{Cell, state, uncertain, polymorphic, missing, gap, insert·all}
 use Rattle.block.specs.Dna.{dna·cell}
 use Rattle.block.specs.Format.{Format, equal}
 use Rattle.block.specs.Outcome.{Outcome, done, refused, then, need}
 use Rattle.block.specs.declared.data.DataType.{DataType}
-use Rattle.block.specs.declared.matrix.Bracket.{Bracket}
+use Rattle.block.specs.declared.kinds.Bracket.{Bracket}
+use Rattle.lexer.specs.Base.{pick, byte}
+use Rattle.lexer.specs.Words.{Numbered, punct, word?}
+use Rattle.lexer.specs.declared.refusal.Refusal.{Refusal}
+use mathlib.Core.Bool.{_||_}
+use mathlib.Core.List.{List, [], _∷_, _++_}
+use mathlib.Core.Option.{Option, none, some}
 
 -- The index of the first symbol equal to a byte, counted from a number on.
 unfoldable pub find·symbol : Format → ℕ → ℕ → List ℕ → Option ℕ

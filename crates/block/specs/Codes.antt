@@ -1,16 +1,14 @@
 -- The codes of a format's symbols: one number for each byte, by which the code knows a cell.
-use Prim.Native.Nat.{ℕ, _+_, _*_, _<_}
-use lib.Dec.{ltb, eqb}
+use Prim.Native.Nat.{ℕ, _+_, _<_}
+use Rattle.block.specs.Cell.{Cell, state, uncertain, polymorphic, missing, gap}
+use Rattle.block.specs.Chunk.{cell}
+use Rattle.block.specs.Format.{Format}
+use Rattle.lexer.specs.Base.{pick}
+use lib.Dec.{eqb}
 use lib.ListN.{getD}
-use mathlib.Core.Bool.{Bool, true, _&&_}
 use mathlib.Core.List.{List, [], _∷_}
 use mathlib.Core.Option.{Option, none, some}
 use mathlib.Core.Path.{_≡_}
-use Rattle.lexer.specs.Base.{pick, given}
-use Rattle.block.specs.Cell.{Cell, state, uncertain, polymorphic, missing, gap}
-use Rattle.block.specs.Chunk.{cell, only·states}
-use Rattle.block.specs.Format.{Format}
-use Rattle.block.specs.declared.matrix.Cells.{Cells}
 
 -- A set of states below four as bits.
 unfoldable pub bit·of : ℕ → ℕ
@@ -32,11 +30,3 @@ code·of (some gap) = 127
 -- These are the codes of a format: one for each byte.
 pub record Coded (f : Format) (codes : List ℕ) : Type 0 where
   pub code : (b : ℕ) → b < 256 → getD codes b 0 ≡ code·of (cell f b)
-
--- What the symbols of a word come to behind so many cells, by their codes: how many cells, and whether all are states.
-unfoldable pub coded : List ℕ → ℕ → Bool → List ℕ → Cells
-coded codes n states [] = Cells.Some n states
-coded codes n states (b ∷ r) =
-    let c = getD codes b 0 in
-    let more = coded codes (n + 1) (states && ltb c 96) r in
-    pick (eqb c 255) Cells.Wrong more

@@ -1,9 +1,9 @@
 -- Commands: the tokens after the header, cut at each `;`. Newlines before a command are skipped.
 use Prim.Native.Nat.{ℕ}
-use mathlib.Core.Bool.{Bool, true, false}
-use mathlib.Core.List.{List, [], _∷_}
 use Rattle.lexer.specs.Base.{pick, byte}
 use Rattle.lexer.specs.Words.{Numbered, punct, line·end?}
+use mathlib.Core.Bool.{Bool, true, false}
+use mathlib.Core.List.{List, [], _∷_}
 
 -- A command's first word and the tokens behind it, newlines among them; or a `;` with nothing before it; or a first word after which no `;` comes.
 pub data Command : Type 0 where

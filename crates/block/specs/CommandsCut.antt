@@ -1,12 +1,12 @@
 -- Commands by the indices of their tokens, as the code finds them.
 use Prim.Native.Nat.{ℕ, zero, suc, _+_, _≤_, _<_}
-use mathlib.Core.Bool.{Bool, true}
-use mathlib.Core.List.{List, [], _∷_}
+use Rattle.block.specs.Commands.{Command, command, empty, unended, commands, commands·from}
+use Rattle.block.specs.declared.commands.Cut.{Cut}
 use Rattle.lexer.specs.Base.{pick}
 use Rattle.lexer.specs.Stored.{word·of, range}
 use Rattle.lexer.specs.Words.{Numbered}
-use Rattle.block.specs.Commands.{Command, command, empty, unended, commands, commands·from}
-use Rattle.block.specs.declared.commands.Cut.{Cut}
+use mathlib.Core.Bool.{Bool, true}
+use mathlib.Core.List.{List, [], _∷_}
 
 -- The first index, among so many, whose word passes a test; or the one behind them.
 unfoldable pub first·where : (Numbered → Bool) → List ℕ → List ℕ → ℕ → ℕ → ℕ

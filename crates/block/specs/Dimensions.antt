@@ -1,14 +1,14 @@
 -- DIMENSIONS: the options NTAX and NCHAR, each with `=` and a positive number, and NEWTAXA, in any order.
 use Prim.Native.Nat.{ℕ, zero, suc}
-use mathlib.Core.Bool.{Bool, true, false, _&&_, not}
-use mathlib.Core.List.{List}
-use Rattle.lexer.specs.Base.{pick, bytes, byte}
-use Rattle.lexer.specs.Words.{Numbered, is, punct, number}
-use Rattle.lexer.specs.declared.refusal.Refusal.{Refusal}
 use Rattle.block.specs.Outcome.{Outcome, done, refused, then, fold}
 use Rattle.block.specs.declared.dimension.Count.{Count}
 use Rattle.block.specs.declared.dimension.Dimensioning.{Dimensioning}
 use Rattle.block.specs.declared.dimension.Dimensions.{Dimensions}
+use Rattle.lexer.specs.Base.{pick, bytes, byte}
+use Rattle.lexer.specs.Words.{Numbered, is, punct, number}
+use Rattle.lexer.specs.declared.refusal.Refusal.{Refusal}
+use mathlib.Core.Bool.{Bool, true, false, _&&_, not}
+use mathlib.Core.List.{List}
 
 -- What was declared: NTAX, NCHAR, each 0 where it was not given, and NEWTAXA.
 unfoldable pub dimensions·of : ℕ → ℕ → Bool → Dimensions

@@ -1,11 +1,11 @@
 -- The IUPAC codes: four states, and for the eleven ambiguity codes the set of states that each allows.
 use Prim.Native.Nat.{ℕ}
+use Rattle.block.specs.Cell.{Cell, state, uncertain}
+use Rattle.lexer.specs.Base.{pick, lower, given, bytes, byte}
 use lib.Dec.{eqb}
 use mathlib.Core.Bool.{Bool}
 use mathlib.Core.List.{List, [], _∷_}
 use mathlib.Core.Option.{Option, none, some}
-use Rattle.lexer.specs.Base.{pick, lower, given, bytes, byte}
-use Rattle.block.specs.Cell.{Cell, state, uncertain}
 
 -- The symbols of DNA, in the order of their indices.
 unfoldable pub acgt : List ℕ

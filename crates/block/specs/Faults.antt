@@ -1,11 +1,15 @@
 -- Where a text is refused: at 0,0, at an opening mark, or at a token, and which token each number may name.
 use Prim.Native.Nat.{ℕ, zero, suc, _+_, _≤_, _<_}
-use lib.ListN.{length, getD}
-use mathlib.Core.Bool.{Bool, true, false, _||_}
-use mathlib.Core.List.{List, [], _∷_, _++_, List·Memᴰ}
-use mathlib.Core.Logic.{_↔_}
-use mathlib.Core.Option.{Option, none, some, Option·getD}
-use mathlib.Core.Path.{_≡_}
+use Rattle.block.specs.Blocks.{Phase, outside, in·taxa, in·data, in·assumptions, in·trees, State, at·start, labelling, ends, outside?, step, orderable, finish}
+use Rattle.block.specs.Cell.{Cell}
+use Rattle.block.specs.Chunk.{symbols, only·states}
+use Rattle.block.specs.Commands.{Command, command, empty, unended, words, newline, semicolon}
+use Rattle.block.specs.Format.{Format, default·format, key}
+use Rattle.block.specs.Outcome.{done, refused, fold}
+use Rattle.block.specs.Parse.{fault, read}
+use Rattle.block.specs.Reading.{Reading}
+use Rattle.block.specs.TaxonOrder.{commands·of}
+use Rattle.block.specs.declared.formats.Key.{Key}
 use Rattle.lexer.specs.Base.{pick, bytes, byte, empty?, given}
 use Rattle.lexer.specs.Classes.{symbol}
 use Rattle.lexer.specs.Lexing.{token·at}
@@ -17,16 +21,12 @@ use Rattle.lexer.specs.Words.{Numbered, numbered, is, punct, label}
 use Rattle.lexer.specs.declared.Mode.{Mode}
 use Rattle.lexer.specs.declared.Place.{Place}
 use Rattle.lexer.specs.declared.refusal.Refusal.{Refusal}
-use Rattle.block.specs.Blocks.{Phase, outside, in·taxa, in·data, in·assumptions, in·trees, State, at·start, labelling, ends, outside?, step, orderable, finish}
-use Rattle.block.specs.Cell.{Cell}
-use Rattle.block.specs.Chunk.{symbols, only·states}
-use Rattle.block.specs.Commands.{Command, command, empty, unended, words, newline, semicolon}
-use Rattle.block.specs.Format.{Format, default·format, key}
-use Rattle.block.specs.Outcome.{done, refused, fold}
-use Rattle.block.specs.Parse.{fault, read}
-use Rattle.block.specs.Reading.{Reading}
-use Rattle.block.specs.TaxonOrder.{commands·of}
-use Rattle.block.specs.declared.formats.Key.{Key}
+use lib.ListN.{length, getD}
+use mathlib.Core.Bool.{Bool, true, false, _||_}
+use mathlib.Core.List.{List, [], _∷_, _++_, List·Memᴰ}
+use mathlib.Core.Logic.{_↔_}
+use mathlib.Core.Option.{Option, none, some, Option·getD}
+use mathlib.Core.Path.{_≡_}
 
 -- A token of the text, with its index.
 abbrev pub Token·of : List ℕ → Numbered → Type 0

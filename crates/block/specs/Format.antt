@@ -1,19 +1,19 @@
 -- FORMAT: its options, its defaults, and which symbols may stand together.
 use Prim.Native.Nat.{ℕ}
-use lib.Dec.{leb, eqb}
-use lib.ListN.{length}
-use mathlib.Core.Bool.{Bool, true, false, _&&_, _||_, not}
-use mathlib.Core.List.{List, [], _∷_}
-use mathlib.Core.Option.{Option, none, some, Option·getD}
-use Rattle.lexer.specs.Base.{pick, bytes, among, same, lower, given, byte}
-use Rattle.lexer.specs.Classes.{symbol, space?, part?}
-use Rattle.lexer.specs.Words.{Numbered, is, punct, string?}
-use Rattle.lexer.specs.declared.refusal.Refusal.{Refusal}
 use Rattle.block.specs.Dna.{acgt, dna·code}
 use Rattle.block.specs.Outcome.{Outcome, done, refused, then, fold}
 use Rattle.block.specs.declared.data.DataType.{DataType}
 use Rattle.block.specs.declared.formats.Key.{Key}
 use Rattle.block.specs.declared.formats.Valued.{Valued}
+use Rattle.lexer.specs.Base.{pick, bytes, among, same, lower, given, byte}
+use Rattle.lexer.specs.Classes.{symbol, space?, part?}
+use Rattle.lexer.specs.Words.{Numbered, is, punct, string?}
+use Rattle.lexer.specs.declared.refusal.Refusal.{Refusal}
+use lib.Dec.{leb, eqb}
+use lib.ListN.{length}
+use mathlib.Core.Bool.{Bool, true, false, _&&_, _||_, not}
+use mathlib.Core.List.{List, [], _∷_}
+use mathlib.Core.Option.{Option, none, some, Option·getD}
 
 -- How cells are written.
 pub record Format : Type 0 where

@@ -1,13 +1,6 @@
 -- What the code's format and its options mean: the symbols of a format are the first of its array, those of the options the text of a token by its
 -- index, and a sign of 0 is none.
 use Prim.Native.Nat.{ℕ, zero, suc, _≤_, _<_}
-use lib.ListN.{length, take}
-use mathlib.Core.Bool.{Bool, true, false}
-use mathlib.Core.List.{List}
-use mathlib.Core.Option.{Option, none, some}
-use mathlib.Core.Path.{_≡_}
-use Rattle.lexer.specs.Base.{pick}
-use Rattle.lexer.specs.Stored.{word·of}
 use Rattle.block.specs.Format as F
 use Rattle.block.specs.Outcome.{Outcome, done, refused}
 use Rattle.block.specs.declared.data.DataType.{DataType}
@@ -16,6 +9,13 @@ use Rattle.block.specs.declared.format_options.Formatted.{Formatted}
 use Rattle.block.specs.declared.format_options.Formatting.{Formatting}
 use Rattle.block.specs.declared.format_options.Options.{Options}
 use Rattle.block.specs.declared.formats.Format.{Format}
+use Rattle.lexer.specs.Base.{pick}
+use Rattle.lexer.specs.Stored.{word·of}
+use lib.ListN.{length, take}
+use mathlib.Core.Bool.{Bool, true, false}
+use mathlib.Core.List.{List}
+use mathlib.Core.Option.{Option, none, some}
+use mathlib.Core.Path.{_≡_}
 
 -- A sign that is 0 is none.
 unfoldable pub sign·of : ℕ → Option ℕ

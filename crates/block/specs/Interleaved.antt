@@ -1,12 +1,5 @@
 -- Interleaved pages: NTAX lines each, every line a name and some cells; names repeated in order; one width to a page.
 use Prim.Native.Nat.{ℕ, suc}
-use lib.Dec.{ltb, eqb}
-use lib.ListN.{length}
-use mathlib.Core.Bool.{Bool, true, false, _&&_, _||_, not}
-use mathlib.Core.List.{List, [], _∷_, _++_}
-use Rattle.lexer.specs.Base.{pick, alike, empty?}
-use Rattle.lexer.specs.Words.{Numbered, label}
-use Rattle.lexer.specs.declared.refusal.Refusal.{Refusal}
 use Rattle.block.specs.Cell.{Cell}
 use Rattle.block.specs.Chunk.{plain, chunk, row·end}
 use Rattle.block.specs.Commands.{newline}
@@ -14,6 +7,13 @@ use Rattle.block.specs.Names.{known}
 use Rattle.block.specs.Outcome.{Outcome, done, refused, then, fold, need}
 use Rattle.block.specs.Reading.{Taxon}
 use Rattle.block.specs.Sequential.{Shape, names}
+use Rattle.lexer.specs.Base.{pick, alike, empty?}
+use Rattle.lexer.specs.Words.{Numbered, label}
+use Rattle.lexer.specs.declared.refusal.Refusal.{Refusal}
+use lib.Dec.{ltb, eqb}
+use lib.ListN.{length}
+use mathlib.Core.Bool.{Bool, true, false, _&&_, _||_, not}
+use mathlib.Core.List.{List, [], _∷_, _++_}
 
 -- A line of the matrix that is not empty.
 pub record Line : Type 0 where

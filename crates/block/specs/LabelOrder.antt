@@ -1,17 +1,17 @@
 -- Which character each label and each list of state labels belongs to, as statements about a text's commands and their words.
 use Prim.Native.Nat.{ℕ, suc}
+use Rattle.block.specs.Blocks.{Data, in·data, State, at·start, step}
+use Rattle.block.specs.Commands.{Command, command, words}
+use Rattle.block.specs.Outcome.{done, fold}
+use Rattle.block.specs.Reading.{Character}
+use Rattle.block.specs.declared.kinds.Labelling.{Labelling}
+use Rattle.lexer.specs.Base.{bytes, byte}
+use Rattle.lexer.specs.Words.{Numbered, is, punct, label, number}
 use lib.ListN.{length}
 use mathlib.Core.Bool.{Bool, true, false, _&&_, not}
 use mathlib.Core.List.{List, [], _∷_, _++_, map}
 use mathlib.Core.Option.{some}
 use mathlib.Core.Path.{_≡_}
-use Rattle.lexer.specs.Base.{bytes, byte}
-use Rattle.lexer.specs.Words.{Numbered, is, punct, label, number}
-use Rattle.block.specs.Blocks.{Data, in·data, State, at·start, step}
-use Rattle.block.specs.Commands.{Command, command, words}
-use Rattle.block.specs.Outcome.{done, fold}
-use Rattle.block.specs.Reading.{Character}
-use Rattle.block.specs.declared.labels.Labelling.{Labelling}
 
 -- This one is the k-th of these, counted from 1.
 pub record Kth {A : Type 0} (l : List A) (k : ℕ) (a : A) : Type 0 where

@@ -1,15 +1,15 @@
 -- Labels: CHARLABELS, STATELABELS and CHARSTATELABELS, applied after the matrix is read.
 use Prim.Native.Nat.{ℕ, _-_}
+use Rattle.block.specs.Outcome.{Outcome, done, refused, then, fold, need}
+use Rattle.block.specs.declared.kinds.Labelling.{Labelling}
+use Rattle.lexer.specs.Base.{pick, given, byte}
+use Rattle.lexer.specs.Words.{Numbered, punct, label, number}
+use Rattle.lexer.specs.declared.refusal.Refusal.{Refusal}
 use lib.Dec.{ltb, leb, eqb}
 use lib.ListN.{length, getD, set, replicate}
 use mathlib.Core.Bool.{_&&_}
 use mathlib.Core.List.{List, [], _∷_, _++_}
 use mathlib.Core.Option.{Option, none, some}
-use Rattle.lexer.specs.Base.{pick, given, byte}
-use Rattle.lexer.specs.Words.{Numbered, punct, label, number}
-use Rattle.lexer.specs.declared.refusal.Refusal.{Refusal}
-use Rattle.block.specs.Outcome.{Outcome, done, refused, then, fold, need}
-use Rattle.block.specs.declared.labels.Labelling.{Labelling}
 
 -- What is labelled of a character so far: its label and its state labels, if they were given.
 pub record Labelled : Type 0 where

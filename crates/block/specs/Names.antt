@@ -1,11 +1,11 @@
 -- Taxon names: each a name, no two alike, ASCII case ignored.
 use Prim.Native.Nat.{ℕ}
-use mathlib.Core.Bool.{Bool, false, _||_}
-use mathlib.Core.List.{List, [], _∷_, _++_}
+use Rattle.block.specs.Outcome.{Outcome, done, refused, then, fold, need}
 use Rattle.lexer.specs.Base.{pick, alike}
 use Rattle.lexer.specs.Words.{Numbered, label}
 use Rattle.lexer.specs.declared.refusal.Refusal.{Refusal}
-use Rattle.block.specs.Outcome.{Outcome, done, refused, then, fold, need}
+use mathlib.Core.Bool.{Bool, false, _||_}
+use mathlib.Core.List.{List, [], _∷_, _++_}
 
 -- Is a name among these?
 unfoldable pub known : List ℕ → List (List ℕ) → Bool

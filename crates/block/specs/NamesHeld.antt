@@ -1,7 +1,7 @@
 -- The names that words are.
 use Prim.Native.Nat.{ℕ}
-use mathlib.Core.List.{List, map}
 use Rattle.lexer.specs.Words.{Numbered, spaced}
+use mathlib.Core.List.{List, map}
 
 -- The name that a word is, if it is one.
 unfoldable pub name·of : Numbered → List ℕ

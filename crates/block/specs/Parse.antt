@@ -1,8 +1,9 @@
 -- A text's reading, or its refusal with number and place.
 use Prim.Native.Nat.{ℕ}
-use lib.ListN.{length, getD}
-use mathlib.Core.List.{List, [], _∷_}
-use mathlib.Core.Option.{Option, none, some}
+use Rattle.block.specs.Blocks.{at·start, step, finish}
+use Rattle.block.specs.Commands.{commands, newline}
+use Rattle.block.specs.Outcome.{Outcome, done, refused, then, fold}
+use Rattle.block.specs.Reading.{Reading}
 use Rattle.lexer.specs.Base.{pick, bytes}
 use Rattle.lexer.specs.Places.{place, nowhere, starts, opened}
 use Rattle.lexer.specs.Tokens.{Token, tokens, left·open}
@@ -10,10 +11,9 @@ use Rattle.lexer.specs.Utf8.{utf8}
 use Rattle.lexer.specs.Words.{Numbered, numbered, is}
 use Rattle.lexer.specs.declared.Place.{Place}
 use Rattle.lexer.specs.declared.refusal.Refusal.{Refusal}
-use Rattle.block.specs.Blocks.{at·start, step, finish}
-use Rattle.block.specs.Commands.{commands, newline}
-use Rattle.block.specs.Outcome.{Outcome, done, refused, then, fold}
-use Rattle.block.specs.Reading.{Reading}
+use lib.ListN.{length, getD}
+use mathlib.Core.List.{List, [], _∷_}
+use mathlib.Core.Option.{Option, none, some}
 
 -- The commands behind the header #NEXUS, the word with this index.
 unfoldable pub parse·behind : ℕ → List Numbered → Outcome Reading

@@ -1,9 +1,9 @@
 -- The reading of a text: what the rules make of its bytes.
 use Prim.Native.Nat.{ℕ}
-use mathlib.Core.List.{List}
 use Rattle.block.specs.Cell.{Cell}
 use Rattle.block.specs.declared.data.DataType.{DataType}
 use Rattle.block.specs.declared.model.CharacterOrdering.{CharacterOrdering}
+use mathlib.Core.List.{List}
 
 pub record Taxon : Type 0 where
   pub name : List ℕ

@@ -1,6 +1,5 @@
 -- The definitions opened, so that antt computes them. A check by computation of what a text means goes through here.
 use Prim.Native.Nat.{ℕ}
-use mathlib.Core.List.{List}
 use Rattle.block.specs.Blocks
 use Rattle.block.specs.Cell
 use Rattle.block.specs.CharacterList
@@ -18,6 +17,7 @@ use Rattle.block.specs.Sequential
 use Rattle.block.specs.Sound
 use Rattle.block.specs.Typeset
 use Rattle.lexer.specs.Run as Lexer
+use mathlib.Core.List.{List}
 
 -- What a text means.
 unfoldable pub run·text : List ℕ → Parse.Read

@@ -1,16 +1,16 @@
 -- Sequential rows: a name, then NCHAR cells, broken anywhere; NTAX rows.
 use Prim.Native.Nat.{ℕ}
-use lib.Dec.{ltb, eqb}
-use lib.ListN.{length}
-use mathlib.Core.List.{List, [], _∷_, _++_}
-use Rattle.lexer.specs.Base.{pick}
-use Rattle.lexer.specs.Words.{Numbered, label}
-use Rattle.lexer.specs.declared.refusal.Refusal.{Refusal}
 use Rattle.block.specs.Chunk.{Row, plain, within, chunk}
 use Rattle.block.specs.Format.{Format}
 use Rattle.block.specs.Names.{known}
 use Rattle.block.specs.Outcome.{Outcome, done, refused, then, fold, need}
 use Rattle.block.specs.Reading.{Taxon}
+use Rattle.lexer.specs.Base.{pick}
+use Rattle.lexer.specs.Words.{Numbered, label}
+use Rattle.lexer.specs.declared.refusal.Refusal.{Refusal}
+use lib.Dec.{ltb, eqb}
+use lib.ListN.{length}
+use mathlib.Core.List.{List, [], _∷_, _++_}
 
 -- What the matrix is to be: NTAX, NCHAR, the format, and the index of the word MATRIX.
 pub record Shape : Type 0 where

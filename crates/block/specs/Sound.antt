@@ -1,14 +1,5 @@
 -- What a reading is: the conditions that every reading of a text meets, and that a record must meet.
 use Prim.Native.Nat.{ℕ}
-use lib.Dec.{leb, ltb}
-use lib.ListN.{length}
-use mathlib.Core.Bool.{Bool, true, false, _&&_, _||_, not}
-use mathlib.Core.List.{List, [], _∷_, _++_}
-use mathlib.Core.Path.{_≡_}
-use Rattle.lexer.specs.Base.{pick, among, same, empty?, byte}
-use Rattle.lexer.specs.Classes.{blank}
-use Rattle.lexer.specs.Utf8.{utf8}
-use Rattle.lexer.specs.Words.{largest}
 use Rattle.block.specs.Blocks.{orderable}
 use Rattle.block.specs.Cell.{Cell, state, uncertain, polymorphic, missing, gap}
 use Rattle.block.specs.Dna.{acgt}
@@ -18,6 +9,15 @@ use Rattle.block.specs.Names.{known}
 use Rattle.block.specs.Reading.{Taxon, Character, Reading}
 use Rattle.block.specs.Sequential.{names}
 use Rattle.block.specs.declared.data.DataType.{DataType}
+use Rattle.lexer.specs.Base.{pick, among, same, empty?, byte}
+use Rattle.lexer.specs.Classes.{blank}
+use Rattle.lexer.specs.Utf8.{utf8}
+use Rattle.lexer.specs.Words.{largest}
+use lib.Dec.{leb, ltb}
+use lib.ListN.{length}
+use mathlib.Core.Bool.{Bool, true, false, _&&_, _||_, not}
+use mathlib.Core.List.{List, [], _∷_, _++_}
+use mathlib.Core.Path.{_≡_}
 
 -- A name holds no `_` and no CR, and is not all White_Space (nor empty), unless a U+0020 is in it.
 unfoldable pub no·underscore : List ℕ → Bool

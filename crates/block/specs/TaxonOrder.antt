@@ -1,17 +1,7 @@
 -- The order of the taxa, and where names come from, as statements about a text's commands and tokens.
 use Prim.Native.Nat.{ℕ}
-use lib.Dec.{eqb}
-use lib.ListN.{length}
-use mathlib.Core.Bool.{Bool, true, false}
-use mathlib.Core.List.{List, [], _∷_, _++_, List·Memᴰ}
-use mathlib.Core.Logic.{_↔_}
-use mathlib.Core.Option.{Option, none, some}
-use mathlib.Core.Path.{_≡_}
-use Rattle.lexer.specs.Base.{pick, bytes}
-use Rattle.lexer.specs.Tokens.{tokens}
-use Rattle.lexer.specs.Words.{Numbered, numbered, is, label}
-use Rattle.block.specs.Blocks.{Data, Phase, outside, in·taxa, in·data, in·assumptions, in·trees, State, at·start, step, row·of, matrix·shape}
 use Rattle.block.specs.Blocks as Blocks
+use Rattle.block.specs.Blocks.{Data, Phase, outside, in·taxa, in·data, in·assumptions, in·trees, State, at·start, step, row·of, matrix·shape}
 use Rattle.block.specs.Commands.{Command, command, commands, words, newline}
 use Rattle.block.specs.Interleaved.{all·long}
 use Rattle.block.specs.Names.{unique·names}
@@ -19,6 +9,16 @@ use Rattle.block.specs.Outcome.{done, fold}
 use Rattle.block.specs.Reading.{Taxon}
 use Rattle.block.specs.Sequential.{Shape, names}
 use Rattle.block.specs.declared.dimension.Dimensions.{Dimensions}
+use Rattle.lexer.specs.Base.{pick, bytes}
+use Rattle.lexer.specs.Tokens.{tokens}
+use Rattle.lexer.specs.Words.{Numbered, numbered, is, label}
+use lib.Dec.{eqb}
+use lib.ListN.{length}
+use mathlib.Core.Bool.{Bool, true, false}
+use mathlib.Core.List.{List, [], _∷_, _++_, List·Memᴰ}
+use mathlib.Core.Logic.{_↔_}
+use mathlib.Core.Option.{Option, none, some}
+use mathlib.Core.Path.{_≡_}
 
 -- The tokens behind the header, the first that is no newline.
 unfoldable pub behind·header : List Numbered → List Numbered

@@ -1,19 +1,19 @@
 -- TYPESET: a name, then the type of each character, as a VECTOR or, for each type, a list of characters.
 use Prim.Native.Nat.{ℕ, suc}
+use Rattle.block.specs.CharacterList.{in·range, Listed, listed, list·turn, item·end}
+use Rattle.block.specs.Outcome.{Outcome, done, refused, then, fold, need}
+use Rattle.block.specs.declared.kinds.Form.{Form}
+use Rattle.block.specs.declared.kinds.Item.{Item}
+use Rattle.block.specs.declared.kinds.Range.{Range}
+use Rattle.block.specs.declared.model.CharacterOrdering.{CharacterOrdering}
+use Rattle.lexer.specs.Base.{pick, bytes, byte}
+use Rattle.lexer.specs.Words.{Numbered, is, punct, label}
+use Rattle.lexer.specs.declared.refusal.Refusal.{Refusal}
 use lib.Dec.{eqb}
 use lib.ListN.{length, replicate}
 use mathlib.Core.Bool.{Bool, true, false}
 use mathlib.Core.List.{List, [], _∷_, _++_}
 use mathlib.Core.Option.{Option, none, some}
-use Rattle.lexer.specs.Base.{pick, bytes, byte}
-use Rattle.lexer.specs.Words.{Numbered, is, punct, label}
-use Rattle.lexer.specs.declared.refusal.Refusal.{Refusal}
-use Rattle.block.specs.CharacterList.{in·range, Listed, listed, list·turn, item·end}
-use Rattle.block.specs.Outcome.{Outcome, done, refused, then, fold, need}
-use Rattle.block.specs.declared.assumptions.Form.{Form}
-use Rattle.block.specs.declared.assumptions.Item.{Item}
-use Rattle.block.specs.declared.assumptions.Range.{Range}
-use Rattle.block.specs.declared.model.CharacterOrdering.{CharacterOrdering}
 
 -- A type word.
 unfoldable pub ordering : Numbered → Option CharacterOrdering

@@ -1,8 +1,8 @@
 // DIMENSIONS, after mod.rs.
 
 ghost use Rattle.block.specs.Commands.{words};
-ghost use Rattle.block.specs.Sizes.{dimensioned, sized};
 ghost use Rattle.block.specs.Dimensions.{count·option, with·count, dimension·option, dimension·value, dimension·turn, dimension·end, dimensions};
+ghost use Rattle.block.specs.Sizes.{dimensioned, sized};
 ghost use Rattle.lexer.specs.Stored.{word·of, range};
 ghost use Rattle.lexer.specs.Words.{number};
 ghost use mathlib.Core.Path.{_≡_};

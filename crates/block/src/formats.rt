@@ -1,11 +1,11 @@
 // FORMAT, after mod.rs: how cells are written.
 
+ghost use Prim.Native.Nat.{_≤_};
 ghost use Rattle.block.specs.Cells.{cell·of, index·of};
 ghost use Rattle.block.specs.Chunk.{cell, state·of, state·or·code};
 ghost use Rattle.block.specs.Codes.{Coded, code·of};
 ghost use Rattle.block.specs.Format.{default·format, equal, format·of};
 ghost use Rattle.block.specs.Formats.{Settled, meant, options·of};
-ghost use Prim.Native.Nat.{_≤_};
 ghost use lib.ListN.{length};
 ghost use mathlib.Core.Path.{_≡_};
 use super::alignment::dna_cell;

@@ -8,7 +8,7 @@ use Rattle.block.specs.Outcome.{Outcome, done, refused, then, fold}
 use Rattle.block.specs.Reading.{Taxon}
 use Rattle.block.specs.Sequential.{Shape, Sequence, between, inside, row·grown, sequential·turn}
 use Rattle.block.specs.declared.data.DataType.{DataType}
-use Rattle.block.specs.declared.matrix.Bracket.{Bracket}
+use Rattle.block.specs.declared.kinds.Bracket.{Bracket}
 use Rattle.lexer.proofs.Basics.{and-left, and-right, or-first, or-second}
 use Rattle.lexer.specs.Base.{empty?}
 use Rattle.lexer.specs.Tokens.{Token}

@@ -4,7 +4,7 @@ use Rattle.block.specs.Cell.{Cell, state, insert, insert·all}
 use Rattle.block.specs.Chunk.{plain, within, closer, chunk, cell, cells·of, before, symbols, only·states, with·state, into·set}
 use Rattle.block.specs.Format.{Format}
 use Rattle.block.specs.Outcome.{Outcome, done, then, need}
-use Rattle.block.specs.declared.matrix.Bracket.{Bracket}
+use Rattle.block.specs.declared.kinds.Bracket.{Bracket}
 use Rattle.lexer.specs.Tokens.{Token}
 use Rattle.lexer.specs.Words.{Numbered, word?, mark?, line·end?}
 use Rattle.lexer.specs.declared.Kind.{Kind}

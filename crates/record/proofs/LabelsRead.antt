@@ -5,7 +5,7 @@ use Rattle.block.specs.Labels as L
 use Rattle.block.specs.Labels.{Labelled, unlabelled, LabelCommand, Entry, Entries, entry·turn, entry·end, entry·begins, begin·states, character}
 use Rattle.block.specs.Outcome.{Outcome, done, then, fold}
 use Rattle.block.specs.Reading.{Character}
-use Rattle.block.specs.declared.labels.Labelling.{Labelling}
+use Rattle.block.specs.declared.kinds.Labelling.{Labelling}
 use Rattle.lexer.proofs.Basics.{and-left, and-right}
 use Rattle.lexer.specs.Base.{empty?, given}
 use Rattle.lexer.specs.Tokens.{Token}

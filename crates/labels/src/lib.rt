@@ -1,0 +1,7 @@
+// The three label commands, after mod.rs. What each function means stands in specs/.
+
+pub mod entries;
+pub mod labels;
+
+pub use labels::LabelCommand;
+pub use labels::LabelCommands;

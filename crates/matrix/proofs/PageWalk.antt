@@ -1,0 +1,291 @@
+-- The walk over the lines of an interleaved matrix: what its turns keep, and what they come to. Assumes nothing.
+use Prim.Native.Nat.{ℕ, _+_, _≤_, _<_}
+use Rattle.block.proofs.OutcomeLaws.{All, all-one}
+use Rattle.block.specs.Codes.{Coded}
+use Rattle.block.specs.Commands.{newline}
+use Rattle.block.specs.Format.{Format}
+use Rattle.block.specs.Interleaved.{Line, Page, first·page, to·newline, lines·from, lines, line·turn, pages, all·long, interleaved·end, interleaved}
+use Rattle.block.specs.Judged.{judged}
+use Rattle.block.specs.Outcome.{Outcome, done, refused, then}
+use Rattle.block.specs.Reading.{Taxon}
+use Rattle.block.specs.Sequential.{Shape, names}
+use Rattle.lexer.proofs.Basics.{by-test, chosen, and-true, eqb-sym}
+use Rattle.lexer.proofs.SmallBytes.{Small}
+use Rattle.lexer.specs.Base.{pick}
+use Rattle.lexer.specs.Stored.{word·of, range}
+use Rattle.lexer.specs.declared.refusal.Refusal.{Refusal}
+use Rattle.matrix.proofs.LineLaws.{lines-end, lines-line, line-then, next-ahead}
+use Rattle.matrix.proofs.PageShapes.{grown-room}
+use Rattle.matrix.proofs.PageTurns.{Long, Shaped, Comes, turn-comes}
+use Rattle.matrix.proofs.StoredRows.{stored-more, word-kept, range-kept, names-kept}
+use Rattle.matrix.proofs.WalkedRows.{refused-rows}
+use Rattle.matrix.specs.Lines.{Rows·room, name·at, stored, names·stored}
+use Rattle.matrix.specs.PagesHeld.{Line·begins, Line·ends, Line·room, Pages·read, line·at, with·line, page·held, pages·held, paged, count·from, line·name, misfit, page·grown, line·grown, page·short, line·shape, lined·of, pages·end}
+use Rattle.matrix.specs.declared.interleaved.Lined.{Lined}
+use Rattle.matrix.specs.declared.interleaved.Pages.{Pages}
+use Rattle.matrix.specs.declared.matrix.Chunk.{Chunk}
+use Rattle.matrix.specs.declared.matrix.Rows.{Rows}
+use borrow.Author.Tests.{eqb-true, eqb-false, eq-eqb, ne-eqb}
+use lib.Dec.{eqb}
+use lib.ListN.{length, take, set, length-set}
+use lib.Seq.{take-set-le}
+use mathlib.Core.Bool.{Bool, true, false, _&&_, false≢true}
+use mathlib.Core.List.{List, [], _∷_, _++_, map-append}
+use mathlib.Core.Path.{_≡_, refl, sym, ap, _∙_}
+use native.Mathlib.Omega.{arith}
+
+-- What a line can do at most to the shape of a page.
+abbrev Bounds : ℕ → ℕ → Outcome Pages → Type 0
+Bounds row characters (done r) = (r .row ≤ row + 1) × (r .earlier ≤ characters)
+Bounds row characters (refused m j) = Unit {0}
+
+then-bounds : {A : Type 0} (row characters : ℕ) (o : Outcome A) (g : A → Outcome Pages) → ((a : A) → Bounds row characters (g a)) → Bounds row characters (then o g)
+unfolding then
+then-bounds row characters (done a) g h = h a
+then-bounds row characters (refused m j) g h = tt
+
+module _ (taxa characters : ℕ) (q : Pages) (within : q .earlier ≤ characters) where
+  grown-bounds : (i n : ℕ) → Bounds (q .row) characters (line·grown taxa characters q i n)
+  unfolding line·grown page·grown
+  grown-bounds i n =
+      chosen (Bounds (q .row) characters) (misfit characters q n) (λ _. tt)
+      (λ e. chosen (λ (r : Pages). (r .row ≤ q .row + 1) × (r .earlier ≤ characters)) (eqb (q .row + 1) taxa) (λ _. (omega arith, grown-room characters q n within e)) (λ _. (omega arith, within)))
+
+  shape-bounds : (text work codes : List ℕ) (at rows i to : ℕ) → Bounds (q .row) characters (line·shape text work codes at rows taxa characters q i to)
+  unfolding line·shape
+  shape-bounds text work codes at rows i to =
+      chosen (Bounds (q .row) characters) (page·short text work taxa q i to) (λ _. tt)
+      (λ _. then-bounds (q .row) characters (judged i (line·name text work at rows q i)) _ (λ s. then-bounds (q .row) characters (count·from codes (Chunk.Plain 0) (to·newline (range text work (s + 1) to))) _ (λ n. grown-bounds s n)))
+
+-- Rows of one length are as long as they are to be exactly where that is the length.
+all-long : (n e : ℕ) (l : List Taxon) → All (Long e) l → eqb e n ≡ true → all·long n l ≡ true
+unfolding all·long
+all-long n e [] h d = refl
+all-long n e (t ∷ r) h d = rw (h .0, d, all-long n e r (h .1) d)
+
+some-long : (n e : ℕ) (l : List Taxon) → All (Long e) l → 0 < length l → all·long n l ≡ eqb e n
+unfolding all·long
+some-long n e [] h s = absurd (omega arith)
+some-long n e (t ∷ r) h s = by-test (eqb e n) (λ d. all-long n e (t ∷ r) h d ∙ sym d) (λ d. rw (h .0, d))
+
+-- At the end the code tests what the definition tests.
+end-test : (taxa characters : ℕ) (stored : List (List ℕ)) (q : Pages) (p : Page) → Shaped taxa stored q p
+    → eqb (length (p .below)) taxa && all·long characters (p .below) ≡ pick (q .first) (eqb taxa 0) (eqb (q .row) 0 && eqb (q .earlier) characters)
+unfolding pick all·long
+end-test taxa characters stored q p k = by-test (q .first) (λ e. rw (e, k .new e .0) (and-true (eqb 0 taxa) ∙ eqb-sym 0 taxa)) (λ e. rw e (later (k .later e)))
+  where
+    later : (length (p .above) + length (p .below) ≡ taxa) × (length (p .above) < taxa)
+        → eqb (length (p .below)) taxa && all·long characters (p .below) ≡ eqb (q .row) 0 && eqb (q .earlier) characters
+    later z =
+        by-test (eqb (q .row) 0)
+        (λ d. let none = eqb-true (q .row) 0 d in rw (d, eq-eqb (length (p .below)) taxa (omega (arith, z .0, k .row)), some-long characters (q .earlier) (p .below) (k .below) (omega (arith, z .0, z .1, k .row))))
+        (λ d. let some = eqb-false (q .row) 0 d in rw (d, ne-eqb (length (p .below)) taxa (λ s. some (omega (arith, z .0, k .row)))))
+
+-- A stored line more.
+module _ (text work : List ℕ) (f : Format) (taxa to : ℕ) where
+  page-more : (p : Page) (starts : List ℕ) (s : ℕ) → page·held text work f taxa to p (starts ++ (s ∷ [])) ≡ with·line f taxa (page·held text work f taxa to p starts) (line·at text work f to s)
+  unfolding page·held
+  page-more p [] s = refl
+  page-more p (t ∷ r) s = page-more (with·line f taxa p (line·at text work f to t)) r s
+
+-- Its name stands behind the others.
+names-more : (text work starts : List ℕ) (s : ℕ) → names·stored text work (starts ++ (s ∷ [])) ≡ names·stored text work starts ++ (name·at text work s ∷ [])
+unfolding names·stored
+names-more text work starts s = rw map-append
+
+-- Stored lines mean the same where work memory was kept.
+module _ (text work before : List ℕ) (at : ℕ) (kept : take at work ≡ take at before) (f : Format) (taxa to : ℕ) (h : to ≤ at) where
+  line-kept : (s : ℕ) → s < at → line·at text work f to s ≡ line·at text before f to s
+  unfolding line·at name·at
+  line-kept s l = rw (word-kept text work before at kept s l, range-kept text work before at kept (s + 1) to h)
+
+  name-kept : (s : ℕ) → s < at → name·at text work s ≡ name·at text before s
+  unfolding name·at
+  name-kept s l = rw (word-kept text work before at kept s l)
+
+  -- one line more, by what work memory holds now
+  held-more : (p : Page) (starts : List ℕ) (s : ℕ) → s < at → page·held text before f taxa to p (starts ++ (s ∷ [])) ≡ with·line f taxa (page·held text before f taxa to p starts) (line·at text work f to s)
+  held-more p starts s l = rw (line-kept s l) (page-more text before f taxa to p starts s)
+
+  named-more : (starts : List ℕ) (s : ℕ) → All (λ s. s < at) starts → s < at → names·stored text before (starts ++ (s ∷ [])) ≡ names·stored text work starts ++ (name·at text work s ∷ [])
+  named-more starts s a l = rw (names-kept text work before at kept starts a, name-kept s l) (names-more text before starts s)
+
+  page-kept : (p : Page) (starts : List ℕ) → All (λ s. s < at) starts → page·held text work f taxa to p starts ≡ page·held text before f taxa to p starts
+  unfolding page·held
+  page-kept p [] a = refl
+  page-kept p (s ∷ r) a = rw (line-kept s (a .0)) (page-kept (with·line f taxa p (line·at text before f to s)) r (a .1))
+
+-- So many rows are answered as lines are stored.
+end-rows : (taxa characters head rows : ℕ) (q : Pages) (m : ℕ) → pages·end taxa characters head rows q ≡ Rows.Done m → m ≡ rows
+unfolding pages·end
+end-rows taxa characters head rows q m =
+    chosen (λ r. r ≡ Rows.Done m → m ≡ rows) (pick (q .first) (eqb taxa 0) (eqb (q .row) 0 && eqb (q .earlier) characters)) (λ _ e. (cc)) (λ _ e. refused-rows e)
+
+-- What the matrix is to be, in a format.
+abbrev matrix·of : ℕ → ℕ → ℕ → Format → Shape
+matrix·of taxa characters head f = record { taxa = taxa; characters = characters; format = f; head = head }
+
+-- By the definition: behind the lines that are stored, those that begin from here on come to what all of them come to.
+pub record Walked (text before : List ℕ) (from to taxa characters head : ℕ) (f : Format) (starts : List ℕ) (q : Pages) (i : ℕ) : Type 0 where
+  pub shaped : Shaped taxa (names·stored text before starts) q (page·held text before f taxa to first·page starts)
+  pub rest : then (pages (matrix·of taxa characters head f) (page·held text before f taxa to first·page starts) (lines·from false (range text before i to))) (interleaved·end (matrix·of taxa characters head f))
+      ≡ interleaved (matrix·of taxa characters head f) (range text before from to)
+
+-- Work memory is kept in front of the lines. No more of them are stored than there were tokens, each the index of one; a line begins here, or nothing
+-- is left; and for every format with these codes, what is read from here on is what all of it is read as.
+pub record Paging (text codes before : List ℕ) (at from to taxa characters head : ℕ) (work : List ℕ) (rows : ℕ) (q : Pages) (i : ℕ) : Type 0 where
+  pub size : length work ≡ length before
+  pub kept : take at work ≡ take at before
+  pub few : rows ≤ i
+  pub within : rows ≤ to
+  pub starts : All (λ s. s < at) (stored work at rows)
+  pub row : q .row ≤ rows
+  pub earlier : q .earlier ≤ characters
+  pub here : i < to → newline (word·of text before i) ≡ false
+  pub each : (f : Format) → Coded f codes → length (f .symbols) ≤ 74 → Walked text before from to taxa characters head f (stored work at rows) q i
+
+module _ {text codes before : List ℕ} {at from to taxa characters head : ℕ} where
+  pub paging-start : {i : ℕ} → Line·begins text before from to i → Paging text codes before at from to taxa characters head before 0 (record { first = true; row = 0; earlier = 0; width = 0 }) i
+  unfolding stored names·stored page·held first·page names interleaved lines
+  paging-start b =
+      record {
+        size = refl;
+        kept = refl;
+        few = omega arith;
+        within = omega arith;
+        starts = tt;
+        row = omega arith;
+        earlier = omega arith;
+        here = b .here;
+        each =
+            λ f c few.
+            record {
+              shaped = record { first = refl; row = refl; width = refl; above = tt; below = tt; others = []; named = refl; new = λ _. (refl, refl, refl); later = λ e. absurd (false≢true (sym e)); begun = λ _. refl };
+              rest = rw (b .lines);
+            };
+      }
+
+  module _ (room : Rows·room text before at to) {work : List ℕ} {rows : ℕ} {q : Pages} {i : ℕ} (k : Paging text codes before at from to taxa characters head work rows q i) where
+    abbrev matrix : Format → Shape
+    matrix f = matrix·of taxa characters head f
+
+    abbrev held : Format → List ℕ → Page
+    held f starts = page·held text before f taxa to first·page starts
+
+    ended : (f : Format) → Walked text before from to taxa characters head f (stored work at rows) q i → to ≤ i → interleaved·end (matrix f) (held f (stored work at rows)) ≡ interleaved (matrix f) (range text before from to)
+    unfolding pages then
+    ended f w h = rw (lines-end text before i to false h) at (w .rest)
+
+    end-same : (f : Format) → Walked text before from to taxa characters head f (stored work at rows) q i
+        → paged text work at f taxa to (pages·end taxa characters head rows q) ≡ interleaved·end (matrix f) (held f (stored work at rows))
+    unfolding paged pages·held pages·end interleaved·end pick
+    end-same f w =
+        rw (end-test taxa characters (names·stored text before (stored work at rows)) q (held f (stored work at rows)) (w .shaped))
+        (go (pick (q .first) (eqb taxa 0) (eqb (q .row) 0 && eqb (q .earlier) characters)))
+      where
+        go : (b : Bool) → paged text work at f taxa to (pick b (Rows.Done rows) (Rows.Refused Refusal.Count head)) ≡ pick b (done (held f (stored work at rows) .below)) (refused Refusal.Count head)
+        go true = ap (λ p. done (p .below)) (page-kept text work before at (k .kept) f taxa to (room .apart) first·page (stored work at rows) (k .starts))
+        go false = refl
+
+    pub paging-end : {r : Rows} → r ≡ pages·end taxa characters head rows q → to ≤ i → Pages·read text codes before work at from to taxa characters head r
+    paging-end {r} e h =
+        record {
+          kept = k .kept;
+          few = λ m d. let z = end-rows taxa characters head rows q m (sym e ∙ d) in omega (arith, k .within);
+          read = λ f c few. let w = k .each f c few in rw e (end-same f w ∙ ended f w h);
+        }
+
+    -- there is room for a line that begins here
+    pub paging-room : i < to → Line·room text work at rows to characters q i
+    paging-room h =
+        record {
+          stored = omega (arith, k .within, k .size, room .behind);
+          row = k .row;
+          earlier = k .earlier;
+          below = h;
+          lines = omega (arith, k .within, room .tokens);
+          tokens = room .tokens;
+          bytes = room .bytes;
+        }
+
+    pub paging-space : i < to → at + rows < length work
+    paging-space h = omega (arith, k .few, k .size, room .behind)
+
+-- The line that begins here was judged.
+pub record Judging (text codes before : List ℕ) (at from to taxa characters head : ℕ) (work : List ℕ) (rows : ℕ) (q : Pages) (i : ℕ) (r : Lined) : Type 0 where
+  pub room : Rows·room text before at to
+  pub place : Paging text codes before at from to taxa characters head work rows q i
+  pub below : i < to
+  pub small : Small text
+  pub lined : lined·of r ≡ line·shape text work codes at rows taxa characters q i to
+
+module _ {text codes before : List ℕ} {at from to taxa characters head : ℕ} {work : List ℕ} {rows : ℕ} {q : Pages} {i : ℕ} {r : Lined}
+    (j : Judging text codes before at from to taxa characters head work rows q i r) where
+  under : i < at
+  under = omega (arith, j .below, j .room .apart)
+
+  here : newline (word·of text work i) ≡ false
+  here = rw (word-kept text work before at (j .place .kept) i under) (j .place .here (j .below))
+
+  abbrev line : Line
+  line = record { first = word·of text work i; rest = to·newline (range text work (i + 1) to) }
+
+  module _ (f : Format) (c : Coded f codes) (few : length (f .symbols) ≤ 74) where
+    abbrev page : Page
+    page = page·held text before f taxa to first·page (stored work at rows)
+
+    shaped : Shaped taxa (names·stored text work (stored work at rows)) q page
+    shaped = rw (names-kept text work before at (j .place .kept) (stored work at rows) (j .place .starts)) (j .place .each f c few .shaped)
+
+    rest : then (pages (matrix·of taxa characters head f) page (lines·from false (range text work i to))) (interleaved·end (matrix·of taxa characters head f)) ≡ interleaved (matrix·of taxa characters head f) (range text before from to)
+    rest = rw (range-kept text work before at (j .place .kept) i to (j .room .apart)) (j .place .each f c few .rest)
+
+    -- with the lines behind it
+    module _ (later : List Line) (one : lines·from false (range text work i to) ≡ line ∷ later) where
+      come : (o : Outcome Pages) → lined·of r ≡ o
+          → Comes text work codes f c few (j .small) at rows taxa characters head (paging-room (j .room) (j .place) (j .below) .stored) q page shaped (j .place .earlier) i to o (line·turn (matrix·of taxa characters head f) page line (length later))
+      come o d =
+          rw (← d, j .lined)
+          (turn-comes text work codes f c few (j .small) at rows taxa characters head (paging-room (j .room) (j .place) (j .below) .stored) q page shaped (j .place .earlier) i to (length later) (ap length one))
+
+      walked-refused : (m : Refusal) (n : ℕ) → r ≡ Lined.Refused m n → refused m n ≡ interleaved (matrix·of taxa characters head f) (range text before from to)
+      unfolding lined·of pages then
+      walked-refused m n d = let z = come (refused m n) (ap lined·of d) in rw (one, z) at rest
+
+      walked-page : (next : ℕ) → later ≡ lines·from false (range text work next to) → (x : Pages) → r ≡ Lined.Page x → Walked text before from to taxa characters head f (stored work at rows ++ (i ∷ [])) x next
+      unfolding lined·of pages then
+      walked-page next behind x d =
+          let z = come (done x) (ap lined·of d) in
+          let more = held-more text work before at (j .place .kept) f taxa to (j .room .apart) first·page (stored work at rows) i under in
+          record {
+            shaped = rw (named-more text work before at (j .place .kept) f taxa to (j .room .apart) (stored work at rows) i (j .place .starts) under, more) (z .1);
+            rest = rw (more, ← range-kept text work before at (j .place .kept) next to (j .room .apart), ← behind) (rw (one, z .0) at rest);
+          }
+
+  pub paging-refused : (m : Refusal) (n : ℕ) → r ≡ Lined.Refused m n → Pages·read text codes before work at from to taxa characters head (Rows.Refused m n)
+  unfolding paged
+  paging-refused m n d =
+      record {
+        kept = j .place .kept;
+        few = λ x y. refused-rows y;
+        read = λ f c few. walked-refused f c few (lines·from true (range text work (i + 1) to)) (lines-line text work i to (j .below) here) m n d;
+      }
+
+  pub paging-page : {e next : ℕ} → Line·ends text work (i + 1) to e → Line·begins text work e to next → (x : Pages) → r ≡ Lined.Page x
+      → Paging text codes before at from to taxa characters head (set work (at + rows) i) (rows + 1) x next
+  unfolding lined·of
+  paging-page {e} {next} over begins x d =
+      let k = j .place in
+      let b : Bounds (q .row) characters (done x) = rw (← j .lined, d) at (shape-bounds taxa characters q (k .earlier) text work codes at rows i to) in
+      let more = stored-more work at rows i (paging-space (j .room) k (j .below)) in
+      record {
+        size = length-set work (at + rows) i ∙ k .size;
+        kept = take-set-le at work (at + rows) i (omega arith) ∙ k .kept;
+        few = omega (arith, k .few, next-ahead text work i to e next (j .below) here over begins);
+        within = omega (arith, k .few, j .below);
+        starts = rw more (all-one (λ s. s < at) (stored work at rows) i (k .starts) under);
+        row = omega (arith, b .0, k .row);
+        earlier = b .1;
+        here = λ l. rw (← word-kept text work before at (k .kept) next (omega (arith, j .room .apart))) (begins .here l);
+        each = λ f c few. rw more (walked-page f c few (lines·from false (range text work next to)) (line-then text work i to e next (j .below) here over begins) next refl x d);
+      }

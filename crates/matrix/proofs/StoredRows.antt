@@ -1,0 +1,74 @@
+-- Stored rows: one more of them, their names; and that they and the words below an index are the same where work memory was kept up to it.
+-- Assumes nothing.
+use Prim.Native.Nat.{ℕ, zero, suc, _+_, _-_, _≤_, _<_}
+use Rattle.block.proofs.OutcomeLaws.{All}
+use Rattle.block.specs.Format.{Format}
+use Rattle.block.specs.Sequential.{names}
+use Rattle.lexer.proofs.Basics.{by-test}
+use Rattle.lexer.specs.Stored.{word·of, words·of, range}
+use Rattle.matrix.specs.Lines.{name·at, stored, names·stored, row·at, rows·sequential}
+use borrow.Author.Tests.{ltb-true, ltb-false}
+use lib.Dec.{ltb}
+use lib.ListN.{length, getD, take, drop, set, length-drop}
+use lib.Seq.{getD-take, drop-set-add, take-suc-set, take-take}
+use mathlib.Core.List.{List, [], _∷_, _++_}
+use mathlib.Core.Path.{_≡_, refl, sym, ap, _∙_}
+use native.Mathlib.Numerals.{add-one}
+use native.Mathlib.Omega.{arith}
+
+-- One number more that is stored behind the others.
+pub stored-more : (work : List ℕ) (at rows s : ℕ) → at + rows < length work → stored (set work (at + rows) s) at (rows + 1) ≡ stored work at rows ++ (s ∷ [])
+unfolding stored
+stored-more work at rows s h = rw (drop-set-add at work rows s, add-one rows) (take-suc-set (drop at work) rows s (omega (arith, length-drop at work)))
+
+module _ (text work : List ℕ) (f : Format) (n to : ℕ) where
+  pub rows-more : (starts : List ℕ) (s : ℕ) → rows·sequential text work f n to (starts ++ (s ∷ [])) ≡ rows·sequential text work f n to starts ++ (row·at text work f n to s ∷ [])
+  unfolding rows·sequential
+  rows-more [] s = refl
+  rows-more (t ∷ r) s = rw (rows-more r s)
+
+  pub rows-names : (starts : List ℕ) → names (rows·sequential text work f n to starts) ≡ names·stored text work starts
+  unfolding rows·sequential names·stored names row·at
+  rows-names [] = refl
+  rows-names (s ∷ r) = rw (rows-names r)
+
+-- Numbers that are stored in front of an index are the same where work memory was kept up to it.
+front-of : (l n m : ℕ) (w : List ℕ) → l + n ≤ m → take n (drop l (take m w)) ≡ take n (drop l w)
+front-of zero n m w h = take-take n m w (omega arith)
+front-of (suc l) n zero w h = absurd (omega arith)
+front-of (suc l) n (suc m) [] h = refl
+front-of (suc l) n (suc m) (x ∷ w) h = front-of l n m w (omega arith)
+
+pub stored-kept : (work before : List ℕ) (at lines rows : ℕ) → take at work ≡ take at before → lines + rows ≤ at → stored work lines rows ≡ stored before lines rows
+unfolding stored
+stored-kept work before at lines rows e h = sym (front-of lines rows at work h) ∙ ap (λ x. take rows (drop lines x)) e ∙ front-of lines rows at before h
+
+module _ (text work before : List ℕ) (at : ℕ) (kept : take at work ≡ take at before) where
+  start-kept : (i : ℕ) → i < at → getD work i 0 ≡ getD before i 0
+  start-kept i h = sym (getD-take at work i 0 h) ∙ ap (λ l. getD l i 0) kept ∙ getD-take at before i 0 h
+
+  pub word-kept : (i : ℕ) → i < at → word·of text work i ≡ word·of text before i
+  unfolding word·of
+  word-kept i h = rw (start-kept i h)
+
+  words-kept : (n i : ℕ) → i + n ≤ at → words·of text work i n ≡ words·of text before i n
+  unfolding words·of
+  words-kept zero i h = refl
+  words-kept (suc n) i h = rw (word-kept i (omega arith), words-kept n (suc i) (omega arith))
+
+  pub range-kept : (i end : ℕ) → end ≤ at → range text work i end ≡ range text before i end
+  unfolding range words·of
+  range-kept i end h =
+      by-test (ltb i end) (λ t. let l = ltb-true i end t in words-kept (end - i) i (omega arith))
+      (λ f. let l = ltb-false i end f in let none : end - i ≡ 0 = omega arith in rw none)
+
+  -- Names and rows
+  pub names-kept : (starts : List ℕ) → All (λ s. s < at) starts → names·stored text work starts ≡ names·stored text before starts
+  unfolding names·stored name·at
+  names-kept [] h = refl
+  names-kept (s ∷ r) h = rw (word-kept s (h .0), names-kept r (h .1))
+
+  pub rows-kept : (f : Format) (n to : ℕ) → to ≤ at → (starts : List ℕ) → All (λ s. s < at) starts → rows·sequential text work f n to starts ≡ rows·sequential text before f n to starts
+  unfolding rows·sequential row·at name·at
+  rows-kept f n to l [] h = refl
+  rows-kept f n to l (s ∷ r) h = rw (word-kept s (h .0), range-kept (s + 1) to l, rows-kept f n to l r (h .1))

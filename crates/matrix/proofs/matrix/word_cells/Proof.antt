@@ -1,0 +1,86 @@
+-- The function `word_cells` meets its contract. A turn passes one symbol and keeps what all comes to. The measure is what is left of the text.
+-- Assumes nothing.
+use Prim.Native.Nat.{_-_}
+use Rattle.lexer.proofs.NextBytes.{yielded}
+use Rattle.lexer.proofs.Yielded.{Yields·byte}
+use Rattle.lexer.specs.Bytes.{left}
+use Rattle.matrix.proofs.CellWalk.{Coding, coding-start, coding-turn, coding-wrong, coding-end}
+use Rattle.matrix.proofs.matrix.word_cells.Statement.{statement}
+use Rattle.matrix.proofs.matrix.word_cells.Tie as tie
+use borrow.Author.Needs.{needs}
+use denote.Ref.{now}
+use lib.ListN.{length}
+use mathlib.Core.Path.{sym, _∙_}
+use native.Mathlib.Omega.{arith}
+
+abbrev Inv-loop : tie.InvT-loop
+Inv-loop text start codes n₀ states₀ c₀ n states c = Coding text codes start n states c
+
+abbrev μ-loop : tie.MeasureT-loop
+μ-loop text start codes n₀ states₀ c₀ n states c = length text - c .at
+
+-- The byte that a turn read is the first of what was left.
+read : (c : tie.After-known-told Inv-loop μ-loop)
+    → let l = c .before .before .before .before in
+    let text = now (l .before .before .before .args .text) in
+    Yields·byte text (l .loop .c .at) (left text (l .loop .c)) (c .before .b .given .0 .0) (c .before .b .given .0 .1 .0)
+read c = yielded _ _ _ (c .before .before .before .next-byte .ensures) .byte _ _ (c .before .b .given .1)
+
+text-start-requires : tie.Need-text-start-requires Inv-loop μ-loop
+text-start-requires c κs = search needs
+
+loop-holds : tie.Need-loop-holds Inv-loop μ-loop
+loop-holds c = coding-start _ _ _ _ (c .text-start .ensures)
+
+next-byte-requires : tie.Need-next-byte-requires Inv-loop μ-loop
+next-byte-requires c κs = search needs
+
+enum-known-b : tie.Need-enum-known-b Inv-loop μ-loop
+enum-known-b c = search needs
+
+code-of-requires : tie.Need-code-of-requires Inv-loop μ-loop
+code-of-requires c κs = search needs
+
+returns : tie.Need-returns Inv-loop μ-loop
+returns c =
+    let k = c .before .before in
+    coding-wrong _ _ _ _ _ _ (k .before .before .before .before .loop .inv) _ _ (read k) (sym (c .before .code-of .ensures) ∙ c .if1 .taken)
+
+add-n : tie.Need-add-n Inv-loop μ-loop
+add-n c =
+    let k = c .before .before in
+    omega (arith, read k .ahead, read k .within, k .before .before .before .before .loop .inv .passed)
+
+loop-less : tie.Need-loop-less Inv-loop μ-loop
+loop-less c =
+    let k = c .before .before in
+    omega (arith, read k .ahead, read k .within)
+
+loop-again : tie.Need-loop-again Inv-loop μ-loop
+loop-again c =
+    let k = c .before .before in
+    rw (c .before .code-of .ensures) (coding-turn _ _ _ _ _ _ (k .before .before .before .before .loop .inv) _ _ (read k) (λ e. c .if1 .left (c .before .code-of .ensures ∙ e)))
+
+enum-told : tie.Need-enum-told Inv-loop μ-loop
+enum-told c = search needs
+
+returns-2 : tie.Need-returns-2 Inv-loop μ-loop
+returns-2 c = coding-end _ _ _ _ _ _ (c .before .before .before .loop .inv) (yielded _ _ _ (c .before .before .next-byte .ensures) .end (c .enum-told .given .1))
+
+pub word-cells-spec : {M : Type 1} → statement M
+word-cells-spec =
+    tie.close
+    (tie.spec
+    Inv-loop
+    μ-loop
+    text-start-requires
+    loop-holds
+    next-byte-requires
+    enum-known-b
+    code-of-requires
+    returns
+    add-n
+    loop-less
+    loop-again
+    enum-told
+    returns-2)

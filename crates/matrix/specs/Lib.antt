@@ -1,0 +1,6 @@
+-- What the rows of a matrix mean, as the code holds them.
+pub mod RowShape
+pub mod Lines
+pub mod SequentialShape
+pub mod PagesHeld
+pub mod OrderHeld

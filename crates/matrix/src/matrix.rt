@@ -1,0 +1,320 @@
+// MATRIX, after matrix.rs.
+
+ghost use Prim.Native.Nat.{_+_, _^_, _≤_};
+ghost use Rattle.block.specs.Chunk.{closer};
+ghost use Rattle.block.specs.Names.{known};
+ghost use Rattle.lexer.specs.Lexing.{token·at};
+ghost use Rattle.lexer.specs.Stored.{word·of};
+ghost use Rattle.matrix.specs.Lines.{Rows·room, name·at, names·stored, stored};
+ghost use Rattle.matrix.specs.RowShape.{coded, symbols·coded, chunk·shape, chunked·of, so·far};
+ghost use Rattle.matrix.specs.SequentialShape.{Rows·read, begun·shape, cells·of·row, end·shape, grown·shape, turn·shape};
+ghost use lib.ListN.{length, getD};
+ghost use mathlib.Core.Bool.{true};
+ghost use mathlib.Core.Path.{_≡_};
+use block::Bracket;
+use block::alike;
+use block::named;
+use block::newline;
+use block::punct;
+use lexer::Item;
+use lexer::Kind;
+use lexer::Refusal;
+use lexer::kind_at;
+use lexer::next_byte;
+use lexer::start_of;
+use lexer::text_start;
+
+// What the symbols of a word come to: how many cells, and whether all are states; or one of them is no symbol.
+pub enum Cells {
+    Some(usize, bool),
+    Wrong,
+}
+
+// A row so far: how many cells it has; and where a set is open, its kind, the index of its opening mark, and whether it is empty.
+pub enum Chunk {
+    Plain(usize),
+    Within(usize, Bracket, usize, bool),
+}
+
+// A row with one token more, or the refusal of the token with an index.
+pub enum Chunked {
+    Row(Chunk),
+    Refused(Refusal, usize),
+}
+
+// Where a sequential matrix is: between two rows; or in a row, with the index of its name.
+pub enum Sequence {
+    Between,
+    Inside(usize, Chunk),
+}
+
+// What a word of it comes to: it goes on; or the row whose name has an index is full; or the refusal of the token with an index.
+pub enum Turned {
+    On(Sequence),
+    Full(usize),
+    Refused(Refusal, usize),
+}
+
+// Rows that are stored, so many; or the refusal of the token with an index.
+pub enum Rows {
+    Done(usize),
+    Refused(Refusal, usize),
+}
+
+// The code of a byte.
+fn code_of(codes: &[u8; 256], b: u8) -> u8
+    ensures { λ r. ⌜ r ≡ getD (now (codes .entry)) b 0 ⌝ }
+{
+    codes[b as usize]
+}
+
+// What the symbols of a token's text come to, by their codes.
+fn word_cells(text: &[u8], start: usize, codes: &[u8; 256]) -> Cells
+    ensures { λ r. ⌜ r ≡ coded (now (codes .entry)) 0 true (token·at (now (text .entry)) start .text) ⌝ }
+{
+    let mut n = 0;
+    let mut states = true;
+    let mut c = text_start(text, start);
+    loop {
+        match next_byte(text, c) {
+            Item::Byte(b, d) => {
+                let code = code_of(codes, b);
+                if code == 255 {
+                    return Cells::Wrong;
+                }
+                n += 1;
+                states = states & (code < 96);
+                c = d;
+            }
+            Item::End => {
+                return Cells::Some(n, states);
+            }
+        }
+    }
+}
+
+// What the symbols of a word come to. Besides a word only the mark `+` can be a symbol.
+fn symbols(text: &[u8], work: &[u32], i: usize, codes: &[u8; 256]) -> Cells
+    ensures { λ r. ⌜ r ≡ symbols·coded (now (codes .entry)) (word·of (now (text .entry)) (now (work .entry)) i) ⌝ }
+{
+    let start = start_of(work, i);
+    match kind_at(text, start) {
+        Kind::Word => word_cells(text, start, codes),
+        _ => {
+            if punct(text, work, i, 43) {
+                return word_cells(text, start, codes);
+            }
+            Cells::Wrong
+        }
+    }
+}
+
+// The mark that ends a set.
+fn closer(kind: Bracket) -> u8
+    ensures { λ r. ⌜ r ≡ closer kind ⌝ }
+{
+    match kind {
+        Bracket::Brace => 125,
+        Bracket::Parenthesis => 41,
+    }
+}
+
+// A row of so many cells with one token more: a set opens, or the cells of a word follow.
+fn plain_chunk(text: &[u8], work: &[u32], i: usize, codes: &[u8; 256], n: usize) -> Chunked
+    requires { ⌜ n ≤ 2 ^ 41 ⌝ }
+    ensures { λ r. ⌜ chunked·of r ≡ chunk·shape (now (codes .entry)) (Chunk.Plain n) (word·of (now (text .entry)) (now (work .entry)) i) ⌝ }
+{
+    if punct(text, work, i, 123) {
+        return Chunked::Row(Chunk::Within(n, Bracket::Brace, i, true));
+    }
+    if punct(text, work, i, 40) {
+        return Chunked::Row(Chunk::Within(n, Bracket::Parenthesis, i, true));
+    }
+    match symbols(text, work, i, codes) {
+        Cells::Some(k, _) => Chunked::Row(Chunk::Plain(n + k)),
+        Cells::Wrong => Chunked::Refused(Refusal::CellSymbol, i),
+    }
+}
+
+// A row in which a set is open, with one token more: the set ends, or the states of a word follow.
+fn set_chunk(
+    text: &[u8],
+    work: &[u32],
+    i: usize,
+    codes: &[u8; 256],
+    n: usize,
+    kind: Bracket,
+    mark: usize,
+    none: bool,
+) -> Chunked
+    requires { ⌜ n ≤ 2 ^ 41 ⌝ }
+    ensures { λ r. ⌜ chunked·of r ≡ chunk·shape (now (codes .entry)) (Chunk.Within n kind mark none) (word·of (now (text .entry)) (now (work .entry)) i) ⌝ }
+{
+    if punct(text, work, i, closer(kind)) {
+        if none {
+            return Chunked::Refused(Refusal::StateSet, mark);
+        }
+        return Chunked::Row(Chunk::Plain(n + 1));
+    }
+    match symbols(text, work, i, codes) {
+        Cells::Some(k, states) => {
+            if states {
+                return Chunked::Row(Chunk::Within(n, kind, mark, none & (k == 0)));
+            }
+            Chunked::Refused(Refusal::StateSet, i)
+        }
+        Cells::Wrong => Chunked::Refused(Refusal::CellSymbol, i),
+    }
+}
+
+// A row with one token more. A token adds at most one cell more than the text has bytes, so that a bound on the cells so far keeps their count from
+// overflowing.
+pub fn chunk_at(text: &[u8], work: &[u32], i: usize, codes: &[u8; 256], row: Chunk) -> Chunked
+    requires { ⌜ so·far row ≤ 2 ^ 41 ⌝ }
+    ensures { λ r. ⌜ chunked·of r ≡ chunk·shape (now (codes .entry)) row (word·of (now (text .entry)) (now (work .entry)) i) ⌝ }
+{
+    match row {
+        Chunk::Plain(n) => plain_chunk(text, work, i, codes, n),
+        Chunk::Within(n, kind, mark, none) => set_chunk(text, work, i, codes, n, kind, mark, none),
+    }
+}
+
+// Is the name of a word one of those that the words have whose indices are stored, so many from an index of work memory on?
+pub fn known_row(text: &[u8], work: &[u32], at: usize, rows: usize, i: usize) -> bool
+    requires { ⌜ at + rows ≤ length (now work) ⌝ }
+    ensures { λ r. ⌜ r ≡ known (name·at (now (text .entry)) (now (work .entry)) i) (names·stored (now (text .entry)) (now (work .entry)) (stored (now (work .entry)) at rows)) ⌝ }
+{
+    let end = at + rows;
+    let mut k = at;
+    while k < end {
+        if alike(text, work, i, start_of(work, k)) {
+            return true;
+        }
+        k += 1;
+    }
+    false
+}
+
+// A row begins with its name, if there are to be more than so many.
+fn row_begins(text: &[u8], work: &[u32], at: usize, rows: usize, i: usize, taxa: u64) -> Turned
+    requires { ⌜ at + rows ≤ length (now work) ⌝ }
+    ensures { λ r. ⌜ r ≡ begun·shape taxa (names·stored (now (text .entry)) (now (work .entry)) (stored (now (work .entry)) at rows)) (word·of (now (text .entry)) (now (work .entry)) i) ⌝ }
+{
+    if rows as u64 == taxa {
+        return Turned::Refused(Refusal::Count, i);
+    }
+    if !named(text, work, i) {
+        return Turned::Refused(Refusal::NotName, i);
+    }
+    if known_row(text, work, at, rows, i) {
+        return Turned::Refused(Refusal::TaxonTwice, i);
+    }
+    Turned::On(Sequence::Inside(i, Chunk::Plain(0)))
+}
+
+// A row after one token more, the one of an index: is it full?
+fn row_grown(chunked: Chunked, characters: u64, s: usize, i: usize) -> Turned
+    ensures { λ r. ⌜ r ≡ grown·shape characters s i (chunked·of chunked) ⌝ }
+{
+    match chunked {
+        Chunked::Row(row) => match row {
+            Chunk::Plain(n) => {
+                let count = n as u64;
+                if characters < count {
+                    return Turned::Refused(Refusal::Row, i);
+                }
+                if count == characters {
+                    return Turned::Full(s);
+                }
+                Turned::On(Sequence::Inside(s, row))
+            }
+            Chunk::Within(_, _, _, _) => Turned::On(Sequence::Inside(s, row)),
+        },
+        Chunked::Refused(n, j) => Turned::Refused(n, j),
+    }
+}
+
+// At the end of a sequential matrix all rows must be there and whole.
+fn sequential_end(line: Sequence, taxa: u64, head: usize, rows: usize) -> Rows
+    ensures { λ r. ⌜ r ≡ end·shape taxa head rows line ⌝ }
+{
+    match line {
+        Sequence::Between => {
+            if rows as u64 == taxa {
+                return Rows::Done(rows);
+            }
+            Rows::Refused(Refusal::Count, head)
+        }
+        Sequence::Inside(s, row) => match row {
+            Chunk::Plain(_) => Rows::Refused(Refusal::Row, s),
+            Chunk::Within(_, _, mark, _) => Rows::Refused(Refusal::StateSet, mark),
+        },
+    }
+}
+
+// One word of a sequential matrix, behind so many rows.
+fn sequential_turn(
+    text: &[u8],
+    work: &[u32],
+    at: usize,
+    rows: usize,
+    i: usize,
+    taxa: u64,
+    characters: u64,
+    codes: &[u8; 256],
+    line: Sequence,
+) -> Turned
+    requires { ⌜ (at + rows ≤ length (now work)) × (cells·of·row line ≤ 2 ^ 41) ⌝ }
+    ensures { λ r. ⌜ r ≡ turn·shape (now (codes .entry)) taxa characters (names·stored (now (text .entry)) (now (work .entry)) (stored (now (work .entry)) at rows)) line (word·of (now (text .entry)) (now (work .entry)) i) ⌝ }
+{
+    match line {
+        Sequence::Between => row_begins(text, work, at, rows, i, taxa),
+        Sequence::Inside(s, row) => row_grown(
+            chunk_at(text, work, i, codes, row),
+            characters,
+            s,
+            i,
+        ),
+    }
+}
+
+// The rows of a sequential matrix, from the tokens of two indices. The index of each row's name is stored, one after the other from `at` on.
+pub fn sequential(
+    text: &[u8],
+    work: &mut [u32],
+    at: usize,
+    from: usize,
+    to: usize,
+    taxa: u64,
+    characters: u64,
+    head: usize,
+    codes: &[u8; 256],
+) -> Rows
+    requires { ⌜ Rows·room (now text) (now work) at to ⌝ }
+    ensures { λ r. ⌜ Rows·read (now (text .entry)) (now (codes .entry)) (now (work .entry)) (now (work .exit)) at from to taxa characters head r ⌝ }
+{
+    let mut rows = 0;
+    let mut line = Sequence::Between;
+    let mut i = from;
+    while i < to {
+        let k = i;
+        i += 1;
+        if !newline(text, work, k) {
+            match sequential_turn(text, work, at, rows, k, taxa, characters, codes, line) {
+                Turned::On(next) => {
+                    line = next;
+                }
+                Turned::Full(s) => {
+                    let end = at + rows;
+                    work[end] = s as u32;
+                    rows += 1;
+                    line = Sequence::Between;
+                }
+                Turned::Refused(n, j) => {
+                    return Rows::Refused(n, j);
+                }
+            }
+        }
+    }
+    sequential_end(line, taxa, head, rows)
+}

@@ -1,0 +1,65 @@
+// Rows in declared order, after mod.rs.
+
+ghost use Prim.Native.Nat.{_+_, _≤_, _<_};
+ghost use Rattle.block.specs.Cells.{index·of};
+ghost use Rattle.matrix.specs.Lines.{name·at, names·stored, stored};
+ghost use Rattle.matrix.specs.OrderHeld.{Arranged, Index·below, place·of};
+ghost use lib.ListN.{length};
+ghost use mathlib.Core.Path.{_≡_};
+use block::Index;
+use block::Judged;
+use block::alike;
+use block::newline;
+use lexer::Refusal;
+use lexer::start_of;
+
+// The first stored row, of so many from an index of work memory on, whose name is that of a word.
+pub fn row_of(text: &[u8], work: &[u32], at: usize, rows: usize, i: usize) -> Index
+    requires { ⌜ at + rows ≤ length (now work) ⌝ }
+    ensures { λ r. ⌜ index·of r ≡ place·of (name·at (now (text .entry)) (now (work .entry)) i) (names·stored (now (text .entry)) (now (work .entry)) (stored (now (work .entry)) at rows)) ⌝ }
+    ensures { λ r. ⌜ Index·below rows r ⌝ }
+{
+    let mut k = 0;
+    while k < rows {
+        if alike(text, work, i, start_of(work, at + k)) {
+            return Index::At(k);
+        }
+        k += 1;
+    }
+    Index::None
+}
+
+// For each declared name, the words from an index up to another, its row is stored from `at` on. A name that no row has is refused at MATRIX.
+pub fn arrange(
+    text: &[u8],
+    work: &mut [u32],
+    lines: usize,
+    rows: usize,
+    from: usize,
+    to: usize,
+    at: usize,
+    head: usize,
+) -> Judged
+    requires { ⌜ (to ≤ lines) × (lines + rows ≤ at) × (at + to ≤ length (now work)) × (rows ≤ 1048576) ⌝ }
+    ensures { λ r. ⌜ Arranged (now (text .entry)) (now (work .entry)) (now (work .exit)) lines rows from to at head r ⌝ }
+{
+    let mut i = from;
+    let mut k = at;
+    while i < to {
+        if newline(text, work, i) {
+            i += 1;
+            continue;
+        }
+        match row_of(text, work, lines, rows, i) {
+            Index::At(j) => {
+                work[k] = j as u32;
+                k += 1;
+                i += 1;
+            }
+            Index::None => {
+                return Judged::Refused(Refusal::TaxonAbsent, head);
+            }
+        }
+    }
+    Judged::Good
+}

@@ -1,0 +1,13 @@
+-- The function `in_phase` meets its contract, by computation. Assumes nothing.
+use Rattle.block.specs.Blocks.{in·phase}
+use Rattle.parser.proofs.blocks.in_phase.Statement.{statement}
+use Rattle.parser.proofs.blocks.in_phase.Tie as tie
+use Rattle.parser.specs.StateHeld.{state·of}
+use mathlib.Core.Path.{refl}
+
+returns : tie.Need-returns
+unfolding state·of in·phase
+returns c = λ m text work. refl
+
+pub in-phase-spec : {M : Type 1} → statement M
+in-phase-spec = tie.close (tie.spec returns)

@@ -1,0 +1,14 @@
+-- The function `no_data` meets its contract, by computation. Assumes nothing.
+use Rattle.block.specs.Blocks.{no·data}
+use Rattle.labels.specs.LabelLists.{commands·held}
+use Rattle.parser.proofs.blocks.no_data.Statement.{statement}
+use Rattle.parser.proofs.blocks.no_data.Tie as tie
+use Rattle.parser.specs.StateHeld.{data·of, sizes·of, style·of, matrix·of}
+use mathlib.Core.Path.{refl}
+
+returns : tie.Need-returns
+unfolding data·of sizes·of style·of commands·held matrix·of no·data
+returns c = λ m text work. refl
+
+pub no-data-spec : {M : Type 1} → statement M
+no-data-spec = tie.close (tie.spec returns)

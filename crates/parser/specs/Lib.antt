@@ -1,0 +1,2 @@
+-- What the state between two commands means.
+pub mod StateHeld
