@@ -22,26 +22,6 @@ use mathlib.Core.Path.{_≡_, refl, sym, ap, _∙_}
 use native.Mathlib.Numerals.{add-one}
 use native.Mathlib.Omega.{arith}
 
--- Words are counted one by one.
-pub record Counting (text work : List ℕ) (from to count i : ℕ) : Type 0 where
-  pub few : count ≤ i
-  pub rest : count + length (words (range text work i to)) ≡ length (words (range text work from to))
-
-module _ (text work : List ℕ) (from to : ℕ) where
-  pub counting-start : Counting text work from to 0 from
-  counting-start = record { few = omega arith; rest = omega arith }
-
-  module _ (count i j : ℕ) (k : Counting text work from to count i) (n : Next text work i to j) where
-    pub counting-turn : j < to → Counting text work from to (count + 1) (j + 1)
-    counting-turn h =
-        let more : length (words (range text work i to)) ≡ suc (length (words (range text work (j + 1) to))) = ap length (n .here h) in
-        record { few = omega (arith, k .few, n .onward); rest = omega (arith, k .rest) }
-
-    pub counting-end : to ≤ j → count ≡ length (words (range text work from to))
-    counting-end h =
-        let none : length (words (range text work i to)) ≡ 0 = ap length (n .past h) in
-        omega (arith, k .rest)
-
 -- how many types there are with one more
 length-more : (ts : Types) (o : Option CharacterOrdering) → length (ts ++ (o ∷ [])) ≡ suc (length ts)
 length-more ts o = length-append ts (o ∷ []) ∙ add-one (length ts)

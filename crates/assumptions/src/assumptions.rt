@@ -25,6 +25,7 @@ use block::CharacterOrdering;
 use block::Form;
 use block::Judged;
 use block::Range;
+use block::count_words;
 use block::is;
 use block::named;
 use block::newline;
@@ -322,22 +323,6 @@ fn typeset_head(text: &[u8], work: &[u32], head: usize, from: usize, to: usize) 
             FormAnswer::Refused(n, j) => FormAnswer::Refused(n, j),
         },
         Placed::Refused(n, i) => FormAnswer::Refused(n, i),
-    }
-}
-
-// How many words there are.
-fn count_words(text: &[u8], work: &[u32], from: usize, to: usize) -> usize
-    ensures { λ r. ⌜ r ≡ length (words (range (now (text .entry)) (now (work .entry)) from to)) ⌝ }
-{
-    let mut count: usize = 0;
-    let mut i = from;
-    loop {
-        let j = next_word(text, work, i, to);
-        if to <= j {
-            return count;
-        }
-        count += 1;
-        i = j + 1;
     }
 }
 

@@ -4,4 +4,7 @@ pub mod assumptions;
 pub mod characters;
 pub mod parts;
 
+pub use assumptions::OptionsAnswer;
 pub use assumptions::TypeWord;
+pub use assumptions::options;
+pub use assumptions::parse_typeset;

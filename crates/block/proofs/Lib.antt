@@ -57,3 +57,4 @@ pub mod ToldFaults
 pub mod TypeFaults
 pub mod WalkLaws
 pub mod Weights
+pub mod WordCounts

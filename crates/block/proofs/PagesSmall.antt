@@ -2,7 +2,7 @@
 use Prim.Native.Nat.{ℕ, suc, _+_, _≤_}
 use Rattle.block.proofs.OutcomeLaws.{then-done, pick-else, pick-when, refused-done, done-inj}
 use Rattle.block.proofs.RowsSmall.{row-load, chunk-grows, row-end-small, named-weighs, row-bulk, bulk, Taken}
-use Rattle.block.proofs.Weights.{total, total-append, fold-grows, weight, weights}
+use Rattle.block.proofs.Weights.{total-append, fold-grows}
 use Rattle.block.specs.Cell.{Cell}
 use Rattle.block.specs.Chunk.{Row, plain, chunk, row·end}
 use Rattle.block.specs.Commands.{newline}
@@ -11,6 +11,7 @@ use Rattle.block.specs.Names.{known}
 use Rattle.block.specs.Outcome.{done, then, fold, need}
 use Rattle.block.specs.Reading.{Taxon}
 use Rattle.block.specs.Sequential.{Shape, names}
+use Rattle.block.specs.Weights.{total, weight, weights}
 use Rattle.lexer.proofs.Basics.{and-left, by-test}
 use Rattle.lexer.specs.Base.{pick, empty?, alike}
 use Rattle.lexer.specs.Words.{Numbered, label}

@@ -7,7 +7,7 @@ use Rattle.block.proofs.ReadingSound.{reading-sound}
 use Rattle.block.proofs.RowsSmall.{bulk, Taken, sequential-taken}
 use Rattle.block.proofs.RowsSound.{length-names}
 use Rattle.block.proofs.TaxaFollow.{taxa-follow}
-use Rattle.block.proofs.Weights.{weights, words-light, to-end-light, numbered-weights}
+use Rattle.block.proofs.Weights.{words-light, to-end-light, numbered-weights}
 use Rattle.block.specs.Blocks.{agrees, rows}
 use Rattle.block.specs.Commands.{command, empty, unended, newline, semicolon, ended, up·to·end, begun, commands·from, commands, words}
 use Rattle.block.specs.Interleaved.{all·long, interleaved}
@@ -16,6 +16,7 @@ use Rattle.block.specs.Parse.{reading, read}
 use Rattle.block.specs.Reading.{Taxon, Reading}
 use Rattle.block.specs.Sequential.{Shape, names, sequential}
 use Rattle.block.specs.TaxonOrder.{behind·header, commands·of, all·rows, Follows}
+use Rattle.block.specs.Weights.{weights}
 use Rattle.lexer.proofs.Basics.{and-left, by-test}
 use Rattle.lexer.proofs.TokenSizes.{tokens-small}
 use Rattle.lexer.specs.Base.{pick, empty?}

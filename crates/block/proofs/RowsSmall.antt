@@ -2,7 +2,7 @@
 use Prim.Native.Nat.{ℕ, suc, _+_, _≤_}
 use Rattle.block.proofs.ChunkSound.{none-some, some-inj}
 use Rattle.block.proofs.OutcomeLaws.{then-done, need-done, pick-else, pick-when, pick-either, refused-done, done-inj}
-use Rattle.block.proofs.Weights.{total, total-append, done-light, fold-grows, weight, weights}
+use Rattle.block.proofs.Weights.{total-append, done-light, fold-grows}
 use Rattle.block.specs.Cell.{Cell, state, uncertain, polymorphic, missing, gap, insert, insert·all}
 use Rattle.block.specs.Chunk.{cell, before, cells·of, symbols, with·state, only·states, closer, Row, plain, within, closed, into·set, chunk, row·end}
 use Rattle.block.specs.Format.{Format}
@@ -10,6 +10,7 @@ use Rattle.block.specs.Names.{known}
 use Rattle.block.specs.Outcome.{done, then, fold, need}
 use Rattle.block.specs.Reading.{Taxon}
 use Rattle.block.specs.Sequential.{Shape, names, Sequence, between, inside, row·begins, row·grown, sequential·turn, row·open, sequential·end, sequential}
+use Rattle.block.specs.Weights.{total, weight, weights}
 use Rattle.block.specs.declared.kinds.Bracket.{Bracket}
 use Rattle.lexer.proofs.Basics.{and-right, by-test, picked}
 use Rattle.lexer.specs.Base.{pick}

@@ -1,8 +1,9 @@
--- The weight of a word is the length of its text: words that are taken from others weigh no more than these. Assumes nothing.
+-- Words that are taken from others weigh no more than these. Assumes nothing.
 use Prim.Native.Nat.{ℕ, suc, _+_, _≤_}
 use Rattle.block.proofs.OutcomeLaws.{then-done, done-inj}
 use Rattle.block.specs.Commands.{newline, semicolon, up·to·end, words}
 use Rattle.block.specs.Outcome.{Outcome, done, fold}
+use Rattle.block.specs.Weights.{total, weight, weights}
 use Rattle.lexer.proofs.Basics.{by-test}
 use Rattle.lexer.proofs.TokenSizes.{size}
 use Rattle.lexer.specs.Base.{pick}
@@ -13,12 +14,7 @@ use mathlib.Core.List.{List, [], _∷_, _++_}
 use mathlib.Core.Path.{_≡_, refl}
 use native.Mathlib.Omega.{arith}
 
--- A sum over a list.
 module _ {A : Type 0} where
-  abbrev pub total : (A → ℕ) → List A → ℕ
-  total f [] = 0
-  total f (a ∷ r) = f a + total f r
-
   pub total-append : (f : A → ℕ) (l r : List A) → total f (l ++ r) ≡ total f l + total f r
   total-append f [] r = omega arith
   total-append f (a ∷ l) r = let k = total-append f l r in omega arith
@@ -38,12 +34,6 @@ module _ {S W : Type 0} (load : S → ℕ) (heavy : W → ℕ) (turn : S → W �
       let first = grows s w (one .0) (one .1) in
       let more = fold-grows (one .0) ws t (one .2) in
       omega arith
-
-abbrev pub weight : Numbered → ℕ
-weight w = length (w .token .text)
-
-abbrev pub weights : List Numbered → ℕ
-weights ws = total weight ws
 
 pub numbered-weights : (i : ℕ) (ts : List Token) → weights (numbered i ts) ≡ size ts
 unfolding numbered size

@@ -2,6 +2,7 @@
 pub mod Outcome
 pub mod Judged
 pub mod Commands
+pub mod Weights
 pub mod CommandsCut
 pub mod Names
 pub mod NamesHeld

@@ -1,9 +1,10 @@
 // The words of a text by their index, as work memory names them: what each can be taken for.
 
-ghost use Rattle.block.specs.Commands.{newline};
+ghost use Rattle.block.specs.Commands.{newline, words};
 ghost use Rattle.lexer.specs.Base.{alike, given};
-ghost use Rattle.lexer.specs.Stored.{word·of};
+ghost use Rattle.lexer.specs.Stored.{range, word·of};
 ghost use Rattle.lexer.specs.Words.{is, punct, label, number, spaced};
+ghost use lib.ListN.{length};
 ghost use mathlib.Core.Path.{_≡_};
 use lexer::is_at;
 use lexer::is_label;
@@ -53,4 +54,21 @@ pub fn alike(text: &[u8], work: &[u32], i: usize, j: usize) -> bool
     ensures { λ r. ⌜ r ≡ alike (spaced (word·of (now (text .entry)) (now (work .entry)) i .token .text)) (spaced (word·of (now (text .entry)) (now (work .entry)) j .token .text)) ⌝ }
 {
     labels_alike(text, start_of(work, i), start_of(work, j))
+}
+
+// How many words stand from an index up to another?
+pub fn count_words(text: &[u8], work: &[u32], from: usize, to: usize) -> usize
+    ensures { λ r. ⌜ r ≡ length (words (range (now (text .entry)) (now (work .entry)) from to)) ⌝ }
+{
+    let mut count = 0;
+    let mut i = from;
+    while i < to {
+        if newline(text, work, i) {
+            i += 1;
+            continue;
+        }
+        count += 1;
+        i += 1;
+    }
+    count
 }

@@ -19,6 +19,7 @@ use super::entries::label_entries;
 use block::CharacterNumber;
 use block::Judged;
 use block::Labelling;
+use block::count_words;
 use block::named;
 use block::newline;
 use lexer::Refusal;
@@ -93,23 +94,6 @@ pub fn label_one(
     }
     put_slot(work, at, k, i as u32 + 1);
     Judged::Good
-}
-
-// How many words stand from an index up to another?
-pub fn count_words(text: &[u8], work: &[u32], from: usize, to: usize) -> usize
-    ensures { λ r. ⌜ r ≡ length (words (range (now (text .entry)) (now (work .entry)) from to)) ⌝ }
-{
-    let mut count = 0;
-    let mut i = from;
-    while i < to {
-        if newline(text, work, i) {
-            i += 1;
-            continue;
-        }
-        count += 1;
-        i += 1;
-    }
-    count
 }
 
 // One label for each character, in order, as far as there are words and characters.

@@ -5,3 +5,4 @@ pub mod labels;
 
 pub use labels::LabelCommand;
 pub use labels::LabelCommands;
+pub use labels::apply_labels;

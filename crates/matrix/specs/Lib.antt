@@ -4,3 +4,4 @@ pub mod Lines
 pub mod SequentialShape
 pub mod PagesHeld
 pub mod OrderHeld
+pub mod RowsHeld

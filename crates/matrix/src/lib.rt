@@ -3,3 +3,6 @@
 pub mod interleaved;
 pub mod matrix;
 pub mod order;
+
+pub use matrix::Rows;
+pub use order::arrange;

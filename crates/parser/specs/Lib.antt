@@ -1,2 +1,5 @@
--- What the state between two commands means.
+-- What the state between two commands means, and the map of work memory.
+pub mod WorkMap
 pub mod StateHeld
+pub mod MatrixHeld
+pub mod StatePlaced

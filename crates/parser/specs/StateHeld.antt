@@ -1,6 +1,7 @@
 -- What the code's state of reading means.
 use Prim.Native.Nat.{ℕ}
 use Rattle.assumptions.specs.TypesHeld.{type·word}
+use Rattle.assumptions.specs.declared.assumptions.TypeWord.{TypeWord}
 use Rattle.block.specs.Blocks as B
 use Rattle.block.specs.Commands.{words}
 use Rattle.block.specs.Format as F
@@ -22,9 +23,11 @@ use Rattle.parser.specs.declared.state.Sizes.{Sizes}
 use Rattle.parser.specs.declared.state.State.{State}
 use Rattle.parser.specs.declared.state.Stepped.{Stepped}
 use Rattle.parser.specs.declared.state.Style.{Style}
+use lib.ListN.{length}
 use mathlib.Core.Bool.{Bool}
-use mathlib.Core.List.{List}
+use mathlib.Core.List.{List, []}
 use mathlib.Core.Option.{Option, none, some}
+use mathlib.Core.Path.{_≡_}
 
 -- The dimensions, if they were declared.
 unfoldable pub sizes·of : Sizes → Option Dimensions
@@ -44,7 +47,7 @@ module _ (text work : List ℕ) where
 -- How a matrix that is held reads, and the types that a set gave to its characters.
 pub record Reader : Type 0 where
   pub reading : Held → Reading
-  pub types : Types
+  pub types : Held → Types
 
 module _ (m : Reader) (text work : List ℕ) where
   unfoldable pub matrix·of : Matrix → Option Reading
@@ -62,20 +65,24 @@ module _ (m : Reader) (text work : List ℕ) where
       }
 
   -- The types of a set that was read.
-  unfoldable pub set·of : Bool → Option Types
-  set·of typed = pick typed (some (m .types)) none
+  unfoldable pub types·of : Matrix → Types
+  types·of Matrix.None = []
+  types·of (Matrix.Read h) = m .types h
 
-  unfoldable pub phase·of : Data → Phase → B.Phase
-  phase·of d Phase.Outside = B.outside
-  phase·of d (Phase.Taxa b n names) = B.in·taxa b n (names·in text work names)
-  phase·of d (Phase.Data b) = B.in·data b (data·of d)
-  phase·of d (Phase.Assumptions b default typed) = B.in·assumptions b (type·word default) (set·of typed)
-  phase·of d (Phase.Trees b) = B.in·trees b
+  unfoldable pub set·of : Matrix → Bool → Option Types
+  set·of matrix typed = pick typed (some (types·of matrix)) none
+
+  unfoldable pub phase·of : Data → Matrix → Phase → B.Phase
+  phase·of d matrix Phase.Outside = B.outside
+  phase·of d matrix (Phase.Taxa b n names) = B.in·taxa b n (names·in text work names)
+  phase·of d matrix (Phase.Data b) = B.in·data b (data·of d)
+  phase·of d matrix (Phase.Assumptions b default typed) = B.in·assumptions b (type·word default) (set·of matrix typed)
+  phase·of d matrix (Phase.Trees b) = B.in·trees b
 
   unfoldable pub state·of : State → B.State
   state·of s =
       record {
-        phase = phase·of (s .«data») (s .phase);
+        phase = phase·of (s .«data») (s .matrix) (s .phase);
         taxa = names·in text work (s .taxa);
         matrix = matrix·of (s .matrix);
         assumptions = s .assumptions;
@@ -84,3 +91,24 @@ module _ (m : Reader) (text work : List ℕ) where
   unfoldable pub stepped : Stepped → Outcome B.State
   stepped (Stepped.State s) = done (state·of s)
   stepped (Stepped.Refused n i) = refused n i
+
+-- The matrix that is held, with another default type, and typed by a set or not.
+abbrev pub retyped·held : Held → TypeWord → Bool → Held
+retyped·held h default typed =
+    record {
+      names = h .names;
+      style = h .style;
+      head = h .head;
+      to = h .to;
+      lines = h .lines;
+      taxa = h .taxa;
+      characters = h .characters;
+      default = default;
+      typed = typed;
+    }
+
+-- A default type and a set are written over those of the matrix that is held.
+pub record Retypes (m : Reader) : Type 0 where
+  pub retyped : (h : Held) (default : TypeWord) (typed : Bool)
+      → m .reading (retyped·held h default typed) ≡ B.with·types (type·word default) (pick typed (some (m .types h)) none) (m .reading h)
+  pub counted : (h : Held) → length (m .reading h .characters) ≡ h .characters

@@ -71,7 +71,7 @@ fn no_data(names: Names) -> Data
 
 // The state with another block open.
 fn in_phase(phase: Phase, s: State) -> State
-    ensures { λ r. ⌜ ((m : Reader) (text work : List ℕ) → state·of m text work r ≡ in·phase (phase·of m text work (s .«data») phase) (state·of m text work s)) ⌝ }
+    ensures { λ r. ⌜ ((m : Reader) (text work : List ℕ) → state·of m text work r ≡ in·phase (phase·of m text work (s .«data») (s .matrix) phase) (state·of m text work s)) ⌝ }
 {
     let data = s.data;
     let taxa = s.taxa;

@@ -1,9 +1,9 @@
 -- The function `count_words` meets its contract: a turn for each token, newlines passed over. The measure is what is left of them. Assumes nothing.
 use Prim.Native.Nat.{_-_}
+use Rattle.block.proofs.WordCounts.{Counting, counting-start, counting-newline, counting-turn, counting-end}
+use Rattle.block.proofs.words.count_words.Statement.{statement}
+use Rattle.block.proofs.words.count_words.Tie as tie
 use Rattle.block.proofs.words.newline.Reads as newline-reads
-use Rattle.labels.proofs.LabelTurns.{Counting, counting-start, counting-newline, counting-turn, counting-end}
-use Rattle.labels.proofs.labels.count_words.Statement.{statement}
-use Rattle.labels.proofs.labels.count_words.Tie as tie
 use borrow.Author.Needs.{needs}
 use mathlib.Core.Path.{sym, _∙_}
 
