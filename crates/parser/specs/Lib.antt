@@ -3,3 +3,4 @@ pub mod WorkMap
 pub mod StateHeld
 pub mod MatrixHeld
 pub mod StatePlaced
+pub mod Stepping
