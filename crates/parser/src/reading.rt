@@ -1,0 +1,62 @@
+// MATRIX, after parse_data in mod.rs: what the matrix is to be, then its rows, their declared order and the labels.
+
+ghost use Prim.Native.Nat.{ℕ};
+ghost use Rattle.block.specs.Blocks.{agrees, declared·count, matrix·shape};
+ghost use Rattle.parser.specs.MatrixHeld.{format·held};
+ghost use Rattle.parser.specs.StateHeld.{Reader, data·of, names·in};
+ghost use Rattle.parser.specs.Storing.{shape·of};
+ghost use mathlib.Core.Path.{_≡_};
+use super::state::Data;
+use super::state::Names;
+use block::Dimensions;
+use block::count_words;
+use lexer::Refusal;
+
+// What the matrix is to be: how many taxa and characters; or a refusal of the command.
+pub enum MatrixShape {
+    Counts(u64, u64),
+    Refused(Refusal),
+}
+
+// The count of taxa: NTAX or, without it, that of the declared names.
+fn declared_count(text: &[u8], starts: &[u32], names: Names, taxa: u64) -> u64
+    ensures { λ r. ⌜ r ≡ declared·count (names·in (now (text .entry)) (now (starts .entry)) names) taxa ⌝ }
+{
+    match names {
+        Names::None => taxa,
+        Names::Words(from, to) => {
+            if taxa == 0 {
+                return count_words(text, starts, from, to) as u64;
+            }
+            taxa
+        }
+    }
+}
+
+// Are there as many declared names, if there are any?
+fn names_agree(text: &[u8], starts: &[u32], names: Names, taxa: u64) -> bool
+    ensures { λ r. ⌜ r ≡ agrees (names·in (now (text .entry)) (now (starts .entry)) names) taxa ⌝ }
+{
+    match names {
+        Names::None => true,
+        Names::Words(from, to) => count_words(text, starts, from, to) as u64 == taxa,
+    }
+}
+
+// What the matrix is to be, by what was declared before it.
+fn matrix_shape(text: &[u8], starts: &[u32], d: Data, dims: Dimensions) -> MatrixShape
+    ensures { λ r. ⌜ ((m : Reader) (head : ℕ) → shape·of (format·held (now (text .entry)) (now (starts .entry)) (d .style)) head r ≡ matrix·shape (data·of m (now (text .entry)) (now (starts .entry)) d) dims head) ⌝ }
+{
+    let names = d.names;
+    let taxa = declared_count(text, starts, names, dims.taxa);
+    if (dims.characters == 0) | (taxa == 0) {
+        return MatrixShape::Refused(Refusal::Absent);
+    }
+    if !names_agree(text, starts, names, taxa) {
+        return MatrixShape::Refused(Refusal::Count);
+    }
+    if dims.new_taxa & (dims.taxa == 0) {
+        return MatrixShape::Refused(Refusal::Absent);
+    }
+    MatrixShape::Counts(taxa, dims.characters)
+}
