@@ -1,10 +1,11 @@
 // Blocks, after mod.rs: how each begins.
 
-ghost use Prim.Native.Nat.{ℕ};
-ghost use Rattle.block.specs.Blocks.{begin·assumptions, begin·block, in·data, in·phase, in·taxa, no·data};
+ghost use Prim.Native.Nat.{ℕ, _+_, _<_};
+ghost use Rattle.block.specs.Blocks.{begin·assumptions, begin·block, begin·words, in·data, in·phase, in·taxa, no·data};
+ghost use Rattle.block.specs.Commands.{words};
 ghost use Rattle.block.specs.Outcome.{done, refused};
 ghost use Rattle.lexer.specs.Base.{given, pick};
-ghost use Rattle.lexer.specs.Stored.{word·of};
+ghost use Rattle.lexer.specs.Stored.{range, word·of};
 ghost use Rattle.lexer.specs.declared.refusal.Refusal.{Refusal};
 ghost use Rattle.parser.specs.StateHeld.{Reader, data·of, matrix·of, names·in, phase·of, state·of, stepped};
 ghost use Rattle.parser.specs.StatePlaced.{Data·placed, Names·placed, Phase·placed, State·placed, Stepped·placed};
@@ -22,6 +23,7 @@ use super::state::State;
 use super::state::Stepped;
 use super::state::Style;
 use assumptions::TypeWord;
+use assumptions::assumptions::next_word;
 use block::Labelling;
 use block::is;
 use labels::LabelCommand;
@@ -158,4 +160,23 @@ fn begin_block(text: &[u8], work: &[u32], s: State, i: usize) -> Stepped
         return Stepped::State(in_phase(Phase::Trees(i), s));
     }
     Stepped::Refused(Refusal::Block, i)
+}
+
+// Outside a block a command is BEGIN and a name.
+pub fn begin_words(text: &[u8], starts: &[u32], s: State, head: usize, to: usize) -> Stepped
+    requires { ⌜ head < to ⌝ }
+    ensures step { λ r. ⌜ ((m : Reader) → stepped m (now (text .entry)) (now (starts .entry)) r ≡ begin·words (state·of m (now (text .entry)) (now (starts .entry)) s) (word·of (now (text .entry)) (now (starts .entry)) head) (words (range (now (text .entry)) (now (starts .entry)) (head + 1) to))) ⌝ }
+    ensures placed { λ r. ⌜ ((size : ℕ) → State·placed (now (text .entry)) (now (starts .entry)) size s → Stepped·placed (now (text .entry)) (now (starts .entry)) size r) ⌝ }
+{
+    let name = next_word(text, starts, head + 1, to);
+    if to <= name {
+        return Stepped::Refused(Refusal::NotBegin, head);
+    }
+    if next_word(text, starts, name + 1, to) < to {
+        return Stepped::Refused(Refusal::NotBegin, head);
+    }
+    if is(text, starts, head, b"BEGIN") {
+        return begin_block(text, starts, s, name);
+    }
+    Stepped::Refused(Refusal::NotBegin, head)
 }
