@@ -2,3 +2,4 @@
 pub mod BlockLaws
 pub mod MapFits
 pub mod ShapeLaws
+pub mod StatesPlaced

@@ -20,7 +20,7 @@ begin-taxa-requires c κs = search needs
 
 returns : tie.Need-returns
 unfolding begin·block pick bytes word·of state·of
-returns c = λ m. rw (← c .before .before .is .ensures, c .before .if1 .taken) (c .begin-taxa .ensures m _ _)
+returns c = (λ m. rw (← c .before .before .is .ensures, c .before .if1 .taken) (c .begin-taxa .ensures .0 m _ _), c .begin-taxa .ensures .1 _ _)
 
 slice-aggregate-is-2 : tie.Need-slice-aggregate-is-2
 slice-aggregate-is-2 c = search needs
@@ -40,10 +40,9 @@ begin-data-requires c κs = search needs
 returns-2 : tie.Need-returns-2
 unfolding begin·block pick bytes word·of state·of
 returns-2 c =
-    λ m.
     let two = c .before in
     let one = two .before .before .before .before .before in
-    rw (← one .before .is .ensures, one .if1 .left, ← two .before .before .before .is2 .ensures, ← two .before .is3 .ensures, two .if2 .taken) (c .begin-data .ensures m _ _)
+    (λ m. rw (← one .before .is .ensures, one .if1 .left, ← two .before .before .before .is2 .ensures, ← two .before .is3 .ensures, two .if2 .taken) (c .begin-data .ensures .0 m _ _), c .begin-data .ensures .1 _ _)
 
 slice-aggregate-is-4 : tie.Need-slice-aggregate-is-4
 slice-aggregate-is-4 c = search needs
@@ -57,11 +56,10 @@ begin-assumptions-requires c κs = search needs
 returns-3 : tie.Need-returns-3
 unfolding begin·block pick bytes word·of state·of
 returns-3 c =
-    λ m.
     let three = c .before in
     let two = three .before .before .before in
     let one = two .before .before .before .before .before in
-    rw (← one .before .is .ensures, one .if1 .left, ← two .before .before .before .is2 .ensures, ← two .before .is3 .ensures, two .if2 .left, ← three .before .is4 .ensures, three .if3 .taken) (c .begin-assumptions .ensures m _ _)
+    (λ m. rw (← one .before .is .ensures, one .if1 .left, ← two .before .before .before .is2 .ensures, ← two .before .is3 .ensures, two .if2 .left, ← three .before .is4 .ensures, three .if3 .taken) (c .begin-assumptions .ensures .0 m _ _), c .begin-assumptions .ensures .1 _ _)
 
 slice-aggregate-is-5 : tie.Need-slice-aggregate-is-5
 slice-aggregate-is-5 c = search needs
@@ -75,22 +73,20 @@ in-phase-requires c κs = search needs
 returns-4 : tie.Need-returns-4
 unfolding begin·block pick bytes word·of state·of stepped phase·of
 returns-4 c =
-    λ m.
     let four = c .before in
     let three = four .before .before .before in
     let two = three .before .before .before in
     let one = two .before .before .before .before .before in
-    rw (← one .before .is .ensures, one .if1 .left, ← two .before .before .before .is2 .ensures, ← two .before .is3 .ensures, two .if2 .left, ← three .before .is4 .ensures, three .if3 .left, ← four .before .is5 .ensures, four .if4 .taken) (ap done (c .in-phase .ensures m _ _))
+    (λ m. rw (← one .before .is .ensures, one .if1 .left, ← two .before .before .before .is2 .ensures, ← two .before .is3 .ensures, two .if2 .left, ← three .before .is4 .ensures, three .if3 .left, ← four .before .is5 .ensures, four .if4 .taken) (ap done (c .in-phase .ensures .0 m _ _)), λ size h. c .in-phase .ensures .1 _ _ size h tt)
 
 returns-5 : tie.Need-returns-5
 unfolding begin·block pick bytes word·of state·of stepped
 returns-5 c =
-    λ m.
     let four = c in
     let three = four .before .before .before in
     let two = three .before .before .before in
     let one = two .before .before .before .before .before in
-    rw (← one .before .is .ensures, one .if1 .left, ← two .before .before .before .is2 .ensures, ← two .before .is3 .ensures, two .if2 .left, ← three .before .is4 .ensures, three .if3 .left, ← four .before .is5 .ensures, four .if4 .left)
+    (λ m. rw (← one .before .is .ensures, one .if1 .left, ← two .before .before .before .is2 .ensures, ← two .before .is3 .ensures, two .if2 .left, ← three .before .is4 .ensures, three .if3 .left, ← four .before .is5 .ensures, four .if4 .left), λ size h. tt)
 
 pub begin-block-spec : {M : Type 1} → statement M
 begin-block-spec =

@@ -15,14 +15,17 @@ matrix-given-requires c κs = search needs
 
 returns : tie.Need-returns
 unfolding stepped pick
-returns c = λ m text work. rw (← c .before .before .names-given .ensures text work, ← c .before .matrix-given .ensures m text work, c .if1 .taken)
+returns c = (λ m text work. rw (← c .before .before .names-given .ensures text work, ← c .before .matrix-given .ensures .0 m text work, c .if1 .taken), λ text front size h. tt)
 
 in-phase-requires : tie.Need-in-phase-requires
 in-phase-requires c κs = search needs
 
 returns-2 : tie.Need-returns-2
 unfolding stepped pick phase·of names·in
-returns-2 c = λ m text work. rw (← c .before .before .before .names-given .ensures text work, ← c .before .before .matrix-given .ensures m text work, c .before .if1 .left) (ap done (c .in-phase .ensures m text work))
+returns-2 c = (
+  λ m text work. rw (← c .before .before .before .names-given .ensures text work, ← c .before .before .matrix-given .ensures .0 m text work, c .before .if1 .left) (ap done (c .in-phase .ensures .0 m text work)),
+  λ text front size h. c .in-phase .ensures .1 text front size h tt,
+)
 
 pub begin-taxa-spec : {M : Type 1} → statement M
 begin-taxa-spec =

@@ -1,5 +1,6 @@
 -- The function `in_phase` meets its contract, by computation. Assumes nothing.
 use Rattle.block.specs.Blocks.{in·phase}
+use Rattle.parser.proofs.StatesPlaced.{opened-placed}
 use Rattle.parser.proofs.blocks.in_phase.Statement.{statement}
 use Rattle.parser.proofs.blocks.in_phase.Tie as tie
 use Rattle.parser.specs.StateHeld.{state·of}
@@ -7,7 +8,7 @@ use mathlib.Core.Path.{refl}
 
 returns : tie.Need-returns
 unfolding state·of in·phase
-returns c = λ m text work. refl
+returns c = (λ m text work. refl, λ text front size h k. opened-placed text front size _ _ h k)
 
 pub in-phase-spec : {M : Type 1} → statement M
 in-phase-spec = tie.close (tie.spec returns)

@@ -1,6 +1,7 @@
 -- The function `no_data` meets its contract, by computation. Assumes nothing.
 use Rattle.block.specs.Blocks.{no·data}
 use Rattle.labels.specs.LabelLists.{commands·held}
+use Rattle.parser.proofs.StatesPlaced.{no-command-fits}
 use Rattle.parser.proofs.blocks.no_data.Statement.{statement}
 use Rattle.parser.proofs.blocks.no_data.Tie as tie
 use Rattle.parser.specs.StateHeld.{data·of, sizes·of, style·of, matrix·of}
@@ -8,7 +9,10 @@ use mathlib.Core.Path.{refl}
 
 returns : tie.Need-returns
 unfolding data·of sizes·of style·of commands·held matrix·of no·data
-returns c = λ m text work. refl
+returns c = (
+  λ m text work. refl,
+  λ text front size h. record { style = tt; names = h; labels = record { first = no-command-fits _ _; second = no-command-fits _ _; third = no-command-fits _ _ }; matrix = tt; untyped = tt },
+)
 
 pub no-data-spec : {M : Type 1} → statement M
 no-data-spec = tie.close (tie.spec returns)
