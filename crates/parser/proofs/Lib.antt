@@ -3,3 +3,4 @@ pub mod BlockLaws
 pub mod MapFits
 pub mod ShapeLaws
 pub mod StatesPlaced
+pub mod StorableLaws

@@ -37,6 +37,5 @@ none·held (Matrix.Read h) = false
 
 unfoldable pub storable : ℕ → ℕ → ℕ → Matrix → Data → ℕ → Bool
 storable bytes size count matrix d symbols =
-    leb bytes longest && leb count longest && leb (count + count) size
-    && none·held matrix && names·within count (d .names) && commands·within count (d .labels)
-    && leb symbols 74
+    leb bytes longest && leb count longest
+    && (leb (count + count) size && leb symbols 74 && none·held matrix && names·within count (d .names) && commands·within count (d .labels))

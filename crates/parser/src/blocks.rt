@@ -31,7 +31,7 @@ use labels::LabelCommands;
 use lexer::Refusal;
 
 // Were names declared?
-fn names_given(names: Names) -> bool
+pub fn names_given(names: Names) -> bool
     ensures { λ r. ⌜ ((text work : List ℕ) → r ≡ given (names·in text work names)) ⌝ }
 {
     match names {
@@ -41,7 +41,7 @@ fn names_given(names: Names) -> bool
 }
 
 // Was the matrix read?
-fn matrix_given(matrix: Matrix) -> bool
+pub fn matrix_given(matrix: Matrix) -> bool
     ensures known { λ r. ⌜ ((m : Reader) (text work : List ℕ) → r ≡ given (matrix·of m text work matrix)) ⌝ }
     ensures none { λ r. ⌜ (r ≡ false → matrix ≡ Matrix.None) ⌝ }
 {

@@ -4,12 +4,16 @@ ghost use Prim.Native.Nat.{ℕ};
 ghost use Rattle.block.specs.Blocks.{agrees, declared·count, matrix·shape};
 ghost use Rattle.parser.specs.MatrixHeld.{format·held};
 ghost use Rattle.parser.specs.StateHeld.{Reader, data·of, names·in};
-ghost use Rattle.parser.specs.Storing.{shape·of};
+ghost use Rattle.parser.specs.Storing.{command·within, commands·within, names·within, shape·of, storable};
 ghost use mathlib.Core.Path.{_≡_};
+use super::blocks::matrix_given;
 use super::state::Data;
+use super::state::Matrix;
 use super::state::Names;
 use block::Dimensions;
 use block::count_words;
+use labels::LabelCommand;
+use labels::LabelCommands;
 use lexer::Refusal;
 
 // What the matrix is to be: how many taxa and characters; or a refusal of the command.
@@ -59,4 +63,50 @@ fn matrix_shape(text: &[u8], starts: &[u32], d: Data, dims: Dimensions) -> Matri
         return MatrixShape::Refused(Refusal::Absent);
     }
     MatrixShape::Counts(taxa, dims.characters)
+}
+
+// Are the words of the declared names among so many tokens?
+fn names_within(count: usize, names: Names) -> bool
+    ensures { λ r. ⌜ r ≡ names·within count names ⌝ }
+{
+    match names {
+        Names::None => true,
+        Names::Words(_, to) => to <= count,
+    }
+}
+
+// Are the words of a label command?
+fn command_within(count: usize, c: LabelCommand) -> bool
+    ensures { λ r. ⌜ r ≡ command·within count c ⌝ }
+{
+    (c.head < 1048576) & (c.to <= count)
+}
+
+// Are those of all three?
+fn commands_within(count: usize, ls: LabelCommands) -> bool
+    ensures { λ r. ⌜ r ≡ commands·within count ls ⌝ }
+{
+    command_within(count, ls.first)
+        & command_within(count, ls.second)
+        & command_within(count, ls.third)
+}
+
+// May a matrix be stored behind so many tokens of a text of so many bytes, in work memory of a size?
+fn storable(
+    bytes: usize,
+    size: usize,
+    count: usize,
+    matrix: Matrix,
+    d: Data,
+    symbols: usize,
+) -> bool
+    ensures { λ r. ⌜ r ≡ storable bytes size count matrix d symbols ⌝ }
+{
+    if (1048576 < bytes) | (1048576 < count) {
+        return false;
+    }
+    let names = d.names;
+    let labels = d.labels;
+    let room = (count + count <= size) & (symbols <= 74);
+    room & !matrix_given(matrix) & names_within(count, names) & commands_within(count, labels)
 }
