@@ -26,10 +26,10 @@ use mathlib.Core.Option.{Option, none, some, Option·getD}
 unfoldable pub format·held : List ℕ → List ℕ → Style → Format
 format·held text front style = Option·getD (style·of text front style) default·format
 
--- The rows under the declared names, whose numbers stand from a place on, or as they came.
-unfoldable pub order·held : List ℕ → List ℕ → List ℕ → ℕ → Names → List Taxon → List Taxon
-order·held text front work at Names.None rows = rows
-order·held text front work at (Names.Words from to) rows = ordered rows work at (names·of (words (range text front from to)))
+-- The rows under the declared names, of which there are so many and whose numbers stand from a place on, or as they came.
+unfoldable pub order·held : List ℕ → List ℕ → List ℕ → ℕ → ℕ → Names → List Taxon → List Taxon
+order·held text front work at taxa Names.None rows = rows
+order·held text front work at taxa (Names.Words from to) rows = ordered rows work at (take taxa (names·of (words (range text front from to))))
 
 -- So many tokens stand in front.
 module _ (text work : List ℕ) (count : ℕ) where
@@ -44,7 +44,7 @@ module _ (text work : List ℕ) (count : ℕ) where
       record {
         data·type = f .data·type;
         symbols = f .symbols;
-        taxa = order·held text (take count work) work (order·place count (h .lines) (h .taxa)) (h .names) (rows·of h);
+        taxa = order·held text (take count work) work (order·place count (h .lines) (h .taxa)) (h .taxa) (h .names) (rows·of h);
         characters = unordered (labels·held text work (labels·place count (h .lines) (h .taxa)) (h .characters));
       }
 
