@@ -29,6 +29,7 @@ pub mod LabelsFollow
 pub mod LabelsGained
 pub mod LabelsHeld
 pub mod LabelsSound
+pub mod LinesLight
 pub mod MatrixFaults
 pub mod MatrixParts
 pub mod MatrixSound
