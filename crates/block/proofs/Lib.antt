@@ -54,6 +54,7 @@ pub mod SymbolWalk
 pub mod SymbolsDiffer
 pub mod TaxaFollow
 pub mod TokenFaults
+pub mod TokensWeigh
 pub mod ToldFaults
 pub mod TypeFaults
 pub mod WalkLaws
