@@ -29,6 +29,7 @@ pub mod LabelsFollow
 pub mod LabelsGained
 pub mod LabelsHeld
 pub mod LabelsSound
+pub mod LinesLight
 pub mod MatrixFaults
 pub mod MatrixParts
 pub mod MatrixSound
@@ -53,6 +54,7 @@ pub mod SymbolWalk
 pub mod SymbolsDiffer
 pub mod TaxaFollow
 pub mod TokenFaults
+pub mod TokensWeigh
 pub mod ToldFaults
 pub mod TypeFaults
 pub mod WalkLaws

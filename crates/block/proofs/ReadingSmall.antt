@@ -4,10 +4,10 @@ use Rattle.block.proofs.MatrixParts.{rows-keep, matrix-shaped}
 use Rattle.block.proofs.OutcomeLaws.{pick-either, All}
 use Rattle.block.proofs.PagesSmall.{interleaved-taken}
 use Rattle.block.proofs.ReadingSound.{reading-sound}
-use Rattle.block.proofs.RowsSmall.{bulk, Taken, sequential-taken}
+use Rattle.block.proofs.RowsSmall.{row-bulk, bulk, Taken, sequential-taken}
 use Rattle.block.proofs.RowsSound.{length-names}
 use Rattle.block.proofs.TaxaFollow.{taxa-follow}
-use Rattle.block.proofs.Weights.{words-light, to-end-light, numbered-weights}
+use Rattle.block.proofs.Weights.{total-few, words-light, to-end-light, numbered-weights}
 use Rattle.block.specs.Blocks.{agrees, rows}
 use Rattle.block.specs.Commands.{command, empty, unended, newline, semicolon, ended, up·to·end, begun, commands·from, commands, words}
 use Rattle.block.specs.Interleaved.{all·long, interleaved}
@@ -74,8 +74,7 @@ abbrev Short : ℕ → Taxon → Type 0
 Short n t = length (t .cells) ≤ n
 
 bulk-few : (taken : List Taxon) → length taken ≤ bulk taken
-bulk-few [] = omega arith
-bulk-few (t ∷ r) = let k = bulk-few r in omega arith
+bulk-few = total-few row-bulk (λ t. omega arith)
 
 module _ (n : ℕ) where
   bulk-short : (taken : List Taxon) → bulk taken ≤ n → All (Short n) taken

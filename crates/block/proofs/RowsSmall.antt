@@ -1,7 +1,7 @@
 -- Rows that are read, sequential or interleaved, have no more names and cells together than their words have bytes. Assumes nothing.
 use Prim.Native.Nat.{ℕ, suc, _+_, _≤_}
 use Rattle.block.proofs.ChunkSound.{none-some, some-inj}
-use Rattle.block.proofs.OutcomeLaws.{then-done, need-done, pick-else, pick-when, pick-either, refused-done, done-inj}
+use Rattle.block.proofs.OutcomeLaws.{then-done, need-done, pick-else, pick-when, pick-either, pick-test, refused-done, done-inj}
 use Rattle.block.proofs.Weights.{total-append, done-light, fold-grows}
 use Rattle.block.specs.Cell.{Cell, state, uncertain, polymorphic, missing, gap, insert, insert·all}
 use Rattle.block.specs.Chunk.{cell, before, cells·of, symbols, with·state, only·states, closer, Row, plain, within, closed, into·set, chunk, row·end}
@@ -148,13 +148,14 @@ pub record Taken (sh : Shape) (n : ℕ) (rows : List Taxon) : Type 0 where
   pub light : bulk rows ≤ n
   pub counted : length rows ≡ sh .taxa
 
-module _ (sh : Shape) where
+-- Rows may be counted by any measure that gives a row of NCHAR cells no more than its name and its cells.
+module _ (sh : Shape) (heavy : Taxon → ℕ) (fair : (t : Taxon) → length (t .cells) ≡ sh .characters → heavy t ≤ row-bulk t) where
   abbrev sequence-load : Sequence → ℕ
-  sequence-load (between rows) = bulk rows
-  sequence-load (inside rows i n row) = suc (bulk rows + row-load row)
+  sequence-load (between rows) = total heavy rows
+  sequence-load (inside rows i n row) = suc (total heavy rows + row-load row)
 
   begins-grows : (rows : List Taxon) (w : Numbered) (t : Sequence) → then (need (label w) Refusal.NotName (w .index)) (row·begins rows w) ≡ done t
-      → sequence-load t ≤ bulk rows + weight w
+      → sequence-load t ≤ total heavy rows + weight w
   unfolding row·begins
   begins-grows rows w t h =
       let n = then-done (need (label w) Refusal.NotName (w .index)) (row·begins rows w) t h in
@@ -163,13 +164,21 @@ module _ (sh : Shape) where
       rw (← done-inj (k .1)) (omega arith)
 
   grown-small : (rows : List Taxon) (i : ℕ) (n : List ℕ) (w : Numbered) (row : Row) (t : Sequence) → row·grown sh rows i n w row ≡ done t
-      → sequence-load t ≤ suc (bulk rows + row-load row)
+      → sequence-load t ≤ suc (total heavy rows + row-load row)
   unfolding row·grown
   grown-small rows i n w (within cells k j set) t h = rw (← done-inj h) (omega arith)
   grown-small rows i n w (plain cells) t h =
       let short = pick-else (ltb (sh .characters) (length cells)) Refusal.Row (w .index) _ t h in
-      pick-either (eqb (length cells) (sh .characters)) _ _ t (done-light sequence-load (between (rows ++ (record { name = n; cells = cells } ∷ []))) t (suc (bulk rows + length cells)) (simp total-append (omega arith)))
-      (done-light sequence-load (inside rows i n (plain cells)) t (suc (bulk rows + length cells)) (omega arith)) (short .1)
+      pick-test (eqb (length cells) (sh .characters)) _ _ t full
+      (done-light sequence-load (inside rows i n (plain cells)) t (suc (total heavy rows + length cells)) (omega arith)) (short .1)
+    where
+      taxon : Taxon
+      taxon = record { name = n; cells = cells }
+
+      full : eqb (length cells) (sh .characters) ≡ true → done (between (rows ++ (taxon ∷ []))) ≡ done t → sequence-load t ≤ suc (total heavy rows + length cells)
+      full e =
+          let one = fair taxon (eqb-true (length cells) (sh .characters) e) in
+          done-light sequence-load (between (rows ++ (taxon ∷ []))) t (suc (total heavy rows + length cells)) (simp total-append (omega arith))
 
   turn-grows : (s : Sequence) (w : Numbered) (t : Sequence) → sequential·turn sh s w ≡ done t → sequence-load t ≤ sequence-load s + weight w
   unfolding sequential·turn
@@ -180,17 +189,21 @@ module _ (sh : Shape) where
       let l = grown-small rows i n w (r .0) t (r .2) in
       omega arith
 
-  end-taken : (s : Sequence) (rows : List Taxon) (n : ℕ) → sequence-load s ≤ n → sequential·end sh s ≡ done rows → Taken sh n rows
+  end-taken : (s : Sequence) (rows : List Taxon) (n : ℕ) → sequence-load s ≤ n → sequential·end sh s ≡ done rows
+      → (total heavy rows ≤ n) × (length rows ≡ sh .taxa)
   unfolding sequential·end row·open
   end-taken (between rows) out n p h =
       let q = pick-when (eqb (length rows) (sh .taxa)) Refusal.Count (sh .head) (done rows) out h in
-      rw (← done-inj (q .1)) (record { light = p; counted = eqb-true (length rows) (sh .taxa) (q .0) })
+      rw (← done-inj (q .1)) (p, eqb-true (length rows) (sh .taxa) (q .0))
   end-taken (inside rows i n (plain cells)) out m p h = refused-done Refusal.Row i out h
   end-taken (inside rows i n (within cells k j set)) out m p h = refused-done Refusal.StateSet j out h
 
-  pub sequential-taken : (ws : List Numbered) (rows : List Taxon) → sequential sh ws ≡ done rows → Taken sh (weights ws) rows
+  pub sequential-heavy : (ws : List Numbered) (rows : List Taxon) → sequential sh ws ≡ done rows → (total heavy rows ≤ weights ws) × (length rows ≡ sh .taxa)
   unfolding sequential
-  sequential-taken ws rows h =
+  sequential-heavy ws rows h =
       let s = then-done (fold (sequential·turn sh) (between []) ws) (sequential·end sh) rows h in
       let k = fold-grows sequence-load weight (sequential·turn sh) turn-grows (between []) ws (s .0) (s .1) in
       end-taken (s .0) rows (weights ws) (omega arith) (s .2)
+
+pub sequential-taken : (sh : Shape) (ws : List Numbered) (rows : List Taxon) → sequential sh ws ≡ done rows → Taken sh (weights ws) rows
+sequential-taken sh ws rows h = let k = sequential-heavy sh row-bulk (λ t e. omega arith) ws rows h in record { light = k .0; counted = k .1 }

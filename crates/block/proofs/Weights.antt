@@ -19,6 +19,14 @@ module _ {A : Type 0} where
   total-append f [] r = omega arith
   total-append f (a ∷ l) r = let k = total-append f l r in omega arith
 
+  -- Where each weighs at least one, they are no more than they weigh.
+  pub total-few : (f : A → ℕ) → ((a : A) → 1 ≤ f a) → (l : List A) → length l ≤ total f l
+  total-few f one [] = omega arith
+  total-few f one (a ∷ l) =
+      let k = total-few f one l in
+      let h = one a in
+      omega arith
+
 -- A step that comes to a value with so much load at most.
 module _ {S : Type 0} (load : S → ℕ) where
   pub done-light : (s t : S) (n : ℕ) → load s ≤ n → done s ≡ done t → load t ≤ n
