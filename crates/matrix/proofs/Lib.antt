@@ -12,6 +12,7 @@ pub mod PlaceWalk
 pub mod RowBounds
 pub mod RowNames
 pub mod RowWalk
+pub mod RowsTaken
 pub mod SequentialWalk
 pub mod ShapeLaws
 pub mod StoredLines

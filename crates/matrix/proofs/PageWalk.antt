@@ -24,7 +24,7 @@ use Rattle.matrix.proofs.StoredLines.{held-more, named-more, page-kept,
 use Rattle.matrix.proofs.StoredRows.{stored-more, word-kept, range-kept, names-kept}
 use Rattle.matrix.proofs.WalkedRows.{refused-rows}
 use Rattle.matrix.specs.Lines.{Rows·room, name·at, stored, names·stored}
-use Rattle.matrix.specs.PagesHeld.{Line·begins, Line·ends, Line·room, Pages·read, line·at, with·line, page·held, pages·held, paged, count·from, line·name, misfit, page·grown, line·grown, page·short, line·shape, lined·of, pages·end}
+use Rattle.matrix.specs.PagesHeld.{Line·begins, Line·ends, Line·room, Pages·read, page·held, pages·held, paged, count·from, line·name, misfit, page·grown, line·grown, page·short, line·shape, lined·of, pages·end}
 use Rattle.matrix.specs.declared.interleaved.Lined.{Lined}
 use Rattle.matrix.specs.declared.interleaved.Pages.{Pages}
 use Rattle.matrix.specs.declared.matrix.Chunk.{Chunk}
@@ -34,7 +34,7 @@ use lib.Dec.{eqb}
 use lib.ListN.{length, take, set, length-set, length-map}
 use lib.Seq.{take-set-le}
 use mathlib.Core.Bool.{Bool, true, false, _&&_, false≢true}
-use mathlib.Core.List.{List, [], _∷_, _++_, map-append}
+use mathlib.Core.List.{List, [], _∷_, _++_}
 use mathlib.Core.Path.{_≡_, refl, sym, ap, _∙_}
 use native.Mathlib.Omega.{arith}
 
