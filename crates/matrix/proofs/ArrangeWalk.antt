@@ -1,26 +1,24 @@
 -- The walk over declared names that stores the row of each. Assumes nothing.
-use Prim.Native.Nat.{ℕ, zero, suc, _+_, _-_, _≤_, _<_}
+use Prim.Native.Nat.{ℕ, suc, _+_, _-_, _≤_, _<_}
 use Rattle.block.proofs.ChunkSound.{none-some, some-inj}
-use Rattle.block.proofs.OutcomeLaws.{All}
 use Rattle.block.proofs.WalkLaws.{words-newline, words-next, words-end, words-last, words-last-newline}
 use Rattle.block.specs.Blocks.{row·of, arranged}
 use Rattle.block.specs.Commands.{newline, words}
-use Rattle.block.specs.Judged.{judged}
 use Rattle.block.specs.NamesHeld.{name·of, names·of}
 use Rattle.block.specs.Outcome.{Outcome, done, refused, then, need}
 use Rattle.block.specs.Reading.{Taxon}
 use Rattle.block.specs.Sequential.{names}
-use Rattle.block.specs.declared.Judged.{Judged}
 use Rattle.lexer.proofs.Basics.{by-test}
 use Rattle.lexer.specs.Base.{pick, alike}
 use Rattle.lexer.specs.Stored.{word·of, range}
 use Rattle.lexer.specs.declared.refusal.Refusal.{Refusal}
+use Rattle.matrix.proofs.BelowLaws.{below-each}
 use Rattle.matrix.proofs.StoredRows.{stored-kept, word-kept, names-kept}
 use Rattle.matrix.specs.Lines.{name·at, names·stored, stored}
-use Rattle.matrix.specs.OrderHeld.{place·from, place·of, cells·at, ordered, all·below, Arranged}
+use Rattle.matrix.specs.OrderHeld.{place·from, place·of, cells·at, ordered, all·below}
 use borrow.Author.Tests.{ltb-true, ltb-false}
 use lib.Dec.{ltb}
-use lib.ListN.{length, getD, take, drop, set, length-set, length-append}
+use lib.ListN.{length, getD, take, set, length-set, length-append}
 use lib.Seq.{getD-set-same, getD-set-other, take-set-le}
 use mathlib.Core.Bool.{true, false}
 use mathlib.Core.List.{List, [], _∷_, _++_, map-append, append-nil, append-assoc}
@@ -104,12 +102,7 @@ module _ (text before : List ℕ) (lines rows from to at head : ℕ) where
     word-here h = word-kept text work before at (a .kept) i (omega (arith, room .0, room .1))
 
     pub names-here : all·below at (stored before lines rows) → names·stored text work (stored work lines rows) ≡ names·stored text before (stored before lines rows)
-    unfolding all·below
-    names-here below = rw (stored-kept work before at lines rows (a .kept) (room .1)) (names-kept text work before at (a .kept) (stored before lines rows) (all-under (stored before lines rows) below))
-      where
-        all-under : (l : List ℕ) → all·below at l → All (λ s. s < at) l
-        all-under [] p = tt
-        all-under (s ∷ r) p = (p .0, all-under r (p .1))
+    names-here below = rw (stored-kept work before at lines rows (a .kept) (room .1)) (names-kept text work before at (a .kept) (stored before lines rows) (below-each at (stored before lines rows) below))
 
     -- what was found among the names of stored rows is the place among those of any rows that have them
     pub found-place : (o : Option ℕ) → i < to → o ≡ place·of (name·at text work i) (names·stored text work (stored work lines rows))

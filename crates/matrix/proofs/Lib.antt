@@ -1,8 +1,10 @@
 -- What the proofs of this crate rest on, and what other crates may cite.
 pub mod ArrangeWalk
+pub mod BelowLaws
 pub mod CellWalk
 pub mod CodeLaws
 pub mod LineLaws
+pub mod PageNames
 pub mod PageShapes
 pub mod PageTurns
 pub mod PageWalk
@@ -10,8 +12,10 @@ pub mod PlaceWalk
 pub mod RowBounds
 pub mod RowNames
 pub mod RowWalk
+pub mod RowsTaken
 pub mod SequentialWalk
 pub mod ShapeLaws
+pub mod StoredLines
 pub mod StoredRows
 pub mod SymbolCounts
 pub mod WalkedRows

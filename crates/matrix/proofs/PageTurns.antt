@@ -97,6 +97,10 @@ pub record Shaped (taxa : ℕ) (stored : List (List ℕ)) (q : Pages) (p : Page)
   pub later : q .first ≡ false → (length (p .above) + length (p .below) ≡ taxa) × (length (p .above) < taxa)
   pub begun : q .width ≡ 0 → p .above ≡ []
 
+pub no-rows : (l : List Taxon) → length l ≡ 0 → l ≡ []
+no-rows [] h = refl
+no-rows (t ∷ r) h = absurd (omega arith)
+
 -- The row that a line goes on with.
 record Continues (taxa : ℕ) (stored : List (List ℕ)) (q : Pages) (p : Page) (n : List ℕ) (t : Taxon) : Type 0 where
   on : row·on p n ≡ t
@@ -178,11 +182,7 @@ module _ (taxa : ℕ) (stored : List (List ℕ)) (q : Pages) (p : Page) (k : Sha
         rw (e, count) (by-test (eqb (q .row + 1) taxa) (λ d. rw d (whole (eqb-true (q .row + 1) taxa d))) (λ d. rw d (partly (eqb-false (q .row + 1) taxa d))))
       where
         none-below : q .row + 1 ≡ taxa → behind (p .below) ≡ []
-        none-below d = by-test (q .first) (λ f. g .new f .0) (λ f. let z = g .later f in empty (behind (p .below)) (omega (arith, k .row)))
-          where
-            empty : (l : List Taxon) → length l ≡ 0 → l ≡ []
-            empty [] h = refl
-            empty (a ∷ l) h = absurd (omega arith)
+        none-below d = by-test (q .first) (λ f. g .new f .0) (λ f. let z = g .later f in no-rows (behind (p .below)) (omega (arith, k .row)))
 
         whole : q .row + 1 ≡ taxa → Shaped taxa (stored ++ (n ∷ [])) (record { first = false; row = 0; earlier = q .earlier + length cells; width = 0 }) (record { first = false; above = []; below = p .above ++ (row ∷ []); width = 0 })
         whole d =

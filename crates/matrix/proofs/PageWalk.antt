@@ -9,28 +9,32 @@ use Rattle.block.specs.Judged.{judged}
 use Rattle.block.specs.Outcome.{Outcome, done, refused, then}
 use Rattle.block.specs.Reading.{Taxon}
 use Rattle.block.specs.Sequential.{Shape, names}
-use Rattle.lexer.proofs.Basics.{by-test, chosen, and-true, eqb-sym}
+use Rattle.lexer.proofs.Basics.{by-test, chosen, and-left, and-true, eqb-sym}
 use Rattle.lexer.proofs.SmallBytes.{Small}
 use Rattle.lexer.specs.Base.{pick}
 use Rattle.lexer.specs.Stored.{word·of, range}
 use Rattle.lexer.specs.declared.refusal.Refusal.{Refusal}
+use Rattle.matrix.proofs.BelowLaws.{each-below}
 use Rattle.matrix.proofs.LineLaws.{lines-end, lines-line, line-then, next-ahead}
+use Rattle.matrix.proofs.PageNames.{whole-names, front-names}
 use Rattle.matrix.proofs.PageShapes.{grown-room}
 use Rattle.matrix.proofs.PageTurns.{Long, Shaped, Comes, turn-comes}
+use Rattle.matrix.proofs.RowNames.{stored-count}
+use Rattle.matrix.proofs.StoredLines.{held-more, named-more, page-kept, pages-kept}
 use Rattle.matrix.proofs.StoredRows.{stored-more, word-kept, range-kept, names-kept}
 use Rattle.matrix.proofs.WalkedRows.{refused-rows}
 use Rattle.matrix.specs.Lines.{Rows·room, name·at, stored, names·stored}
-use Rattle.matrix.specs.PagesHeld.{Line·begins, Line·ends, Line·room, Pages·read, line·at, with·line, page·held, pages·held, paged, count·from, line·name, misfit, page·grown, line·grown, page·short, line·shape, lined·of, pages·end}
+use Rattle.matrix.specs.PagesHeld.{Line·begins, Line·ends, Line·room, Pages·read, page·held, pages·held, paged, count·from, line·name, misfit, page·grown, line·grown, page·short, line·shape, lined·of, pages·end}
 use Rattle.matrix.specs.declared.interleaved.Lined.{Lined}
 use Rattle.matrix.specs.declared.interleaved.Pages.{Pages}
 use Rattle.matrix.specs.declared.matrix.Chunk.{Chunk}
 use Rattle.matrix.specs.declared.matrix.Rows.{Rows}
 use borrow.Author.Tests.{eqb-true, eqb-false, eq-eqb, ne-eqb}
 use lib.Dec.{eqb}
-use lib.ListN.{length, take, set, length-set}
+use lib.ListN.{length, take, set, length-set, length-map}
 use lib.Seq.{take-set-le}
 use mathlib.Core.Bool.{Bool, true, false, _&&_, false≢true}
-use mathlib.Core.List.{List, [], _∷_, _++_, map-append}
+use mathlib.Core.List.{List, [], _∷_, _++_}
 use mathlib.Core.Path.{_≡_, refl, sym, ap, _∙_}
 use native.Mathlib.Omega.{arith}
 
@@ -81,45 +85,13 @@ end-test taxa characters stored q p k = by-test (q .first) (λ e. rw (e, k .new 
         (λ d. let none = eqb-true (q .row) 0 d in rw (d, eq-eqb (length (p .below)) taxa (omega (arith, z .0, k .row)), some-long characters (q .earlier) (p .below) (k .below) (omega (arith, z .0, z .1, k .row))))
         (λ d. let some = eqb-false (q .row) 0 d in rw (d, ne-eqb (length (p .below)) taxa (λ s. some (omega (arith, z .0, k .row)))))
 
--- A stored line more.
-module _ (text work : List ℕ) (f : Format) (taxa to : ℕ) where
-  page-more : (p : Page) (starts : List ℕ) (s : ℕ) → page·held text work f taxa to p (starts ++ (s ∷ [])) ≡ with·line f taxa (page·held text work f taxa to p starts) (line·at text work f to s)
-  unfolding page·held
-  page-more p [] s = refl
-  page-more p (t ∷ r) s = page-more (with·line f taxa p (line·at text work f to t)) r s
-
--- Its name stands behind the others.
-names-more : (text work starts : List ℕ) (s : ℕ) → names·stored text work (starts ++ (s ∷ [])) ≡ names·stored text work starts ++ (name·at text work s ∷ [])
-unfolding names·stored
-names-more text work starts s = rw map-append
-
--- Stored lines mean the same where work memory was kept.
-module _ (text work before : List ℕ) (at : ℕ) (kept : take at work ≡ take at before) (f : Format) (taxa to : ℕ) (h : to ≤ at) where
-  line-kept : (s : ℕ) → s < at → line·at text work f to s ≡ line·at text before f to s
-  unfolding line·at name·at
-  line-kept s l = rw (word-kept text work before at kept s l, range-kept text work before at kept (s + 1) to h)
-
-  name-kept : (s : ℕ) → s < at → name·at text work s ≡ name·at text before s
-  unfolding name·at
-  name-kept s l = rw (word-kept text work before at kept s l)
-
-  -- one line more, by what work memory holds now
-  held-more : (p : Page) (starts : List ℕ) (s : ℕ) → s < at → page·held text before f taxa to p (starts ++ (s ∷ [])) ≡ with·line f taxa (page·held text before f taxa to p starts) (line·at text work f to s)
-  held-more p starts s l = rw (line-kept s l) (page-more text before f taxa to p starts s)
-
-  named-more : (starts : List ℕ) (s : ℕ) → All (λ s. s < at) starts → s < at → names·stored text before (starts ++ (s ∷ [])) ≡ names·stored text work starts ++ (name·at text work s ∷ [])
-  named-more starts s a l = rw (names-kept text work before at kept starts a, name-kept s l) (names-more text before starts s)
-
-  page-kept : (p : Page) (starts : List ℕ) → All (λ s. s < at) starts → page·held text work f taxa to p starts ≡ page·held text before f taxa to p starts
-  unfolding page·held
-  page-kept p [] a = refl
-  page-kept p (s ∷ r) a = rw (line-kept s (a .0)) (page-kept (with·line f taxa p (line·at text before f to s)) r (a .1))
-
--- So many rows are answered as lines are stored.
-end-rows : (taxa characters head rows : ℕ) (q : Pages) (m : ℕ) → pages·end taxa characters head rows q ≡ Rows.Done m → m ≡ rows
+-- So many rows are answered as lines are stored, where the test at the end holds.
+end-rows : (taxa characters head rows : ℕ) (q : Pages) (m : ℕ) → pages·end taxa characters head rows q ≡ Rows.Done m
+    → (m ≡ rows) × (pick (q .first) (eqb taxa 0) (eqb (q .row) 0 && eqb (q .earlier) characters) ≡ true)
 unfolding pages·end
 end-rows taxa characters head rows q m =
-    chosen (λ r. r ≡ Rows.Done m → m ≡ rows) (pick (q .first) (eqb taxa 0) (eqb (q .row) 0 && eqb (q .earlier) characters)) (λ _ e. (cc)) (λ _ e. refused-rows e)
+    let test = pick (q .first) (eqb taxa 0) (eqb (q .row) 0 && eqb (q .earlier) characters) in
+    chosen (λ r. r ≡ Rows.Done m → (m ≡ rows) × (test ≡ true)) test (λ t e. (cc, t)) (λ _ e. refused-rows e)
 
 -- What the matrix is to be, in a format.
 abbrev matrix·of : ℕ → ℕ → ℕ → Format → Shape
@@ -131,8 +103,8 @@ pub record Walked (text before : List ℕ) (from to taxa characters head : ℕ) 
   pub rest : then (pages (matrix·of taxa characters head f) (page·held text before f taxa to first·page starts) (lines·from false (range text before i to))) (interleaved·end (matrix·of taxa characters head f))
       ≡ interleaved (matrix·of taxa characters head f) (range text before from to)
 
--- Work memory is kept in front of the lines. No more of them are stored than there were tokens, each the index of one; a line begins here, or nothing
--- is left; and for every format with these codes, what is read from here on is what all of it is read as.
+-- Work memory is kept in front of the lines. No more of them are stored than there were tokens, each the index of one; with those that begin from here
+-- on they are all lines; a line begins here, or nothing is left; and for every format with these codes, what is read from here on is what all of it is read as.
 pub record Paging (text codes before : List ℕ) (at from to taxa characters head : ℕ) (work : List ℕ) (rows : ℕ) (q : Pages) (i : ℕ) : Type 0 where
   pub size : length work ≡ length before
   pub kept : take at work ≡ take at before
@@ -142,6 +114,7 @@ pub record Paging (text codes before : List ℕ) (at from to taxa characters hea
   pub row : q .row ≤ rows
   pub earlier : q .earlier ≤ characters
   pub here : i < to → newline (word·of text before i) ≡ false
+  pub count : rows + length (lines·from false (range text before i to)) ≡ length (lines (range text before from to))
   pub each : (f : Format) → Coded f codes → length (f .symbols) ≤ 74 → Walked text before from to taxa characters head f (stored work at rows) q i
 
 module _ {text codes before : List ℕ} {at from to taxa characters head : ℕ} where
@@ -157,6 +130,7 @@ module _ {text codes before : List ℕ} {at from to taxa characters head : ℕ} 
         row = omega arith;
         earlier = omega arith;
         here = b .here;
+        count = rw (b .lines) (omega arith);
         each =
             λ f c few.
             record {
@@ -187,11 +161,35 @@ module _ {text codes before : List ℕ} {at from to taxa characters head : ℕ} 
         go true = ap (λ p. done (p .below)) (page-kept text work before at (k .kept) f taxa to (room .apart) first·page (stored work at rows) (k .starts))
         go false = refl
 
+    all-passed : to ≤ i → rows ≡ length (lines (range text before from to))
+    all-passed h = let none : length (lines·from false (range text before i to)) ≡ 0 = rw (lines-end text before i to false h) in omega (arith, k .count)
+
+    -- what is answered at the end: as many rows as there are to be, of the names of the first lines
+    end-whole : (f : Format) → Walked text before from to taxa characters head f (stored work at rows) q i → (m : ℕ) → pages·end taxa characters head rows q ≡ Rows.Done m
+        → (taxa ≤ m) × (names (pages·held text work f taxa to (stored work at m)) ≡ names·stored text work (stored work at taxa))
+    unfolding pages·held names·stored
+    end-whole f w m e =
+        let z = end-rows taxa characters head rows q m e in
+        let page = held f (stored work at rows) in
+        let all = and-left (eqb (length (page .below)) taxa) (all·long characters (page .below)) (end-test taxa characters (names·stored text before (stored work at rows)) q page (w .shaped) ∙ z .1) in
+        let first = whole-names taxa (names·stored text before (stored work at rows)) q page (w .shaped) (eqb-true (length (page .below)) taxa all) in
+        let count : length (names·stored text before (stored work at rows)) ≡ rows = length-map (stored work at rows) (name·at text before) ∙ stored-count work at rows (omega (arith, k .within, k .size, room .behind)) in
+        let few : taxa ≤ rows = omega (arith, first .0) in
+        rw (z .0) (
+          few,
+          ap names (pages-kept text work before at (k .kept) f taxa to (room .apart) (stored work at rows) (k .starts)) ∙ (first .1 ∙ front-names text work before at (k .kept) taxa rows (k .starts) few),
+        )
+
     pub paging-end : {r : Rows} → r ≡ pages·end taxa characters head rows q → to ≤ i → Pages·read text codes before work at from to taxa characters head r
     paging-end {r} e h =
         record {
+          size = k .size;
           kept = k .kept;
-          few = λ m d. let z = end-rows taxa characters head rows q m (sym e ∙ d) in omega (arith, k .within);
+          few = λ m d. let z = end-rows taxa characters head rows q m (sym e ∙ d) in omega (arith, z .0, k .within);
+          count = λ m d. end-rows taxa characters head rows q m (sym e ∙ d) .0 ∙ all-passed h;
+          below = λ m d. rw (end-rows taxa characters head rows q m (sym e ∙ d) .0) (each-below at (stored work at rows) (k .starts));
+          enough = λ f c few m d. end-whole f (k .each f c few) m (sym e ∙ d) .0;
+          named = λ f c few m d. end-whole f (k .each f c few) m (sym e ∙ d) .1;
           read = λ f c few. let w = k .each f c few in rw e (end-same f w ∙ ended f w h);
         }
 
@@ -266,8 +264,13 @@ module _ {text codes before : List ℕ} {at from to taxa characters head : ℕ} 
   unfolding paged
   paging-refused m n d =
       record {
+        size = j .place .size;
         kept = j .place .kept;
         few = λ x y. refused-rows y;
+        count = λ x y. refused-rows y;
+        below = λ x y. refused-rows y;
+        enough = λ f c few x y. refused-rows y;
+        named = λ f c few x y. refused-rows y;
         read = λ f c few. walked-refused f c few (lines·from true (range text work (i + 1) to)) (lines-line text work i to (j .below) here) m n d;
       }
 
@@ -278,6 +281,9 @@ module _ {text codes before : List ℕ} {at from to taxa characters head : ℕ} 
       let k = j .place in
       let b : Bounds (q .row) characters (done x) = rw (← j .lined, d) at (shape-bounds taxa characters q (k .earlier) text work codes at rows i to) in
       let more = stored-more work at rows i (paging-space (j .room) k (j .below)) in
+      let behind = lines·from false (range text before next to) in
+      let one : length (lines·from false (range text before i to)) ≡ length behind + 1 =
+      rw (← range-kept text work before at (k .kept) i to (j .room .apart), ← range-kept text work before at (k .kept) next to (j .room .apart), line-then text work i to e next (j .below) here over begins) (omega arith) in
       record {
         size = length-set work (at + rows) i ∙ k .size;
         kept = take-set-le at work (at + rows) i (omega arith) ∙ k .kept;
@@ -287,5 +293,6 @@ module _ {text codes before : List ℕ} {at from to taxa characters head : ℕ} 
         row = omega (arith, b .0, k .row);
         earlier = b .1;
         here = λ l. rw (← word-kept text work before at (k .kept) next (omega (arith, j .room .apart))) (begins .here l);
+        count = omega (arith, k .count, one);
         each = λ f c few. rw more (walked-page f c few (lines·from false (range text work next to)) (line-then text work i to e next (j .below) here over begins) next refl x d);
       }

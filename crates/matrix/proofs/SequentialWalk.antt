@@ -7,6 +7,7 @@ use Rattle.block.specs.Format.{Format}
 use Rattle.lexer.proofs.SmallBytes.{Small}
 use Rattle.lexer.specs.Stored.{word·of}
 use Rattle.lexer.specs.declared.refusal.Refusal.{Refusal}
+use Rattle.matrix.proofs.BelowLaws.{each-below}
 use Rattle.matrix.proofs.RowBounds.{Named, Bounded, turn-bounded}
 use Rattle.matrix.proofs.RowNames.{stored-count}
 use Rattle.matrix.proofs.StoredRows.{stored-more, word-kept, names-kept, rows-kept}
@@ -58,8 +59,11 @@ module _ {text codes before : List ℕ} {at from to taxa n head : ℕ} where
     pub sequencing-end : {r : Rows} → r ≡ end·shape taxa head rows line → to ≤ i → Rows·read text codes before work at from to taxa n head r
     sequencing-end {r} e h =
         record {
+          size = k .size;
           kept = k .kept;
-          few = λ m d. let z = end-count taxa head rows line m (sym e ∙ d) in omega (arith, k .within);
+          few = λ m d. let z = end-count taxa head rows line m (sym e ∙ d) in omega (arith, z .0, k .within);
+          count = λ m d. let z = end-count taxa head rows line m (sym e ∙ d) in z .0 ∙ z .1;
+          below = λ m d. rw (end-count taxa head rows line m (sym e ∙ d) .0) (each-below at (stored work at rows) (k .starts));
           read = λ f c few.
               let same = rows-kept text work before at (k .kept) f n to (room .apart) (stored work at rows) (k .starts) in
               rw e (walked-end text before from to taxa n head f (stored work at rows) line i (k .each f c few) work at rows (counted f) same h);
@@ -144,7 +148,10 @@ module _ {text codes before : List ℕ} {at from to taxa n head : ℕ} {work : L
   unfolding sequenced
   sequencing-refused m p d =
       record {
+        size = k .size;
         kept = k .kept;
         few = λ x y. refused-rows y;
+        count = λ x y. refused-rows y;
+        below = λ x y. refused-rows y;
         read = λ f c few. walked-refused text before from to taxa n head f (stored work at rows) line i (k .each f c few) (j .below) c few (j .small) word m p (as-before ∙ d);
       }

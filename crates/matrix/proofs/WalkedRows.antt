@@ -23,6 +23,7 @@ use Rattle.matrix.specs.declared.matrix.Chunk.{Chunk}
 use Rattle.matrix.specs.declared.matrix.Rows.{Rows}
 use Rattle.matrix.specs.declared.matrix.Sequence.{Sequence}
 use Rattle.matrix.specs.declared.matrix.Turned.{Turned}
+use borrow.Author.Tests.{eqb-true}
 use lib.Dec.{eqb}
 use lib.ListN.{length}
 use mathlib.Core.Bool.{true, false}
@@ -102,15 +103,15 @@ module _ (text work : List ℕ) (from to taxa n head : ℕ) (f : Format) where
       unfolding fold then
       walked-end h = end-follows line (k .row) (k .grown) ∙ rw (words-end text work i to h) at (k .rest)
 
--- A count that is answered is that of the rows.
+-- A count that is answered is that of the rows, and as many as there are to be.
 done-rows : {a b : ℕ} → Rows.Done a ≡ Rows.Done b → b ≡ a
 done-rows {a} {b} h = cc
 
 pub refused-rows : {X : Type 0} {m : Refusal} {i b : ℕ} → Rows.Refused m i ≡ Rows.Done b → X
 refused-rows {X} {m} {i} {b} h = absurd (let z : _≡_ {A = ℕ} 0 1 = cc in omega arith)
 
-pub end-count : (taxa head rows : ℕ) (line : Sequence) (m : ℕ) → end·shape taxa head rows line ≡ Rows.Done m → m ≡ rows
+pub end-count : (taxa head rows : ℕ) (line : Sequence) (m : ℕ) → end·shape taxa head rows line ≡ Rows.Done m → (m ≡ rows) × (rows ≡ taxa)
 unfolding end·shape open·shape pick
-end-count taxa head rows Sequence.Between m e = by-test (eqb rows taxa) (λ t. done-rows (rw t at e)) (λ t. refused-rows (rw t at e))
+end-count taxa head rows Sequence.Between m e = by-test (eqb rows taxa) (λ t. (done-rows (rw t at e), eqb-true rows taxa t)) (λ t. refused-rows (rw t at e))
 end-count taxa head rows (Sequence.Inside s (Chunk.Plain c)) m e = refused-rows e
 end-count taxa head rows (Sequence.Inside s (Chunk.Within c b j empty)) m e = refused-rows e

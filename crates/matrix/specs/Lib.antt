@@ -1,7 +1,7 @@
 -- What the rows of a matrix mean, as the code holds them.
 pub mod RowShape
 pub mod Lines
+pub mod OrderHeld
 pub mod SequentialShape
 pub mod PagesHeld
-pub mod OrderHeld
 pub mod RowsHeld

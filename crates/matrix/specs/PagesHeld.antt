@@ -6,17 +6,19 @@ use Rattle.block.specs.Chunk.{plain, chunk, row·end}
 use Rattle.block.specs.Codes.{Coded}
 use Rattle.block.specs.Commands.{newline}
 use Rattle.block.specs.Format.{Format}
-use Rattle.block.specs.Interleaved.{Page, first·page, lines·from, to·newline, with·row, interleaved}
+use Rattle.block.specs.Interleaved.{Page, first·page, lines, lines·from, to·newline, with·row, interleaved}
 use Rattle.block.specs.Judged.{judged}
 use Rattle.block.specs.Names.{known}
 use Rattle.block.specs.Outcome.{Outcome, done, refused, then, fold}
 use Rattle.block.specs.Reading.{Taxon}
+use Rattle.block.specs.Sequential.{names}
 use Rattle.block.specs.declared.Judged.{Judged}
 use Rattle.lexer.specs.Base.{pick, alike, given}
 use Rattle.lexer.specs.Stored.{word·of, range}
 use Rattle.lexer.specs.Words.{Numbered, label}
 use Rattle.lexer.specs.declared.refusal.Refusal.{Refusal}
 use Rattle.matrix.specs.Lines.{name·at, stored, names·stored}
+use Rattle.matrix.specs.OrderHeld.{all·below}
 use Rattle.matrix.specs.RowShape.{chunk·shape}
 use Rattle.matrix.specs.declared.interleaved.LineCells.{LineCells}
 use Rattle.matrix.specs.declared.interleaved.Lined.{Lined}
@@ -154,9 +156,16 @@ pages·end taxa characters head rows p =
     pick (pick (p .first) (eqb taxa 0) (eqb (p .row) 0 && eqb (p .earlier) characters)) (Rows.Done rows) (Rows.Refused Refusal.Count head)
 
 -- What is promised of an interleaved matrix that was read from the tokens of two indices: work memory is as it was in front of the lines, of which there
--- are no more than tokens; and whatever format has these codes, the answer means the rows that it reads, or its refusal.
+-- are no more than tokens, all that begin in these, each known by a token in front; and whatever format has these codes, the answer means the rows that
+-- it reads, or its refusal, and the first lines, one a row, have the names of the rows.
 pub record Pages·read (text codes before after : List ℕ) (at from to taxa characters head : ℕ) (r : Rows) : Type 0 where
+  pub size : length after ≡ length before
   pub kept : take at after ≡ take at before
   pub few : (n : ℕ) → r ≡ Rows.Done n → n ≤ to
+  pub count : (n : ℕ) → r ≡ Rows.Done n → n ≡ length (lines (range text before from to))
+  pub below : (n : ℕ) → r ≡ Rows.Done n → all·below at (stored after at n)
+  pub enough : (f : Format) → Coded f codes → length (f .symbols) ≤ 74 → (n : ℕ) → r ≡ Rows.Done n → taxa ≤ n
+  pub named : (f : Format) → Coded f codes → length (f .symbols) ≤ 74 → (n : ℕ) → r ≡ Rows.Done n
+      → names (pages·held text after f taxa to (stored after at n)) ≡ names·stored text after (stored after at taxa)
   pub read : (f : Format) → Coded f codes → length (f .symbols) ≤ 74
       → paged text after at f taxa to r ≡ interleaved (record { taxa = taxa; characters = characters; format = f; head = head }) (range text before from to)

@@ -12,6 +12,7 @@ use Rattle.lexer.specs.Stored.{range}
 use Rattle.lexer.specs.Words.{Numbered, label}
 use Rattle.lexer.specs.declared.refusal.Refusal.{Refusal}
 use Rattle.matrix.specs.Lines.{stored, rows·sequential}
+use Rattle.matrix.specs.OrderHeld.{all·below}
 use Rattle.matrix.specs.RowShape.{so·far, chunk·shape}
 use Rattle.matrix.specs.declared.matrix.Chunk.{Chunk}
 use Rattle.matrix.specs.declared.matrix.Rows.{Rows}
@@ -65,9 +66,13 @@ sequenced text work at f n to (Rows.Done rows) = done (rows·sequential text wor
 sequenced text work at f n to (Rows.Refused m i) = refused m i
 
 -- What is promised of a sequential matrix that was read from the tokens of two indices: work memory is as it was in front of the rows, of which there
--- are no more than tokens; and whatever format has these codes, the answer means the rows that it reads, or its refusal.
+-- are no more than tokens, all that there are to be, each known by a token in front; and whatever format has these codes, the answer means the rows
+-- that it reads, or its refusal.
 pub record Rows·read (text codes before after : List ℕ) (at from to taxa characters head : ℕ) (r : Rows) : Type 0 where
+  pub size : length after ≡ length before
   pub kept : take at after ≡ take at before
   pub few : (n : ℕ) → r ≡ Rows.Done n → n ≤ to
+  pub count : (n : ℕ) → r ≡ Rows.Done n → n ≡ taxa
+  pub below : (n : ℕ) → r ≡ Rows.Done n → all·below at (stored after at n)
   pub read : (f : Format) → Coded f codes → length (f .symbols) ≤ 74
       → sequenced text after at f characters to r ≡ sequential (record { taxa = taxa; characters = characters; format = f; head = head }) (words (range text before from to))

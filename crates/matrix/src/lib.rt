@@ -3,6 +3,8 @@
 pub mod interleaved;
 pub mod matrix;
 pub mod order;
+pub mod rows;
 
 pub use matrix::Rows;
 pub use order::arrange;
+pub use rows::rows_of;
