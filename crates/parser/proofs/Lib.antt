@@ -1,5 +1,6 @@
 -- What the proofs of this crate rest on, and what other crates may cite.
 pub mod BlockLaws
+pub mod FormatHeld
 pub mod HeldLaws
 pub mod MapFits
 pub mod ShapeLaws

@@ -35,15 +35,15 @@ both-short a b e =
     let y = ltb 1048576 b in
     (ltb-false 1048576 a (or-left x y e), ltb-false 1048576 b (or-right x y e))
 
-module _ (bytes size count : ℕ) (matrix : Matrix) (d : Data) (symbols : ℕ) where
-  pub storable-long : (ltb 1048576 bytes || ltb 1048576 count) ≡ true → false ≡ storable bytes size count matrix d symbols
+module _ (bytes size count : ℕ) (matrix : Matrix) (d : Data) (few : Bool) where
+  pub storable-long : (ltb 1048576 bytes || ltb 1048576 count) ≡ true → false ≡ storable bytes size count matrix d few
   unfolding storable longest
   storable-long e =
       by-test (ltb 1048576 bytes) (λ t. let l = ltb-true 1048576 bytes t in rw (lt-leb bytes 1048576 l))
       (λ f. let l = ltb-true 1048576 count (rw f at e) in rw (lt-leb count 1048576 l, le-leb bytes 1048576 (ltb-false 1048576 bytes f)))
 
   pub storable-short : (a b c : Bool) → (ltb 1048576 bytes || ltb 1048576 count) ≡ false → a ≡ none·held matrix → b ≡ names·within count (d .names) → c ≡ commands·within count (d .labels)
-      → (leb (count + count) size && leb symbols 74 && a && b && c) ≡ storable bytes size count matrix d symbols
+      → (leb (count + count) size && few && a && b && c) ≡ storable bytes size count matrix d few
   unfolding storable longest
   storable-short a b c e p q r =
       let n = both-short bytes count e in

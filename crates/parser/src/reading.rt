@@ -2,19 +2,28 @@
 
 ghost use Prim.Native.Nat.{ℕ};
 ghost use Rattle.block.specs.Blocks.{agrees, declared·count, matrix·shape};
+ghost use Rattle.block.specs.Formats.{meant};
 ghost use Rattle.parser.specs.MatrixHeld.{format·held};
 ghost use Rattle.parser.specs.StateHeld.{Reader, data·of, names·in};
-ghost use Rattle.parser.specs.Storing.{command·within, commands·within, names·within, shape·of, storable};
+ghost use Rattle.parser.specs.Storing.{Order·made, command·within, commands·within, names·within, shape·of, storable, symbols·few};
+ghost use Rattle.parser.specs.WorkMap.{map·fits};
+ghost use lib.ListN.{length};
+ghost use mathlib.Core.Bool.{true};
 ghost use mathlib.Core.Path.{_≡_};
 use super::blocks::matrix_given;
+use super::map::order_place;
 use super::state::Data;
 use super::state::Matrix;
 use super::state::Names;
+use super::state::Style;
 use block::Dimensions;
+use block::Format;
+use block::Judged;
 use block::count_words;
 use labels::LabelCommand;
 use labels::LabelCommands;
 use lexer::Refusal;
+use matrix::arrange;
 
 // What the matrix is to be: how many taxa and characters; or a refusal of the command.
 pub enum MatrixShape {
@@ -92,21 +101,68 @@ fn commands_within(count: usize, ls: LabelCommands) -> bool
 }
 
 // May a matrix be stored behind so many tokens of a text of so many bytes, in work memory of a size?
-fn storable(
-    bytes: usize,
-    size: usize,
-    count: usize,
-    matrix: Matrix,
-    d: Data,
-    symbols: usize,
-) -> bool
-    ensures { λ r. ⌜ r ≡ storable bytes size count matrix d symbols ⌝ }
+fn storable(bytes: usize, size: usize, count: usize, matrix: Matrix, d: Data, few: bool) -> bool
+    ensures { λ r. ⌜ r ≡ storable bytes size count matrix d few ⌝ }
 {
     if (1048576 < bytes) | (1048576 < count) {
         return false;
     }
     let names = d.names;
     let labels = d.labels;
-    let room = (count + count <= size) & (symbols <= 74);
-    room & !matrix_given(matrix) & names_within(count, names) & commands_within(count, labels)
+    (count + count <= size)
+        & few
+        & !matrix_given(matrix)
+        & names_within(count, names)
+        & commands_within(count, labels)
+}
+
+// The format that was given, or the default.
+fn format_of(text: &[u8], starts: &[u32], style: Style) -> Format
+    ensures { λ r. ⌜ (symbols·few (now (text .entry)) (now (starts .entry)) style ≡ true → meant r ≡ format·held (now (text .entry)) (now (starts .entry)) style) ⌝ }
+{
+    match style {
+        Style::None => Format::default(),
+        Style::Given(o) => Format::of(text, starts, o),
+    }
+}
+
+// Has it no more symbols than a format can hold?
+fn symbols_few(text: &[u8], starts: &[u32], style: Style) -> bool
+    ensures { λ r. ⌜ r ≡ symbols·few (now (text .entry)) (now (starts .entry)) style ⌝ }
+{
+    match style {
+        Style::None => true,
+        Style::Given(o) => {
+            let format = Format::of(text, starts, o);
+            format.count <= 74
+        }
+    }
+}
+
+// The numbers of the rows under the declared names, if there are any, are stored.
+fn taxa_order(
+    text: &[u8],
+    work: &mut [u32],
+    count: usize,
+    names: Names,
+    lines: usize,
+    taxa: usize,
+    head: usize,
+) -> Judged
+    requires { ⌜ (map·fits (length (now work)) count lines taxa 0 ≡ true) × (names·within count names ≡ true) ⌝ }
+    ensures { λ r. ⌜ Order·made (now (text .entry)) (now (work .entry)) (now (work .exit)) count lines taxa head names r ⌝ }
+{
+    match names {
+        Names::None => Judged::Good,
+        Names::Words(from, to) => arrange(
+            text,
+            work,
+            count,
+            taxa,
+            from,
+            to,
+            order_place(count, lines, taxa),
+            head,
+        ),
+    }
 }

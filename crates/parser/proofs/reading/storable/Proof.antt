@@ -13,8 +13,8 @@ use native.Mathlib.Omega.{arith}
 returns : tie.Need-returns
 returns c = storable-long _ _ _ _ _ _ (c .if1 .taken)
 
-add-room : tie.Need-add-room
-add-room c = let a = c .before .before .args in let n = both-short (a .bytes) (a .count) (c .before .if1 .left) in record { fits = omega (arith, n .1) }
+add : tie.Need-add
+add c = let a = c .before .before .args in let n = both-short (a .bytes) (a .count) (c .before .if1 .left) in record { fits = omega (arith, n .1) }
 
 matrix-given-requires : tie.Need-matrix-given-requires
 matrix-given-requires c κs = search needs
@@ -35,7 +35,7 @@ storable-spec =
     tie.close
     (tie.spec
     returns
-    add-room
+    add
     matrix-given-requires
     names-within-requires
     commands-within-requires
