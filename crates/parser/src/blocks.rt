@@ -31,7 +31,7 @@ use labels::LabelCommands;
 use lexer::Refusal;
 
 // Were names declared?
-fn names_given(names: Names) -> bool
+pub fn names_given(names: Names) -> bool
     ensures { λ r. ⌜ ((text work : List ℕ) → r ≡ given (names·in text work names)) ⌝ }
 {
     match names {
@@ -76,7 +76,7 @@ fn no_data(names: Names) -> Data
 }
 
 // The state with another block open.
-fn in_phase(phase: Phase, s: State) -> State
+pub fn in_phase(phase: Phase, s: State) -> State
     ensures step { λ r. ⌜ ((m : Reader) (text work : List ℕ) → state·of m text work r ≡ in·phase (phase·of m text work (s .«data») (s .matrix) phase) (state·of m text work s)) ⌝ }
     ensures placed { λ r. ⌜ ((text front : List ℕ) (size : ℕ) → State·placed text front size s → Phase·placed text front size s phase → State·placed text front size r) ⌝ }
 {

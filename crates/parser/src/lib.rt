@@ -2,3 +2,4 @@
 
 pub mod blocks;
 pub mod state;
+pub mod taxa;
