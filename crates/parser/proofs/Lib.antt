@@ -6,3 +6,4 @@ pub mod MapFits
 pub mod ShapeLaws
 pub mod StatesPlaced
 pub mod StorableLaws
+pub mod TaxaLaws

@@ -2,10 +2,12 @@
 use Prim.Native.Nat.{ℕ}
 use Rattle.block.specs.declared.kinds.Labelling.{Labelling}
 use Rattle.labels.specs.LabelLists.{Fits}
-use Rattle.parser.specs.StatePlaced.{Phase·placed, State·placed}
+use Rattle.parser.specs.StatePlaced.{Names·placed, Phase·placed, State·placed}
+use Rattle.parser.specs.declared.state.Names.{Names}
 use Rattle.parser.specs.declared.state.Phase.{Phase}
 use Rattle.parser.specs.declared.state.State.{State}
 use mathlib.Core.List.{List}
+use mathlib.Core.Path.{_≡_}
 use native.Mathlib.Omega.{arith}
 
 -- A command without tokens fits anywhere.
@@ -15,6 +17,10 @@ no-command-fits at what = record { small = omega arith; front = omega arith; sho
 -- The state with another block open.
 abbrev pub opened : Phase → State → State
 opened p s = record { phase = p; «data» = s .«data»; taxa = s .taxa; matrix = s .matrix; assumptions = s .assumptions }
+
+-- The state outside of a block, with other taxa.
+abbrev pub named : Names → State → State
+named names s = record { phase = Phase.Outside; «data» = s .«data»; taxa = names; matrix = s .matrix; assumptions = s .assumptions }
 
 module _ (text front : List ℕ) (size : ℕ) where
   -- an open block looks at no more than the declared data and the matrix
@@ -27,3 +33,8 @@ module _ (text front : List ℕ) (size : ℕ) where
 
   pub opened-placed : (s : State) (p : Phase) → State·placed text front size s → Phase·placed text front size s p → State·placed text front size (opened p s)
   opened-placed s p h k = record { phase = phase-kept s p p k; taxa = h .taxa; matrix = h .matrix; untyped = h .untyped }
+
+  -- the state behind TAXA, with names that are known to be those of words
+  pub named-placed : (s : State) (names : Names) (from to : ℕ) → names ≡ Names.Words from to → State·placed text front size s → Names·placed text front size names
+      → State·placed text front size (named (Names.Words from to) s)
+  named-placed s names from to e h k = record { phase = tt; taxa = rw e at k; matrix = h .matrix; untyped = h .untyped }

@@ -76,7 +76,7 @@ fn no_data(names: Names) -> Data
 }
 
 // The state with another block open.
-fn in_phase(phase: Phase, s: State) -> State
+pub fn in_phase(phase: Phase, s: State) -> State
     ensures step { λ r. ⌜ ((m : Reader) (text work : List ℕ) → state·of m text work r ≡ in·phase (phase·of m text work (s .«data») (s .matrix) phase) (state·of m text work s)) ⌝ }
     ensures placed { λ r. ⌜ ((text front : List ℕ) (size : ℕ) → State·placed text front size s → Phase·placed text front size s phase → State·placed text front size r) ⌝ }
 {

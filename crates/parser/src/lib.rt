@@ -4,3 +4,4 @@ pub mod blocks;
 pub mod map;
 pub mod reading;
 pub mod state;
+pub mod taxa;
