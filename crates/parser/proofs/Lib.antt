@@ -1,2 +1,4 @@
 -- What the proofs of this crate rest on, and what other crates may cite.
+pub mod AnswerLaws
 pub mod BlockLaws
+pub mod DataLaws

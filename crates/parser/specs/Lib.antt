@@ -3,4 +3,5 @@ pub mod WorkMap
 pub mod StateHeld
 pub mod MatrixHeld
 pub mod StatePlaced
+pub mod DataHeld
 pub mod Stepping

@@ -27,7 +27,7 @@ use labels::LabelCommands;
 use lexer::Refusal;
 
 // Were names declared?
-fn names_given(names: Names) -> bool
+pub fn names_given(names: Names) -> bool
     ensures { λ r. ⌜ ((text work : List ℕ) → r ≡ given (names·in text work names)) ⌝ }
 {
     match names {
@@ -37,7 +37,7 @@ fn names_given(names: Names) -> bool
 }
 
 // Was the matrix read?
-fn matrix_given(matrix: Matrix) -> bool
+pub fn matrix_given(matrix: Matrix) -> bool
     ensures { λ r. ⌜ ((m : Reader) (text work : List ℕ) → r ≡ given (matrix·of m text work matrix)) ⌝ }
 {
     match matrix {

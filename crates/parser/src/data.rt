@@ -1,0 +1,175 @@
+// DATA and CHARACTERS, after parse_data in mod.rs: each command once, and the end of the block.
+
+ghost use Prim.Native.Nat.{ℕ, _+_, _<_};
+ghost use Rattle.block.specs.Blocks.{data·end, in·data, in·phase, with·dimensions, with·format, with·taxa};
+ghost use Rattle.block.specs.Commands.{words};
+ghost use Rattle.block.specs.Dimensions.{dimensions};
+ghost use Rattle.block.specs.Format.{format};
+ghost use Rattle.block.specs.Names.{unique·names};
+ghost use Rattle.block.specs.Outcome.{done, refused, then};
+ghost use Rattle.lexer.specs.Base.{given, pick};
+ghost use Rattle.lexer.specs.Stored.{range};
+ghost use Rattle.lexer.specs.declared.refusal.Refusal.{Refusal};
+ghost use Rattle.parser.specs.DataHeld.{Declared·placed, declared};
+ghost use Rattle.parser.specs.StateHeld.{Reader, data·of, matrix·of, names·in, sizes·of, state·of, stepped, style·of};
+ghost use Rattle.parser.specs.StatePlaced.{Command·placed, Data·placed, State·placed, Stepped·placed};
+ghost use Rattle.parser.specs.declared.state.Matrix.{Matrix};
+ghost use mathlib.Core.Bool.{false};
+ghost use mathlib.Core.List.{List};
+ghost use mathlib.Core.Path.{_≡_};
+use super::blocks::names_given;
+use super::state::Data;
+use super::state::Matrix;
+use super::state::Names;
+use super::state::Phase;
+use super::state::Sizes;
+use super::state::State;
+use super::state::Stepped;
+use super::state::Style;
+use block::FormatAnswer;
+use block::Judged;
+use block::Sized;
+use block::dimensions::dimensions;
+use block::format;
+use block::unique_names;
+use lexer::Refusal;
+
+// The data of the open block after a command, or its refusal.
+pub enum Declared {
+    Data(Data),
+    Refused(Refusal, usize),
+}
+
+// The state with other data in its open block.
+fn in_data(s: State, b: usize, d: Data) -> State
+    ensures step { λ r. ⌜ ((m : Reader) (text work : List ℕ) → state·of m text work r ≡ in·phase (in·data b (data·of m text work d)) (state·of m text work s)) ⌝ }
+    ensures placed { λ r. ⌜ ((text front : List ℕ) (size : ℕ) → State·placed text front size s → Data·placed text front size d → s .matrix ≡ Matrix.None → State·placed text front size r) ⌝ }
+{
+    let taxa = s.taxa;
+    let matrix = s.matrix;
+    State {
+        phase: Phase::Data(b),
+        data: d,
+        taxa,
+        matrix,
+        assumptions: s.assumptions,
+    }
+}
+
+// Were dimensions declared?
+fn sizes_given(sizes: Sizes) -> bool
+    ensures { λ r. ⌜ r ≡ given (sizes·of sizes) ⌝ }
+{
+    match sizes {
+        Sizes::None => false,
+        Sizes::Given(_) => true,
+    }
+}
+
+// Was a format given?
+fn style_given(style: Style) -> bool
+    ensures { λ r. ⌜ ((text work : List ℕ) → r ≡ given (style·of text work style)) ⌝ }
+{
+    match style {
+        Style::None => false,
+        Style::Given(_) => true,
+    }
+}
+
+// DIMENSIONS, once.
+fn declare_sizes(text: &[u8], starts: &[u32], d: Data, head: usize, to: usize) -> Declared
+    requires { ⌜ head < to ⌝ }
+    ensures step { λ r. ⌜ ((m : Reader) → declared m (now (text .entry)) (now (starts .entry)) r ≡ pick (given (sizes·of (d .sizes))) (refused Refusal.Command head) (then (dimensions (words (range (now (text .entry)) (now (starts .entry)) (head + 1) to))) (λ x. done (with·dimensions (data·of m (now (text .entry)) (now (starts .entry)) d) x)))) ⌝ }
+    ensures placed { λ r. ⌜ ((size : ℕ) → Data·placed (now (text .entry)) (now (starts .entry)) size d → Declared·placed (now (text .entry)) (now (starts .entry)) size r) ⌝ }
+{
+    let sizes = d.sizes;
+    let style = d.style;
+    let names = d.names;
+    let labels = d.labels;
+    let matrix = d.matrix;
+    if sizes_given(sizes) {
+        return Declared::Refused(Refusal::Command, head);
+    }
+    match dimensions(text, starts, head + 1, to) {
+        Sized::Dimensions(x) => Declared::Data(Data {
+            sizes: Sizes::Given(x),
+            style,
+            names,
+            labels,
+            matrix,
+        }),
+        Sized::Refused(n, i) => Declared::Refused(n, i),
+    }
+}
+
+// FORMAT, once.
+fn declare_style(text: &[u8], starts: &[u32], d: Data, head: usize, to: usize) -> Declared
+    requires { ⌜ head < to ⌝ }
+    ensures step { λ r. ⌜ ((m : Reader) → declared m (now (text .entry)) (now (starts .entry)) r ≡ pick (given (style·of (now (text .entry)) (now (starts .entry)) (d .style))) (refused Refusal.Command head) (then (format head (words (range (now (text .entry)) (now (starts .entry)) (head + 1) to))) (λ x. done (with·format (data·of m (now (text .entry)) (now (starts .entry)) d) x)))) ⌝ }
+    ensures placed { λ r. ⌜ ((size : ℕ) → Data·placed (now (text .entry)) (now (starts .entry)) size d → Declared·placed (now (text .entry)) (now (starts .entry)) size r) ⌝ }
+{
+    let sizes = d.sizes;
+    let style = d.style;
+    let names = d.names;
+    let labels = d.labels;
+    let matrix = d.matrix;
+    if style_given(style) {
+        return Declared::Refused(Refusal::Command, head);
+    }
+    match format(text, starts, head, head + 1, to) {
+        FormatAnswer::Done(o) => Declared::Data(Data {
+            sizes,
+            style: Style::Given(o),
+            names,
+            labels,
+            matrix,
+        }),
+        FormatAnswer::Refused(n, i) => Declared::Refused(n, i),
+    }
+}
+
+// TAXLABELS, once, and not where a TAXA block declared names.
+fn declare_names(text: &[u8], starts: &[u32], d: Data, head: usize, to: usize) -> Declared
+    requires { ⌜ head < to ⌝ }
+    ensures step { λ r. ⌜ ((m : Reader) → declared m (now (text .entry)) (now (starts .entry)) r ≡ pick (given (names·in (now (text .entry)) (now (starts .entry)) (d .names))) (refused Refusal.Command head) (then (unique·names (words (range (now (text .entry)) (now (starts .entry)) (head + 1) to))) (λ x. done (with·taxa (data·of m (now (text .entry)) (now (starts .entry)) d) x)))) ⌝ }
+    ensures placed { λ r. ⌜ ((size : ℕ) → Command·placed (now (starts .entry)) head to → Data·placed (now (text .entry)) (now (starts .entry)) size d → Declared·placed (now (text .entry)) (now (starts .entry)) size r) ⌝ }
+{
+    let sizes = d.sizes;
+    let style = d.style;
+    let names = d.names;
+    let labels = d.labels;
+    let matrix = d.matrix;
+    if names_given(names) {
+        return Declared::Refused(Refusal::Command, head);
+    }
+    match unique_names(text, starts, head + 1, to) {
+        Judged::Good => Declared::Data(Data {
+            sizes,
+            style,
+            names: Names::Words(head + 1, to),
+            labels,
+            matrix,
+        }),
+        Judged::Refused(n, i) => Declared::Refused(n, i),
+    }
+}
+
+// The end of the block, which must have had a matrix.
+pub fn data_end(s: State, b: usize) -> Stepped
+    ensures step { λ r. ⌜ ((m : Reader) (text work : List ℕ) → stepped m text work r ≡ data·end (state·of m text work s) b (matrix·of m text work (s .«data» .matrix))) ⌝ }
+    ensures placed { λ r. ⌜ ((text front : List ℕ) (size : ℕ) → State·placed text front size s → Data·placed text front size (s .«data») → Stepped·placed text front size r) ⌝ }
+{
+    let data = s.data;
+    let taxa = s.taxa;
+    let matrix = data.matrix;
+    match matrix {
+        Matrix::None => Stepped::Refused(Refusal::Absent, b),
+        Matrix::Read(_) => Stepped::State(State {
+            phase: Phase::Outside,
+            data,
+            taxa,
+            matrix,
+            assumptions: s.assumptions,
+        }),
+    }
+}
