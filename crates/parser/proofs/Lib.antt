@@ -2,3 +2,4 @@
 pub mod AnswerLaws
 pub mod BlockLaws
 pub mod DataLaws
+pub mod LabelKindLaws

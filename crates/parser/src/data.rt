@@ -1,21 +1,26 @@
 // DATA and CHARACTERS, after parse_data in mod.rs: each command once, and the end of the block.
 
 ghost use Prim.Native.Nat.{ℕ, _+_, _<_};
-ghost use Rattle.block.specs.Blocks.{data·end, in·data, in·phase, with·dimensions, with·format, with·taxa};
+ghost use Rattle.block.specs.Blocks.{data·end, in·data, in·phase, label·step, labelled·by, labelling, same·labelling, with·dimensions, with·format, with·taxa};
 ghost use Rattle.block.specs.Commands.{words};
 ghost use Rattle.block.specs.Dimensions.{dimensions};
 ghost use Rattle.block.specs.Format.{format};
 ghost use Rattle.block.specs.Names.{unique·names};
 ghost use Rattle.block.specs.Outcome.{done, refused, then};
+ghost use Rattle.labels.specs.LabelLists.{commands·held};
 ghost use Rattle.lexer.specs.Base.{given, pick};
-ghost use Rattle.lexer.specs.Stored.{range};
+ghost use Rattle.lexer.specs.Stored.{range, word·of};
+ghost use Rattle.lexer.specs.Words.{is};
 ghost use Rattle.lexer.specs.declared.refusal.Refusal.{Refusal};
 ghost use Rattle.parser.specs.DataHeld.{Declared·placed, declared};
+ghost use Rattle.parser.specs.LabelKinds.{One·more, label·number, label·word};
 ghost use Rattle.parser.specs.StateHeld.{Reader, data·of, matrix·of, names·in, sizes·of, state·of, stepped, style·of};
-ghost use Rattle.parser.specs.StatePlaced.{Command·placed, Data·placed, State·placed, Stepped·placed};
+ghost use Rattle.parser.specs.StatePlaced.{Command·placed, Commands·placed, Data·placed, State·placed, Stepped·placed};
+ghost use Rattle.parser.specs.Stepping.{Answers};
 ghost use Rattle.parser.specs.declared.state.Matrix.{Matrix};
 ghost use mathlib.Core.Bool.{false};
 ghost use mathlib.Core.List.{List};
+ghost use mathlib.Core.Option.{some};
 ghost use mathlib.Core.Path.{_≡_};
 use super::blocks::names_given;
 use super::state::Data;
@@ -28,16 +33,26 @@ use super::state::Stepped;
 use super::state::Style;
 use block::FormatAnswer;
 use block::Judged;
+use block::Labelling;
 use block::Sized;
 use block::dimensions::dimensions;
 use block::format;
+use block::is;
 use block::unique_names;
+use labels::LabelCommand;
+use labels::LabelCommands;
 use lexer::Refusal;
 
 // The data of the open block after a command, or its refusal.
 pub enum Declared {
     Data(Data),
     Refused(Refusal, usize),
+}
+
+// Which label command a word is, if it is one.
+pub enum LabelWord {
+    None,
+    Labelling(Labelling),
 }
 
 // The state with other data in its open block.
@@ -151,6 +166,129 @@ fn declare_names(text: &[u8], starts: &[u32], d: Data, head: usize, to: usize) -
             matrix,
         }),
         Judged::Refused(n, i) => Declared::Refused(n, i),
+    }
+}
+
+// Which label command the word is.
+fn label_word(text: &[u8], starts: &[u32], i: usize) -> LabelWord
+    ensures { λ r. ⌜ label·word r ≡ labelling (word·of (now (text .entry)) (now (starts .entry)) i) ⌝ }
+{
+    if is(text, starts, i, b"CHARLABELS") {
+        return LabelWord::Labelling(Labelling::CharLabels);
+    }
+    if is(text, starts, i, b"STATELABELS") {
+        return LabelWord::Labelling(Labelling::StateLabels);
+    }
+    if is(text, starts, i, b"CHARSTATELABELS") {
+        return LabelWord::Labelling(Labelling::CharStateLabels);
+    }
+    LabelWord::None
+}
+
+// A number for each kind.
+fn label_number(l: Labelling) -> u8
+    ensures { λ r. ⌜ r ≡ label·number l ⌝ }
+{
+    match l {
+        Labelling::CharLabels => 0,
+        Labelling::StateLabels => 1,
+        Labelling::CharStateLabels => 2,
+    }
+}
+
+// Are the two of one kind?
+fn same_labelling(a: Labelling, b: Labelling) -> bool
+    ensures { λ r. ⌜ r ≡ same·labelling a b ⌝ }
+{
+    label_number(a) == label_number(b)
+}
+
+// Is the command of this kind?
+fn of_kind(l: Labelling, c: LabelCommand) -> bool
+    ensures { λ r. ⌜ r ≡ same·labelling l (c .what) ⌝ }
+{
+    let what = c.what;
+    same_labelling(l, what)
+}
+
+// Is one of the commands of this kind?
+fn labelled_by(l: Labelling, ls: LabelCommands) -> bool
+    ensures { λ r. ⌜ ((text work : List ℕ) → r ≡ labelled·by l (commands·held text work ls)) ⌝ }
+{
+    let count = ls.count;
+    let first = ls.first;
+    let second = ls.second;
+    let third = ls.third;
+    let one = (0 < count) & of_kind(l, first);
+    let two = (1 < count) & of_kind(l, second);
+    let three = (2 < count) & of_kind(l, third);
+    one | two | three
+}
+
+// The commands with one more behind them, which also stands in the places that are free.
+fn more_labels(ls: LabelCommands, c: LabelCommand) -> LabelCommands
+    requires { ⌜ ls .count < 3 ⌝ }
+    ensures { λ r. ⌜ One·more ls c r ⌝ }
+{
+    let first = ls.first;
+    let second = ls.second;
+    if ls.count == 0 {
+        return LabelCommands {
+            count: 1,
+            first: c,
+            second: c,
+            third: c,
+        };
+    }
+    if ls.count == 1 {
+        return LabelCommands {
+            count: 2,
+            first,
+            second: c,
+            third: c,
+        };
+    }
+    LabelCommands {
+        count: 3,
+        first,
+        second,
+        third: c,
+    }
+}
+
+// A label command, each kind once; no state that is placed has three without having each kind.
+fn declare_labels(d: Data, l: Labelling, head: usize, to: usize) -> Declared
+    ensures step { λ r. ⌜ ((m : Reader) (text work : List ℕ) (size : ℕ) → Answers (Commands·placed text work size (d .labels)) (declared m text work r) (label·step (data·of m text work d) (word·of text work head) (words (range text work (head + 1) to)) (some l))) ⌝ }
+    ensures placed { λ r. ⌜ ((text front : List ℕ) (size : ℕ) → Command·placed front head to → Data·placed text front size d → Declared·placed text front size r) ⌝ }
+{
+    let sizes = d.sizes;
+    let style = d.style;
+    let names = d.names;
+    let labels = d.labels;
+    let matrix = d.matrix;
+    if labelled_by(l, labels) {
+        return Declared::Refused(Refusal::Command, head);
+    }
+    if 2 < labels.count {
+        return Declared::Refused(Refusal::WorkMemoryShort, 0);
+    }
+    Declared::Data(Data {
+        sizes,
+        style,
+        names,
+        labels: more_labels(labels, LabelCommand { what: l, head, to }),
+        matrix,
+    })
+}
+
+// A command that is none of the first four.
+fn declare_other(text: &[u8], starts: &[u32], d: Data, head: usize, to: usize) -> Declared
+    ensures step { λ r. ⌜ ((m : Reader) (size : ℕ) → Answers (Commands·placed (now (text .entry)) (now (starts .entry)) size (d .labels)) (declared m (now (text .entry)) (now (starts .entry)) r) (label·step (data·of m (now (text .entry)) (now (starts .entry)) d) (word·of (now (text .entry)) (now (starts .entry)) head) (words (range (now (text .entry)) (now (starts .entry)) (head + 1) to)) (labelling (word·of (now (text .entry)) (now (starts .entry)) head)))) ⌝ }
+    ensures placed { λ r. ⌜ ((size : ℕ) → Command·placed (now (starts .entry)) head to → Data·placed (now (text .entry)) (now (starts .entry)) size d → Declared·placed (now (text .entry)) (now (starts .entry)) size r) ⌝ }
+{
+    match label_word(text, starts, head) {
+        LabelWord::None => Declared::Refused(Refusal::Command, head),
+        LabelWord::Labelling(l) => declare_labels(d, l, head, to),
     }
 }
 
