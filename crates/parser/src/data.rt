@@ -1,14 +1,14 @@
 // DATA and CHARACTERS, after parse_data in mod.rs: each command once, and the end of the block.
 
 ghost use Prim.Native.Nat.{ℕ, _+_, _<_};
-ghost use Rattle.block.specs.Blocks.{data·end, in·data, in·phase, label·step, labelled·by, labelling, same·labelling, with·dimensions, with·format, with·taxa};
+ghost use Rattle.block.specs.Blocks.{data·command, data·end, data·step, in·data, in·phase, label·step, labelled·by, labelling, same·labelling, with·dimensions, with·format, with·taxa};
 ghost use Rattle.block.specs.Commands.{words};
 ghost use Rattle.block.specs.Dimensions.{dimensions};
 ghost use Rattle.block.specs.Format.{format};
 ghost use Rattle.block.specs.Names.{unique·names};
 ghost use Rattle.block.specs.Outcome.{done, refused, then};
 ghost use Rattle.labels.specs.LabelLists.{commands·held};
-ghost use Rattle.lexer.specs.Base.{given, pick};
+ghost use Rattle.lexer.specs.Base.{bytes, given, pick};
 ghost use Rattle.lexer.specs.Stored.{range, word·of};
 ghost use Rattle.lexer.specs.Words.{is};
 ghost use Rattle.lexer.specs.declared.refusal.Refusal.{Refusal};
@@ -22,6 +22,7 @@ ghost use mathlib.Core.Bool.{false};
 ghost use mathlib.Core.List.{List};
 ghost use mathlib.Core.Option.{some};
 ghost use mathlib.Core.Path.{_≡_};
+use super::blocks::matrix_given;
 use super::blocks::names_given;
 use super::state::Data;
 use super::state::Matrix;
@@ -289,6 +290,41 @@ fn declare_other(text: &[u8], starts: &[u32], d: Data, head: usize, to: usize) -
     match label_word(text, starts, head) {
         LabelWord::None => Declared::Refused(Refusal::Command, head),
         LabelWord::Labelling(l) => declare_labels(d, l, head, to),
+    }
+}
+
+// A command that is not MATRIX.
+fn data_command(text: &[u8], starts: &[u32], d: Data, head: usize, to: usize) -> Declared
+    requires { ⌜ head < to ⌝ }
+    ensures step { λ r. ⌜ ((m : Reader) (size : ℕ) → is (bytes "MATRIX") (word·of (now (text .entry)) (now (starts .entry)) head) ≡ false → Answers (Commands·placed (now (text .entry)) (now (starts .entry)) size (d .labels)) (declared m (now (text .entry)) (now (starts .entry)) r) (data·command (data·of m (now (text .entry)) (now (starts .entry)) d) (word·of (now (text .entry)) (now (starts .entry)) head) (range (now (text .entry)) (now (starts .entry)) (head + 1) to))) ⌝ }
+    ensures placed { λ r. ⌜ ((size : ℕ) → Command·placed (now (starts .entry)) head to → Data·placed (now (text .entry)) (now (starts .entry)) size d → Declared·placed (now (text .entry)) (now (starts .entry)) size r) ⌝ }
+{
+    if is(text, starts, head, b"DIMENSIONS") {
+        return declare_sizes(text, starts, d, head, to);
+    }
+    if is(text, starts, head, b"FORMAT") {
+        return declare_style(text, starts, d, head, to);
+    }
+    if is(text, starts, head, b"TAXLABELS") {
+        return declare_names(text, starts, d, head, to);
+    }
+    declare_other(text, starts, d, head, to)
+}
+
+// The step that a command other than MATRIX makes; behind the matrix there is none.
+pub fn data_step(text: &[u8], starts: &[u32], s: State, b: usize, head: usize, to: usize) -> Stepped
+    requires { ⌜ head < to ⌝ }
+    ensures step { λ r. ⌜ ((m : Reader) (size : ℕ) → is (bytes "MATRIX") (word·of (now (text .entry)) (now (starts .entry)) head) ≡ false → Answers (Data·placed (now (text .entry)) (now (starts .entry)) size (s .«data»)) (stepped m (now (text .entry)) (now (starts .entry)) r) (then (data·step (word·of (now (text .entry)) (now (starts .entry)) head) (range (now (text .entry)) (now (starts .entry)) (head + 1) to) b (data·of m (now (text .entry)) (now (starts .entry)) (s .«data»))) (λ p. done (in·phase p (state·of m (now (text .entry)) (now (starts .entry)) s))))) ⌝ }
+    ensures placed { λ r. ⌜ ((size : ℕ) → Command·placed (now (starts .entry)) head to → State·placed (now (text .entry)) (now (starts .entry)) size s → Data·placed (now (text .entry)) (now (starts .entry)) size (s .«data») → s .matrix ≡ Matrix.None → Stepped·placed (now (text .entry)) (now (starts .entry)) size r) ⌝ }
+{
+    let data = s.data;
+    let matrix = data.matrix;
+    if matrix_given(matrix) {
+        return Stepped::Refused(Refusal::Command, head);
+    }
+    match data_command(text, starts, data, head, to) {
+        Declared::Data(d) => Stepped::State(in_data(s, b, d)),
+        Declared::Refused(n, i) => Stepped::Refused(n, i),
     }
 }
 
