@@ -1,7 +1,10 @@
 -- What the proofs of this crate rest on, and what other crates may cite.
+pub mod AnswerLaws
 pub mod BlockLaws
+pub mod DataLaws
 pub mod FormatHeld
 pub mod HeldLaws
+pub mod LabelKindLaws
 pub mod MapFits
 pub mod ShapeLaws
 pub mod StatesPlaced

@@ -2,6 +2,8 @@
 pub mod WorkMap
 pub mod StateHeld
 pub mod MatrixHeld
+pub mod LabelKinds
 pub mod StatePlaced
+pub mod DataHeld
 pub mod Stepping
 pub mod Storing

@@ -4,8 +4,9 @@
 use Prim.Native.Nat.{ℕ, _≤_, _<_}
 use Rattle.block.specs.Format.{Format, format·of}
 use Rattle.block.specs.Formats.{options·of}
-use Rattle.labels.specs.LabelLists.{Fits}
+use Rattle.labels.specs.LabelLists.{Fits, commands·held}
 use Rattle.labels.specs.declared.labels.LabelCommands.{LabelCommands}
+use Rattle.parser.specs.LabelKinds.{kinds·among}
 use Rattle.parser.specs.WorkMap.{map·fits}
 use Rattle.parser.specs.declared.state.Data.{Data}
 use Rattle.parser.specs.declared.state.Held.{Held}
@@ -41,10 +42,12 @@ module _ (text front : List ℕ) (size : ℕ) where
   Style·placed Style.None = Unit {0}
   Style·placed (Style.Given o) = length (format·of (options·of text front o) .symbols) ≤ 74
 
+  -- No kind of label command comes twice.
   pub record Commands·placed (ls : LabelCommands) : Type 0 where
     pub first : Fits (length front) (ls .first)
     pub second : Fits (length front) (ls .second)
     pub third : Fits (length front) (ls .third)
+    pub kinds : ls .count ≡ kinds·among (commands·held text front ls)
 
   abbrev pub Matrix·placed : Matrix → Type 0
   Matrix·placed Matrix.None = Unit {0}
