@@ -5,6 +5,7 @@ use Rattle.block.specs.Formats.{Settled, meant, options·of}
 use Rattle.block.specs.declared.format_options.Options.{Options}
 use Rattle.block.specs.declared.formats.Format.{Format}
 use Rattle.lexer.proofs.Basics.{by-test}
+use Rattle.lexer.specs.Base.{bytes}
 use Rattle.parser.specs.MatrixHeld.{format·held}
 use Rattle.parser.specs.StateHeld.{style·of}
 use Rattle.parser.specs.Storing.{symbols·few}
@@ -34,6 +35,10 @@ module _ (f : Format) (g : F.Format) (s : Settled f g) where
         t ∙ sym (le-leb (length (g .symbols)) 74 (omega (arith, same, length-take (f .count) (f .symbols)))))
       (λ n. n ∙ sym (lt-leb (length (g .symbols)) 74 (s .many (leb-false (f .count) 74 n))))
 
+default-short : length (F.default·format .symbols) ≤ 74
+unfolding F.default·format bytes
+default-short = omega arith
+
 -- The same by the style.
 module _ (text front : List ℕ) (style : Style) where
   module _ (e : style ≡ Style.None) where
@@ -45,8 +50,8 @@ module _ (text front : List ℕ) (style : Style) where
     default-meant f m = m ∙ held-default
 
     pub default-few : true ≡ symbols·few text front style
-    unfolding symbols·few F.default·format
-    default-few = rw (← held-default)
+    unfolding symbols·few
+    default-few = rw (← held-default) (sym (le-leb (length (F.default·format .symbols)) 74 default-short))
 
   module _ (o : Options) (e : style ≡ Style.Given o) where
     held-given : F.format·of (options·of text front o) ≡ format·held text front style

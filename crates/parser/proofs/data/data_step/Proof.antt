@@ -16,7 +16,7 @@ matrix-given-requires c κs = search needs
 
 returns : tie.Need-returns
 unfolding stepped word·of data·of
-returns c = ((λ m size other. answered (step-behind _ _ _ _ _ (sym (c .before .matrix-given .ensures m _ _) ∙ c .if1 .taken))), (λ size at p q e. tt))
+returns c = ((λ m size other. answered (step-behind _ _ _ _ _ (sym (c .before .matrix-given .ensures .0 m _ _) ∙ c .if1 .taken))), (λ size at p q e. tt))
 
 data-command-requires : tie.Need-data-command-requires
 data-command-requires c κs = search needs
@@ -35,13 +35,13 @@ unfolding stepped declared then data·of
 returns-2 c =
     let made = c .before .before .before .before in
     let told = c .before .before .d .given .1 in
-    ((λ m size other. step-open _ _ _ _ _ (sym (made .before .before .matrix-given .ensures m _ _) ∙ made .before .if1 .left) (answers-wider (λ p. p .labels) (made .data-command .ensures .0 m size other)) (rw told (ap done (c .in-data .ensures .0 m _ _)))), (λ size at p q e. c .in-data .ensures .1 _ _ size p (placed-told _ _ size told (made .data-command .ensures .1 size at q)) e))
+    ((λ m size other. step-open _ _ _ _ _ (sym (made .before .before .matrix-given .ensures .0 m _ _) ∙ made .before .if1 .left) (answers-wider (λ p. p .labels) (made .data-command .ensures .0 m size other)) (rw told (ap done (c .in-data .ensures .0 m _ _)))), (λ size at p q e. c .in-data .ensures .1 _ _ size p (placed-told _ _ size told (made .data-command .ensures .1 size at q)) e))
 
 returns-3 : tie.Need-returns-3
 unfolding stepped declared then data·of
 returns-3 c =
     let made = c .before .before .before in
-    ((λ m size other. step-open _ _ _ _ _ (sym (made .before .before .matrix-given .ensures m _ _) ∙ made .before .if1 .left) (answers-wider (λ p. p .labels) (made .data-command .ensures .0 m size other)) (rw (c .before .n .given .1))), (λ size at p q e. tt))
+    ((λ m size other. step-open _ _ _ _ _ (sym (made .before .before .matrix-given .ensures .0 m _ _) ∙ made .before .if1 .left) (answers-wider (λ p. p .labels) (made .data-command .ensures .0 m size other)) (rw (c .before .n .given .1))), (λ size at p q e. tt))
 
 pub data-step-spec : {M : Type 1} → statement M
 data-step-spec =

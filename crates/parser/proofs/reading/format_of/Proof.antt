@@ -19,10 +19,10 @@ of-requires : tie.Need-of-requires
 of-requires c κs = search needs
 
 returns : tie.Need-returns
-returns c = λ few. default-meant _ _ _ (c .before .before .enum-told .given .1) _ (c .default .ensures)
+returns c = λ few. default-meant _ _ _ (c .before .enum-told .given .1) _ (c .default .ensures)
 
 returns-2 : tie.Need-returns-2
-returns-2 c = given-meant _ _ _ _ (c .before .before .before .style .given .1) _ (c .of .ensures)
+returns-2 c = given-meant _ _ _ _ (c .before .before .style .given .1) _ (c .of .ensures)
 
 pub format-of-spec : {M : Type 1} → statement M
 format-of-spec =
