@@ -30,9 +30,9 @@ module _ (f : Format) (g : F.Format) (s : Settled f g) where
   settled-count =
       by-test (leb (f .count) 74)
       (λ t.
-        let few = leb-true (f .count) 74 t in
-        let same = ap (λ x. length (x .symbols)) (s .few few) in
-        t ∙ sym (le-leb (length (g .symbols)) 74 (omega (arith, same, length-take (f .count) (f .symbols)))))
+      let few = leb-true (f .count) 74 t in
+      let same = ap (λ x. length (x .symbols)) (s .few few) in
+      t ∙ sym (le-leb (length (g .symbols)) 74 (omega (arith, same, length-take (f .count) (f .symbols)))))
       (λ n. n ∙ sym (lt-leb (length (g .symbols)) 74 (s .many (leb-false (f .count) 74 n))))
 
 default-short : length (F.default·format .symbols) ≤ 74

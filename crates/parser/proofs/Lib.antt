@@ -6,6 +6,7 @@ pub mod FormatHeld
 pub mod HeldLaws
 pub mod LabelKindLaws
 pub mod MapFits
+pub mod OrderLaws
 pub mod ShapeLaws
 pub mod StatesPlaced
 pub mod StorableLaws

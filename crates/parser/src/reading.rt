@@ -1,16 +1,17 @@
 // MATRIX, after parse_data in mod.rs: what the matrix is to be, then its rows, their declared order and the labels.
 
-ghost use Prim.Native.Nat.{ℕ};
+ghost use Prim.Native.Nat.{ℕ, _<_};
 ghost use Rattle.block.specs.Blocks.{agrees, declared·count, matrix·shape};
 ghost use Rattle.block.specs.Formats.{meant};
 ghost use Rattle.parser.specs.MatrixHeld.{format·held};
 ghost use Rattle.parser.specs.StateHeld.{Reader, data·of, names·in};
-ghost use Rattle.parser.specs.Storing.{Order·made, command·within, commands·within, names·within, shape·of, storable, symbols·few};
+ghost use Rattle.parser.specs.Storing.{Labels·made, Order·made, command·within, commands·within, names·within, shape·of, storable, symbols·few};
 ghost use Rattle.parser.specs.WorkMap.{map·fits};
 ghost use lib.ListN.{length};
 ghost use mathlib.Core.Bool.{true};
 ghost use mathlib.Core.Path.{_≡_};
 use super::blocks::matrix_given;
+use super::map::labels_place;
 use super::map::order_place;
 use super::state::Data;
 use super::state::Matrix;
@@ -22,6 +23,7 @@ use block::Judged;
 use block::count_words;
 use labels::LabelCommand;
 use labels::LabelCommands;
+use labels::apply_labels;
 use lexer::Refusal;
 use matrix::arrange;
 
@@ -164,5 +166,35 @@ fn taxa_order(
             order_place(count, lines, taxa),
             head,
         ),
+    }
+}
+
+// Behind its rows, the order of the taxa and the labels of a matrix are stored.
+fn order_labels(
+    text: &[u8],
+    work: &mut [u32],
+    count: usize,
+    d: Data,
+    head: usize,
+    lines: usize,
+    taxa: usize,
+    characters: usize,
+    symbols: usize,
+) -> Judged
+    requires { ⌜ (map·fits (length (now work)) count lines taxa characters ≡ true) × (names·within count (d .names) ≡ true) × (commands·within count (d .labels) ≡ true) × (symbols < 128) ⌝ }
+    ensures { λ r. ⌜ Labels·made (now (text .entry)) (now (work .entry)) (now (work .exit)) count lines taxa characters symbols head d r ⌝ }
+{
+    let names = d.names;
+    let labels = d.labels;
+    match taxa_order(text, work, count, names, lines, taxa, head) {
+        Judged::Good => apply_labels(
+            text,
+            work,
+            labels,
+            symbols,
+            characters,
+            labels_place(count, lines, taxa),
+        ),
+        Judged::Refused(n, i) => Judged::Refused(n, i),
     }
 }

@@ -1,35 +1,34 @@
-use borrow.Author.Needs.{needs}
+-- The function `storable` meets its contract: one test after the other. Assumes nothing.
+use Rattle.parser.proofs.StorableLaws.{storable-long, storable-short, both-short, none-held}
+use Rattle.parser.proofs.blocks.matrix_given.Reads as matrix-given-reads
 use Rattle.parser.proofs.reading.storable.Statement.{statement}
 use Rattle.parser.proofs.reading.storable.Tie as tie
-use Rattle.parser.proofs.reading.storable.Reads as reads
-use Rattle.parser.proofs.reading.storable.Lts as lts
-use Rattle.parser.proofs.blocks.matrix_given.Reads as matrix-given-reads
-use Rattle.parser.proofs.reading.commands_within.Reads as commands-within-reads
-use Rattle.parser.proofs.reading.names_within.Reads as names-within-reads
+use Rattle.parser.specs.MatrixHeld.{held}
+use borrow.Author.Needs.{needs}
+use mathlib.Core.Bool.{not}
+use mathlib.Core.List.{[]}
+use mathlib.Core.Path.{ap, _∙_}
+use native.Mathlib.Omega.{arith}
 
--- src/reading.rt:108:9
 returns : tie.Need-returns
-returns c = ?
+returns c = storable-long _ _ _ _ _ _ (c .if1 .taken)
 
--- src/reading.rt:112:6
 add-result : tie.Need-add-result
-add-result c = ?
+add-result c = let a = c .before .before .args in let n = both-short (a .bytes) (a .count) (c .before .if1 .left) in record { fits = omega (arith, n .1) }
 
--- src/reading.rt:114:12
 matrix-given-requires : tie.Need-matrix-given-requires
 matrix-given-requires c κs = search needs
 
--- src/reading.rt:115:11
 names-within-requires : tie.Need-names-within-requires
 names-within-requires c κs = search needs
 
--- src/reading.rt:116:11
 commands-within-requires : tie.Need-commands-within-requires
 commands-within-requires c κs = search needs
 
--- src/reading.rt:104:1
 returns-2 : tie.Need-returns-2
-returns-2 c = ?
+returns-2 c =
+    let m = c .before .before in
+    storable-short _ _ _ _ _ _ _ _ _ (m .before .before .if1 .left) (ap not (m .matrix-given .ensures .0 (held [] [] 0) [] []) ∙ none-held _ _ _ _) (c .before .names-within .ensures) (c .commands-within .ensures)
 
 pub storable-spec : {M : Type 1} → statement M
 storable-spec =
