@@ -7,6 +7,7 @@ pub mod HeldLaws
 pub mod LabelKindLaws
 pub mod MapFits
 pub mod ShapeLaws
+pub mod StartsLaws
 pub mod StatesPlaced
 pub mod StorableLaws
 pub mod TaxaLaws
