@@ -5,6 +5,7 @@ pub mod DataLaws
 pub mod FormatHeld
 pub mod HeldLaws
 pub mod LabelKindLaws
+pub mod LexedEnough
 pub mod MapEnough
 pub mod MapFits
 pub mod ShapeLaws

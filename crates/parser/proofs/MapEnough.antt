@@ -40,7 +40,7 @@ module _ (text work : List ℕ) where
       let earlier = earlier-light (to - 0) (count - 0) 0 (omega arith) in
       omega (arith, later, earlier)
 
--- With n bytes there are at most n tokens, and lines and characters together are at most n, taxa no more than lines.
+-- The text has no fewer bytes than there are tokens, and no fewer than there are lines and characters together; taxa are no more than lines.
 module _ {text before after : List ℕ} {count head to taxa characters n : ℕ} {f : Format} where
   pub map-enough : Enough text before count → Command·placed (take count before) head to → count ≤ length before
       → Rows·taken text before after count (head + 1) to taxa characters head f (Rows.Done n) → 1 ≤ taxa → map·fits (length after) count n taxa characters ≡ true
