@@ -5,9 +5,12 @@ pub mod DataLaws
 pub mod FormatHeld
 pub mod HeldLaws
 pub mod LabelKindLaws
+pub mod LexedEnough
+pub mod MapEnough
 pub mod MapFits
 pub mod OrderLaws
 pub mod ShapeLaws
+pub mod StartsLaws
 pub mod StatesPlaced
 pub mod StorableLaws
 pub mod TaxaLaws
