@@ -1,4 +1,6 @@
 -- What the proofs of this crate rest on, and what other crates may cite.
 pub mod BlockLaws
+pub mod EndLaws
 pub mod HeldLaws
 pub mod MapFits
+pub mod RoomLaws

@@ -4,3 +4,4 @@ pub mod StateHeld
 pub mod MatrixHeld
 pub mod StatePlaced
 pub mod Stepping
+pub mod TypesRoom
