@@ -1,4 +1,5 @@
 -- What the proofs of this crate rest on, and what other crates may cite.
+pub mod AssumptionLaws
 pub mod BlockLaws
 pub mod EndLaws
 pub mod HeldLaws

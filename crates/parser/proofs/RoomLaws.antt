@@ -25,7 +25,6 @@ use mathlib.Core.Option.{Option, none, some}
 use mathlib.Core.Path.{_≡_, refl, sym, ap, _∙_}
 use native.Mathlib.Omega.{arith}
 
--- The place by the tests of the code
 module _ (size count : ℕ) (matrix : Matrix) where
   pub room-none : matrix ≡ Matrix.None → Room.At count 0 ≡ types·room size count matrix
   unfolding types·room

@@ -12,10 +12,10 @@ ghost use Rattle.lexer.specs.Stored.{range, word·of};
 ghost use Rattle.parser.specs.MatrixHeld.{held};
 ghost use Rattle.parser.specs.StateHeld.{Reader, Retypes, matrix·of, names·in, set·of, state·of, stepped, types·of};
 ghost use Rattle.parser.specs.StatePlaced.{Matrix·placed, State·placed, Stepped·placed, Untyped};
-ghost use Rattle.parser.specs.Stepping.{Answers, Made, state·held, step·held};
+ghost use Rattle.parser.specs.Stepping.{Made, state·held};
 ghost use Rattle.parser.specs.TypesRoom.{types·room};
 ghost use lib.ListN.{length, take};
-ghost use mathlib.Core.Bool.{true};
+ghost use mathlib.Core.Bool.{false, true};
 ghost use mathlib.Core.List.{List};
 ghost use mathlib.Core.Option.{some};
 ghost use mathlib.Core.Path.{_≡_};
@@ -106,6 +106,55 @@ fn after_typeset(s: State, b: usize, default: TypeWord, answer: Judged) -> Stepp
         Judged::Good => Stepped::State(in_assumptions(s, b, default, true)),
         Judged::Refused(n, i) => Stepped::Refused(n, i),
     }
+}
+
+// TYPESET, in a block without a set: its types are stored behind what the matrix reads from.
+fn typeset_step(
+    text: &[u8],
+    work: &mut [u32],
+    count: usize,
+    s: State,
+    b: usize,
+    default: TypeWord,
+    head: usize,
+    to: usize,
+) -> Stepped
+    requires { ⌜ (count ≤ length (now work)) × (head < to) × (to ≤ count) ⌝ }
+    ensures { λ r. ⌜ (s .phase ≡ Phase.Assumptions b default false → Made (now (text .entry)) (now (work .entry)) (now (work .exit)) count head to s r (then (then (typeset (record { characters = characters·in (state·held (now (text .entry)) (now (work .entry)) count s .matrix); head = head }) (words (range (now (text .entry)) (take count (now (work .entry))) (head + 1) to))) (λ ts. done (in·assumptions b (type·word default) (some ts)))) (λ p. done (in·phase p (state·held (now (text .entry)) (now (work .entry)) count s))))) ⌝ }
+{
+    let matrix = s.matrix;
+    match types_room(matrix, work.len(), count) {
+        Room::At(at, n) => {
+            let answer = parse_typeset(text, work, head, head + 1, to, n, at);
+            after_typeset(s, b, default, answer)
+        }
+        Room::Short => Stepped::Refused(Refusal::WorkMemoryShort, 0),
+    }
+}
+
+// A command of ASSUMPTIONS: OPTIONS and TYPESET, each once.
+pub fn assumption_step(
+    text: &[u8],
+    work: &mut [u32],
+    count: usize,
+    s: State,
+    b: usize,
+    default: TypeWord,
+    typed: bool,
+    head: usize,
+    to: usize,
+) -> Stepped
+    requires { ⌜ (count ≤ length (now work)) × (head < to) × (to ≤ count) ⌝ }
+    ensures { λ r. ⌜ (s .phase ≡ Phase.Assumptions b default typed → Made (now (text .entry)) (now (work .entry)) (now (work .exit)) count head to s r (then (assumption·step (state·held (now (text .entry)) (now (work .entry)) count s) (word·of (now (text .entry)) (take count (now (work .entry))) head) (words (range (now (text .entry)) (take count (now (work .entry))) (head + 1) to)) b (type·word default) (set·of (held (now (text .entry)) (now (work .entry)) count) (now (text .entry)) (take count (now (work .entry))) (s .matrix) typed)) (λ p. done (in·phase p (state·held (now (text .entry)) (now (work .entry)) count s))))) ⌝ }
+{
+    if is(text, work, head, b"OPTIONS") & !type_given(default) {
+        let answer = options(text, work, head, head + 1, to);
+        return after_options(s, b, typed, answer);
+    }
+    if is(text, work, head, b"TYPESET") & !typed {
+        return typeset_step(text, work, count, s, b, default, head, to);
+    }
+    Stepped::Refused(Refusal::Command, head)
 }
 
 // The matrix with this default type, and with the types of the set, if one was read.
