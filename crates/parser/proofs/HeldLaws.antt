@@ -1,6 +1,6 @@
 -- What a held matrix reads as: a default type and a set are written over its own, it has its characters, and it is the same where work memory is the
 -- same in front of the types. Assumes nothing.
-use Prim.Native.Nat.{ℕ, zero, suc, _+_, _*_, _≤_, _<_, min}
+use Prim.Native.Nat.{ℕ, zero, suc, _+_, _*_, _≤_, _<_}
 use Rattle.assumptions.specs.TypesHeld.{type·word}
 use Rattle.assumptions.specs.declared.assumptions.TypeWord.{TypeWord}
 use Rattle.block.specs.Blocks.{unordered, retyped, with·types}
@@ -15,22 +15,20 @@ use Rattle.labels.specs.LabelSlots.{labels·of, labels·held}
 use Rattle.lexer.specs.Base.{pick}
 use Rattle.lexer.specs.Stored.{range}
 use Rattle.matrix.proofs.StoredRows.{stored-kept}
-use Rattle.matrix.specs.Lines.{stored}
 use Rattle.matrix.specs.OrderHeld.{ordered}
 use Rattle.parser.specs.MatrixHeld.{held, order·held, reading·held, rows·of, types·at, untyped·held}
-use Rattle.parser.specs.StateHeld.{Reader, Retypes, retyped·held}
+use Rattle.parser.specs.StateHeld.{Retypes}
 use Rattle.parser.specs.WorkMap.{labels·place, order·place, types·place}
 use Rattle.parser.specs.declared.state.Held.{Held}
 use Rattle.parser.specs.declared.state.Names.{Names}
 use lib.ListN.{getD, length, length-take, take}
 use lib.Seq.{getD-take, take-take}
-use mathlib.Core.Bool.{Bool, false}
+use mathlib.Core.Bool.{false}
 use mathlib.Core.List.{List, [], _∷_}
-use mathlib.Core.Option.{Option, Option·getD, none, some}
+use mathlib.Core.Option.{Option, Option·getD}
 use mathlib.Core.Path.{_≡_, refl, sym, ap, _∙_}
 use native.Mathlib.Omega.{arith}
 
--- Types over types: the later ones alone stand.
 retyped-over : (o p : CharacterOrdering) (ts us : Types) (cs : List Character) → retyped o ts (retyped p us cs) ≡ retyped o ts cs
 unfolding retyped
 retyped-over o p ts us [] = refl

@@ -1,7 +1,9 @@
 -- What the proofs of this crate rest on, and what other crates may cite.
 pub mod AnswerLaws
+pub mod AssumptionLaws
 pub mod BlockLaws
 pub mod DataLaws
+pub mod EndLaws
 pub mod FormatHeld
 pub mod HeldLaws
 pub mod LabelKindLaws
@@ -9,6 +11,7 @@ pub mod LexedEnough
 pub mod MapEnough
 pub mod MapFits
 pub mod OrderLaws
+pub mod RoomLaws
 pub mod ShapeLaws
 pub mod StartsLaws
 pub mod StatesPlaced

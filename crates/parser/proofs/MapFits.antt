@@ -5,7 +5,7 @@ use Rattle.lexer.specs.Lexing.{longest}
 use Rattle.parser.specs.WorkMap.{map·fits}
 use borrow.Author.Tests.{le-leb, leb-true}
 use lib.Dec.{leb}
-use mathlib.Core.Bool.{Bool, true, _&&_}
+use mathlib.Core.Bool.{true, _&&_}
 use mathlib.Core.Path.{_≡_}
 
 pub record Fitting (size count lines taxa characters : ℕ) : Type 0 where

@@ -7,3 +7,4 @@ pub mod StatePlaced
 pub mod DataHeld
 pub mod Stepping
 pub mod Storing
+pub mod TypesRoom

@@ -6,3 +6,4 @@ pub mod map;
 pub mod reading;
 pub mod state;
 pub mod taxa;
+pub mod types;
