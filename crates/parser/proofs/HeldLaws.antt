@@ -90,7 +90,7 @@ module _ (after before : List ℕ) (p : ℕ) (kept : take p after ≡ take p bef
   ordered-kept rows at [] h = refl
   ordered-kept rows at (n ∷ ns) h = rw (number-kept at (omega arith), ordered-kept rows (suc at) ns (omega arith))
 
-  order-kept : (text front : List ℕ) (at taxa : ℕ) (names : Names) (rows : List Taxon) → at + taxa ≤ p → order·held text front after at taxa names rows ≡ order·held text front before at taxa names rows
+  pub order-kept : (text front : List ℕ) (at taxa : ℕ) (names : Names) (rows : List Taxon) → at + taxa ≤ p → order·held text front after at taxa names rows ≡ order·held text front before at taxa names rows
   unfolding order·held
   order-kept text front at taxa Names.None rows h = refl
   order-kept text front at taxa (Names.Words from to) rows h =

@@ -7,6 +7,7 @@ pub mod EndLaws
 pub mod FormatHeld
 pub mod HeldLaws
 pub mod LabelKindLaws
+pub mod LabelsStored
 pub mod LexedEnough
 pub mod MapEnough
 pub mod MapFits

@@ -1,48 +1,47 @@
-use native.Mathlib.Omega.{arith}
-use borrow.Author.Needs.{needs}
+-- The function `order_labels` meets its contract: the order, then the labels. Assumes nothing.
+use Rattle.labels.proofs.apply_labels.Reads as apply-labels-reads
+use Rattle.parser.proofs.LabelsStored.{fits-order, labels-few, labels-room, labels-stored, order-refused}
+use Rattle.parser.proofs.map.labels_place.Reads as labels-place-reads
 use Rattle.parser.proofs.reading.order_labels.Statement.{statement}
 use Rattle.parser.proofs.reading.order_labels.Tie as tie
-use Rattle.parser.proofs.reading.order_labels.Reads as reads
-use Rattle.parser.proofs.reading.order_labels.Lts as lts
-use Rattle.labels.proofs.apply_labels.Reads as apply-labels-reads
-use Rattle.parser.proofs.map.labels_place.Reads as labels-place-reads
-use Rattle.parser.proofs.reading.taxa_order.Reads as taxa-order-reads
+use borrow.Author.Needs.{needs}
 
--- src/reading.rt:189:11
 taxa-order-requires : tie.Need-taxa-order-requires
-taxa-order-requires c κs = search needs
+taxa-order-requires c κs = let s = c .before .before .before .before in (fits-order _ _ _ _ _ (s .pre .0), s .pre .1)
 
--- src/reading.rt:192:13
 enum-told : tie.Need-enum-told
 enum-told c = search needs
 
--- src/reading.rt:196:13
 labels-place-requires : tie.Need-labels-place-requires
-labels-place-requires c κs = search needs
+labels-place-requires c κs = let s = c .before .before .before .before .before .before .before .before .before .before in labels-few _ _ _ _ _ (s .pre .0)
 
--- src/reading.rt:190:25
 apply-labels-requires : tie.Need-apply-labels-requires
-apply-labels-requires c κs = search needs
+apply-labels-requires c κs =
+    let t = c .before .before .before .before .before .before in
+    let s = t .before .before .before .before .before in
+    labels-room _ _ _ _ _ (s .pre .0) _ _ _ _ (t .taxa-order .ensures .size) (c .labels-place .ensures) (s .pre .2) (s .pre .3)
 
--- src/reading.rt:198:25
 enum-known-n : tie.Need-enum-known-n
 enum-known-n c = search needs
 
--- src/reading.rt:173:1
 same-length : tie.Need-same-length
 same-length c = search needs
 
--- src/reading.rt:173:1
 returns : tie.Need-returns
-returns c = ?
+returns c =
+    let a = c .before .before in
+    let e = a .before .before .before in
+    let t = e .before .before .before .before in
+    let s = t .before .before .before .before .before in
+    labels-stored _ _ _ _ _ _ _ _ _ _ (rw (e .enum-told .given .1) at (t .taxa-order .ensures)) _ (a .apply-labels .kept .1 .0) _ (a .before .labels-place .ensures) (a .apply-labels .ensures .0) (s .pre .2) _ (a .apply-labels .ensures .1)
 
--- src/reading.rt:173:1
 same-length-2 : tie.Need-same-length-2
 same-length-2 c = search needs
 
--- src/reading.rt:173:1
 returns-2 : tie.Need-returns-2
-returns-2 c = ?
+returns-2 c =
+    let t = c .before .before .before .before .before in
+    order-refused _ _ _ _ _ _ _ _ _ _ _ _ (rw (c .before .n .given .1) at (t .taxa-order .ensures))
 
 pub order-labels-spec : {M : Type 1} → statement M
 order-labels-spec =
