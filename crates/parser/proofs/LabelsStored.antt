@@ -77,7 +77,7 @@ module _ (text before mid : List ℕ) (count lines taxa characters symbols head 
           size = same ∙ o .size;
           kept = front-kept after mid at front (order·place count lines taxa) (omega (arith, p)) ∙ o .kept;
           each =
-            λ f taken named below agreed.
-            rw (← o .each taken named below agreed, order taken, ← p, ← commands)
-            (labels-judged f _ _ r _ labelled);
+              λ f taken named below agreed.
+              rw (← o .each taken named below agreed, order taken, ← p, ← commands)
+              (labels-judged f _ _ r _ labelled);
         }

@@ -11,6 +11,7 @@ pub mod LabelsStored
 pub mod LexedEnough
 pub mod MapEnough
 pub mod MapFits
+pub mod MatrixStored
 pub mod OrderLaws
 pub mod RoomLaws
 pub mod ShapeLaws

@@ -1,17 +1,19 @@
 // MATRIX, after parse_data in mod.rs: what the matrix is to be, then its rows, their declared order and the labels.
 
-ghost use Prim.Native.Nat.{ℕ, _<_};
+ghost use Prim.Native.Nat.{ℕ, _<_, _≤_};
 ghost use Rattle.block.specs.Blocks.{agrees, declared·count, matrix·shape};
 ghost use Rattle.block.specs.Formats.{meant};
+ghost use Rattle.matrix.specs.Lines.{Rows·room};
 ghost use Rattle.parser.specs.MatrixHeld.{format·held};
 ghost use Rattle.parser.specs.StateHeld.{Reader, data·of, names·in};
-ghost use Rattle.parser.specs.Storing.{Labels·made, Order·made, command·within, commands·within, names·within, shape·of, storable, symbols·few};
+ghost use Rattle.parser.specs.Storing.{Labels·made, Order·made, Reading·made, command·within, commands·within, names·within, shape·of, storable, symbols·few};
 ghost use Rattle.parser.specs.WorkMap.{map·fits};
-ghost use lib.ListN.{length};
+ghost use lib.ListN.{length, take};
 ghost use mathlib.Core.Bool.{true};
 ghost use mathlib.Core.Path.{_≡_};
 use super::blocks::matrix_given;
 use super::map::labels_place;
+use super::map::map_fits;
 use super::map::order_place;
 use super::state::Data;
 use super::state::Matrix;
@@ -25,7 +27,9 @@ use labels::LabelCommand;
 use labels::LabelCommands;
 use labels::apply_labels;
 use lexer::Refusal;
+use matrix::Rows;
 use matrix::arrange;
+use matrix::rows_of;
 
 // What the matrix is to be: how many taxa and characters; or a refusal of the command.
 pub enum MatrixShape {
@@ -196,5 +200,56 @@ fn order_labels(
             labels_place(count, lines, taxa),
         ),
         Judged::Refused(n, i) => Judged::Refused(n, i),
+    }
+}
+
+// A whole matrix, of a shape that was declared: its rows, then their order and the labels. 2 where work memory is too short for the map.
+fn matrix_reading(
+    text: &[u8],
+    work: &mut [u32],
+    count: usize,
+    d: Data,
+    head: usize,
+    to: usize,
+    taxa: u64,
+    characters: u64,
+) -> Rows
+    requires { ⌜ (head < to) × (count ≤ length (now work)) × Rows·room (now text) (now work) count to × (symbols·few (now text) (take count (now work)) (d .style) ≡ true) × (names·within count (d .names) ≡ true) × (commands·within count (d .labels) ≡ true) ⌝ }
+    ensures { λ r. ⌜ Reading·made (now (text .entry)) (now (work .entry)) (now (work .exit)) count head to taxa characters d r ⌝ }
+{
+    let style = d.style;
+    let format = format_of(text, &work[..count], style);
+    match rows_of(
+        text,
+        work,
+        count,
+        head + 1,
+        to,
+        taxa,
+        characters,
+        head,
+        format,
+    ) {
+        Rows::Done(lines) => {
+            if !map_fits(work.len(), count, lines, taxa, characters) {
+                return Rows::Refused(Refusal::WorkMemoryShort, 0);
+            }
+            let symbols = format.states();
+            match order_labels(
+                text,
+                work,
+                count,
+                d,
+                head,
+                lines,
+                taxa as usize,
+                characters as usize,
+                symbols,
+            ) {
+                Judged::Good => Rows::Done(lines),
+                Judged::Refused(n, i) => Rows::Refused(n, i),
+            }
+        }
+        Rows::Refused(n, i) => Rows::Refused(n, i),
     }
 }

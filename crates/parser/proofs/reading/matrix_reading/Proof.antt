@@ -1,0 +1,99 @@
+-- The function `matrix_reading` meets its contract: the rows, then their order and the labels. Assumes nothing.
+use Rattle.block.proofs.formats.Format.states.Reads as states-reads
+use Rattle.matrix.proofs.rows_of.Reads as rows-of-reads
+use Rattle.parser.proofs.MatrixStored.{rows-refused, rows-short, labels-refused, labels-good}
+use Rattle.parser.proofs.map.map_fits.Reads as map-fits-reads
+use Rattle.parser.proofs.reading.matrix_reading.Statement.{statement}
+use Rattle.parser.proofs.reading.matrix_reading.Tie as tie
+use borrow.Author.Needs.{needs}
+use borrow.Author.Tests.{not-true, not-false}
+use native.Mathlib.Omega.{arith}
+
+slice-reshare-prefix-format-of : tie.Need-slice-reshare-prefix-format-of
+slice-reshare-prefix-format-of c = search needs
+
+slice-aggregate-format-of : tie.Need-slice-aggregate-format-of
+slice-aggregate-format-of c = search needs
+
+format-of-requires : tie.Need-format-of-requires
+format-of-requires c κs = search needs
+
+add-rows-of : tie.Need-add-rows-of
+add-rows-of c = search needs
+
+rows-of-requires : tie.Need-rows-of-requires
+rows-of-requires c κs = search needs
+
+enum-known-lines : tie.Need-enum-known-lines
+enum-known-lines c = search needs
+
+map-fits-requires : tie.Need-map-fits-requires
+map-fits-requires c κs = search needs
+
+same-length : tie.Need-same-length
+same-length c = search needs
+
+returns : tie.Need-returns
+returns c = ?
+
+states-requires : tie.Need-states-requires
+states-requires c κs = search needs
+
+order-labels-requires : tie.Need-order-labels-requires
+order-labels-requires c κs =
+    let m = c .before .before in
+    let s = m .before .before .before .before .before .before .before .before .before .before .before .before .before in
+    let few = c .before .states .ensures .1 in
+    (not-false _ (m .if1 .left), ?, ?, omega (arith, few))
+
+enum-told : tie.Need-enum-told
+enum-told c = search needs
+
+enum-known-n : tie.Need-enum-known-n
+enum-known-n c = search needs
+
+enum-known-n-2 : tie.Need-enum-known-n-2
+enum-known-n-2 c = search needs
+
+same-length-2 : tie.Need-same-length-2
+same-length-2 c = search needs
+
+returns-2 : tie.Need-returns-2
+returns-2 c = ?
+
+same-length-3 : tie.Need-same-length-3
+same-length-3 c = search needs
+
+returns-3 : tie.Need-returns-3
+returns-3 c = ?
+
+same-length-4 : tie.Need-same-length-4
+same-length-4 c = search needs
+
+returns-4 : tie.Need-returns-4
+returns-4 c = ?
+
+pub matrix-reading-spec : {M : Type 1} → statement M
+matrix-reading-spec =
+    tie.close
+    (tie.spec
+    slice-reshare-prefix-format-of
+    slice-aggregate-format-of
+    format-of-requires
+    add-rows-of
+    rows-of-requires
+    enum-known-lines
+    map-fits-requires
+    same-length
+    returns
+    states-requires
+    order-labels-requires
+    enum-told
+    enum-known-n
+    enum-known-n-2
+    same-length-2
+    returns-2
+    same-length-3
+    returns-3
+    same-length-4
+    returns-4)
