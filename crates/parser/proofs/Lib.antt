@@ -2,6 +2,8 @@
 pub mod AssumptionLaws
 pub mod BlockLaws
 pub mod EndLaws
+pub mod FinishLaws
 pub mod HeldLaws
 pub mod MapFits
+pub mod OrderedLaws
 pub mod RoomLaws

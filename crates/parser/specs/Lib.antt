@@ -5,3 +5,4 @@ pub mod MatrixHeld
 pub mod StatePlaced
 pub mod Stepping
 pub mod TypesRoom
+pub mod ParsedHeld

@@ -1,6 +1,7 @@
 // The commands of a text, one after another, after mod.rs: the state between them, and what each does to it. What each function means stands in specs/.
 
 pub mod blocks;
+pub mod finish;
 pub mod map;
 pub mod state;
 pub mod types;
