@@ -118,15 +118,15 @@ assumption·right text work count head to s b default typed =
     (λ p. done (in·phase p (state·held text work count s)))
 
 module _ (text work : List ℕ) (count head to : ℕ) (s : State) (b : ℕ) (default : TypeWord) (typed : Bool) (ahead : head < to) (within : to ≤ count) (open·here : s .phase ≡ Phase.Assumptions b default typed)
-    (first untyped·yet : Bool) (is·first : first ≡ is (bytes "OPTIONS") (word·of text work head)) (is·given : untyped·yet ≡ given (type·word default)) where
+    (first was·given : Bool) (is·first : first ≡ is (bytes "OPTIONS") (word·of text work head)) (is·given : was·given ≡ given (type·word default)) where
   front : word·of text (take count work) head ≡ word·of text work head
   front = word-front text work count head (omega arith)
 
   -- the test for OPTIONS of the definition
-  tested : (t : Bool) → first && not untyped·yet ≡ t → is (bytes "OPTIONS") (word·of text (take count work) head) && not (given (type·word default)) ≡ t
+  tested : (t : Bool) → first && not was·given ≡ t → is (bytes "OPTIONS") (word·of text (take count work) head) && not (given (type·word default)) ≡ t
   tested t e = rw (front, ← is·first, ← is·given) e
 
-  pub options-made : first && not untyped·yet ≡ true → (a : OptionsAnswer) → options·answer a ≡ options (word·of text work head) (words (range text work (head + 1) to)) → (x : Stepped)
+  pub options-made : first && not was·given ≡ true → (a : OptionsAnswer) → options·answer a ≡ options (word·of text work head) (words (range text work (head + 1) to)) → (x : Stepped)
       → ((m : Reader) (t w : List ℕ) → stepped m t w x ≡ then (options·answer a) (λ o. done (in·phase (in·assumptions b (some o) (set·of m t w (s .matrix) typed)) (state·of m t w s))))
       → Placed·again s x
       → Made text work work count head to s x (assumption·right text work count head to s b default typed)
@@ -147,7 +147,7 @@ module _ (text work : List ℕ) (count head to : ℕ) (s : State) (b : ℕ) (def
       }
 
   -- behind that test
-  module _ (other : first && not untyped·yet ≡ false) (second : Bool) (is·second : second ≡ is (bytes "TYPESET") (word·of text work head)) where
+  module _ (other : first && not was·given ≡ false) (second : Bool) (is·second : second ≡ is (bytes "TYPESET") (word·of text work head)) where
     tested-second : (t : Bool) → second && not typed ≡ t → is (bytes "TYPESET") (word·of text (take count work) head) && not (given (set·of (held text work count) text (take count work) (s .matrix) typed)) ≡ t
     tested-second t e = rw (front, ← is·second, set-given (held text work count) text (take count work) (s .matrix) typed) e
 

@@ -60,7 +60,7 @@ unordered-untyped [] = refl
 unordered-untyped (l ∷ ls) = rw (unordered-untyped ls)
 
 module _ (text work : List ℕ) (count : ℕ) where
-  untyped-length : (h : Held) → length (untyped·held text work count h .characters) ≡ h .characters
+  pub untyped-length : (h : Held) → length (untyped·held text work count h .characters) ≡ h .characters
   unfolding untyped·held
   untyped-length h = unordered-length _ ∙ slots.held-length text work (labels·place count (h .lines) (h .taxa)) (h .characters)
 

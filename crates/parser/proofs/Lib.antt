@@ -4,6 +4,7 @@ pub mod AssumptionLaws
 pub mod BlockLaws
 pub mod DataLaws
 pub mod EndLaws
+pub mod FinishLaws
 pub mod FormatHeld
 pub mod HeldLaws
 pub mod LabelKindLaws
@@ -13,6 +14,7 @@ pub mod MapEnough
 pub mod MapFits
 pub mod MatrixStored
 pub mod OrderLaws
+pub mod OrderedLaws
 pub mod RoomLaws
 pub mod ShapeLaws
 pub mod StartsLaws

@@ -2,11 +2,12 @@
 use Prim.Native.Nat.{ℕ, _+_, _*_, _≤_}
 use Rattle.lexer.proofs.Basics.{and-both, and-left, and-right}
 use Rattle.lexer.specs.Lexing.{longest}
-use Rattle.parser.specs.WorkMap.{map·fits}
+use Rattle.parser.specs.WorkMap.{map·fits, types·place}
 use borrow.Author.Tests.{le-leb, leb-true}
 use lib.Dec.{leb}
 use mathlib.Core.Bool.{true, _&&_}
 use mathlib.Core.Path.{_≡_}
+use native.Mathlib.Omega.{arith}
 
 pub record Fitting (size count lines taxa characters : ℕ) : Type 0 where
   pub few·tokens : count ≤ 1048576
@@ -49,3 +50,8 @@ module _ (size count lines taxa characters : ℕ) where
       (le-leb characters 1048576 (x .few·characters)))
       (le-leb (count + lines + taxa + count) size (x .order)))
       (le-leb (count + lines + 2 * taxa + 3 * characters) size (x .types))
+
+  -- The types fit behind their place.
+  pub types-room : map·fits size count lines taxa characters ≡ true → (at : ℕ) → at ≡ types·place count lines taxa characters → at + characters ≤ size
+  unfolding types·place
+  types-room h at e = omega (arith, fitting h .types)

@@ -8,3 +8,4 @@ pub mod DataHeld
 pub mod Stepping
 pub mod Storing
 pub mod TypesRoom
+pub mod ParsedHeld

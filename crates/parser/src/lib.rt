@@ -2,6 +2,7 @@
 
 pub mod blocks;
 pub mod data;
+pub mod finish;
 pub mod map;
 pub mod reading;
 pub mod state;

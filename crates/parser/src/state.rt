@@ -76,3 +76,9 @@ pub enum Stepped {
     State(State),
     Refused(Refusal, usize),
 }
+
+// What a text comes to: the matrix that was read, or a refusal.
+pub enum Parsed {
+    Held(Held),
+    Refused(Refusal, usize),
+}
