@@ -91,13 +91,11 @@ module _ (text before mid : List ℕ) (count head to taxa characters : ℕ) (d :
       unfolding order·place
       same-lines = stored-kept after mid (order·place count lines taxa) count lines (l .kept) (omega arith)
 
-      told : agrees (names·in text (take count before) (d .names)) taxa ≡ true
-          → judged (reading·parts form (order·held text (take count before) after (order·place count lines taxa) taxa (d .names) taken) (labels·held text after (labels·place count lines taxa) characters)) r
-          ≡ order·labelled form head (length (form .symbols)) characters (names·in text (take count before) (d .names)) (commands·held text (take count before) (d .labels)) taken
+      told-by : (starts : List ℕ) → take count mid ≡ starts → agrees (names·in text starts (d .names)) taxa ≡ true
+          → judged (reading·parts form (order·held text starts after (order·place count lines taxa) taxa (d .names) taken) (labels·held text after (labels·place count lines taxa) characters)) r
+          ≡ order·labelled form head (length (form .symbols)) characters (names·in text starts (d .names)) (commands·held text starts (d .labels)) taken
       unfolding taken
-      told agreed =
-          let all = l .each form taken (t .named lines refl) (t .below lines refl) (rw (← t .kept) at agreed) in
-          rw (t .kept) at all
+      told-by starts e agreed = rw (← e) (l .each form taken (t .named lines refl) (t .below lines refl) (rw (← e) at agreed))
 
       -- What is held then is the matrix.
       as-held : reading·held text after count (held·of d head to lines taxa characters)
@@ -111,7 +109,7 @@ module _ (text before mid : List ℕ) (count head to taxa characters : ℕ) (d :
           record {
             size = l .size ∙ t .size;
             kept = front;
-            read = λ m agreed some·taxa. answered (rw e at (told agreed) ∙ behind-rows m);
+            read = λ m agreed some·taxa. answered (rw e at (told-by (take count before) (t .kept) agreed) ∙ behind-rows m);
             fits = λ k z. absurd (let z : _≡_ {A = ℕ} 0 1 = cc in omega arith);
           }
 
@@ -121,6 +119,6 @@ module _ (text before mid : List ℕ) (count head to taxa characters : ℕ) (d :
           record {
             size = l .size ∙ t .size;
             kept = front;
-            read = λ m agreed some·taxa. answered (ap done as-held ∙ rw e at (told agreed) ∙ behind-rows m);
+            read = λ m agreed some·taxa. answered (ap done as-held ∙ rw e at (told-by (take count before) (t .kept) agreed) ∙ behind-rows m);
             fits = λ k z. let same : lines ≡ k = cc in rw (← same, l .size) f;
           }

@@ -9,3 +9,4 @@ pub mod Stepping
 pub mod Storing
 pub mod TypesRoom
 pub mod ParsedHeld
+pub mod Steps

@@ -1,6 +1,7 @@
 -- MATRIX as the code reads it: what it is to be, whether its lines, order and labels may be stored, and what is promised of storing them.
 use Prim.Native.Nat.{ℕ, _+_, _≤_}
 use Rattle.assumptions.specs.declared.assumptions.TypeWord.{TypeWord}
+use Rattle.block.specs.Blocks as B
 use Rattle.block.specs.Blocks.{agrees, in·order, matrix·reading, unordered}
 use Rattle.block.specs.Format.{Format}
 use Rattle.block.specs.Judged.{judged}
@@ -14,20 +15,23 @@ use Rattle.labels.specs.LabelSlots.{labels·held}
 use Rattle.labels.specs.declared.labels.LabelCommand.{LabelCommand}
 use Rattle.labels.specs.declared.labels.LabelCommands.{LabelCommands}
 use Rattle.lexer.specs.Lexing.{longest}
-use Rattle.lexer.specs.Stored.{range}
+use Rattle.lexer.specs.Stored.{range, word·of}
 use Rattle.matrix.specs.Lines.{names·stored, stored}
 use Rattle.matrix.specs.OrderHeld.{all·below}
 use Rattle.matrix.specs.declared.matrix.Rows.{Rows}
-use Rattle.parser.specs.MatrixHeld.{format·held, order·held, reading·held}
+use Rattle.parser.specs.MatrixHeld.{format·held, held, order·held, reading·held}
 use Rattle.parser.specs.StateHeld.{Reader, data·of, names·in}
 use Rattle.parser.specs.StatePlaced.{Command·placed}
-use Rattle.parser.specs.Stepping.{Answers, Enough}
+use Rattle.parser.specs.Stepping.{Answers, Enough, Made, state·held}
 use Rattle.parser.specs.WorkMap.{labels·place, map·fits, order·place}
 use Rattle.parser.specs.declared.reading.MatrixShape.{MatrixShape}
 use Rattle.parser.specs.declared.state.Data.{Data}
 use Rattle.parser.specs.declared.state.Held.{Held}
 use Rattle.parser.specs.declared.state.Matrix.{Matrix}
 use Rattle.parser.specs.declared.state.Names.{Names}
+use Rattle.parser.specs.declared.state.Phase.{Phase}
+use Rattle.parser.specs.declared.state.State.{State}
+use Rattle.parser.specs.declared.state.Stepped.{Stepped}
 use Rattle.parser.specs.declared.state.Style.{Style}
 use lib.Dec.{leb, ltb}
 use lib.ListN.{length, take}
@@ -121,3 +125,24 @@ pub record Reading·made (text before after : List ℕ) (count head to taxa char
       → Answers (Enough text before count × Command·placed (take count before) head to) (rows·reading text after count d head to taxa characters r)
       (matrix·reading (data·of m text (take count before) d) (record { taxa = taxa; characters = characters; format = format·held text (take count before) (d .style); head = head }) (range text (take count before) (head + 1) to))
   pub fits : (lines : ℕ) → r ≡ Rows.Done lines → map·fits (length after) count lines taxa characters ≡ true
+
+-- The state behind MATRIX, by what its data block held before it.
+unfoldable pub matrix·step : List ℕ → List ℕ → ℕ → State → ℕ → ℕ → ℕ → Outcome B.State
+matrix·step text work count s b head to =
+    let d = data·of (held text work count) text (take count work) (s .«data») in
+    then (B.matrix d (word·of text (take count work) head) (range text (take count work) (head + 1) to)) (λ x.
+    done (B.in·phase (B.in·data b (B.with·matrix d x)) (state·held text work count s)))
+
+-- The same of a matrix whose shape is known.
+unfoldable pub reading·step : List ℕ → List ℕ → ℕ → State → ℕ → ℕ → ℕ → ℕ → ℕ → Outcome B.State
+reading·step text work count s b head to taxa characters =
+    let d = data·of (held text work count) text (take count work) (s .«data») in
+    let sh : Shape = record { taxa = taxa; characters = characters; format = format·held text (take count work) (s .«data» .style); head = head } in
+    then (matrix·reading d sh (range text (take count work) (head + 1) to)) (λ x.
+    done (B.in·phase (B.in·data b (B.with·matrix d x)) (state·held text work count s)))
+
+-- Storing it, where the count of taxa agrees with the declared names.
+abbrev pub Matrix·stored : (text before after : List ℕ) (count : ℕ) (s : State) (b head to taxa characters : ℕ) → Stepped → Type 0
+Matrix·stored text before after count s b head to taxa characters r =
+    s .phase ≡ Phase.Data b → agrees (names·in text (take count before) (s .«data» .names)) taxa ≡ true → 1 ≤ taxa
+    → Made text before after count head to s r (reading·step text before count s b head to taxa characters)

@@ -57,7 +57,7 @@ pub enum LabelWord {
 }
 
 // The state with other data in its open block.
-fn in_data(s: State, b: usize, d: Data) -> State
+pub fn in_data(s: State, b: usize, d: Data) -> State
     ensures step { λ r. ⌜ ((m : Reader) (text work : List ℕ) → state·of m text work r ≡ in·phase (in·data b (data·of m text work d)) (state·of m text work s)) ⌝ }
     ensures placed { λ r. ⌜ ((text front : List ℕ) (size : ℕ) → State·placed text front size s → Data·placed text front size d → s .matrix ≡ Matrix.None → State·placed text front size r) ⌝ }
 {

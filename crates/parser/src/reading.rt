@@ -1,24 +1,34 @@
 // MATRIX, after parse_data in mod.rs: what the matrix is to be, then its rows, their declared order and the labels.
 
 ghost use Prim.Native.Nat.{ℕ, _<_, _≤_};
-ghost use Rattle.block.specs.Blocks.{agrees, declared·count, matrix·shape};
+ghost use Rattle.block.specs.Blocks.{agrees, declared·count, matrix·shape, with·matrix};
 ghost use Rattle.block.specs.Formats.{meant};
 ghost use Rattle.matrix.specs.Lines.{Rows·room};
 ghost use Rattle.parser.specs.MatrixHeld.{format·held};
 ghost use Rattle.parser.specs.StateHeld.{Reader, data·of, names·in};
-ghost use Rattle.parser.specs.Storing.{Labels·made, Order·made, Reading·made, command·within, commands·within, names·within, shape·of, storable, symbols·few};
+ghost use Rattle.parser.specs.StatePlaced.{Data·placed};
+ghost use Rattle.parser.specs.Stepping.{Made};
+ghost use Rattle.parser.specs.Storing.{Labels·made, Matrix·stored, Order·made, Reading·made, command·within, commands·within, held·of, matrix·step, names·within, shape·of, storable, symbols·few};
 ghost use Rattle.parser.specs.WorkMap.{map·fits};
 ghost use lib.ListN.{length, take};
 ghost use mathlib.Core.Bool.{true};
+ghost use mathlib.Core.List.{List};
 ghost use mathlib.Core.Path.{_≡_};
 use super::blocks::matrix_given;
+use super::data::in_data;
 use super::map::labels_place;
 use super::map::map_fits;
 use super::map::order_place;
 use super::state::Data;
+use super::state::Held;
 use super::state::Matrix;
 use super::state::Names;
+use super::state::Phase;
+use super::state::Sizes;
+use super::state::State;
+use super::state::Stepped;
 use super::state::Style;
+use assumptions::TypeWord;
 use block::Dimensions;
 use block::Format;
 use block::Judged;
@@ -251,5 +261,106 @@ fn matrix_reading(
             }
         }
         Rows::Refused(n, i) => Rows::Refused(n, i),
+    }
+}
+
+// The data of a block with the matrix that was stored.
+fn with_matrix(
+    d: Data,
+    head: usize,
+    to: usize,
+    lines: usize,
+    taxa: usize,
+    characters: usize,
+) -> Data
+    ensures step { λ r. ⌜ ((m : Reader) (text work : List ℕ) → data·of m text work r ≡ with·matrix (data·of m text work d) (m .reading (held·of d head to lines taxa characters))) ⌝ }
+    ensures placed { λ r. ⌜ ((text front : List ℕ) (size : ℕ) → Data·placed text front size d → map·fits size (length front) lines taxa characters ≡ true → Data·placed text front size r) ⌝ }
+{
+    let names = d.names;
+    let style = d.style;
+    let sizes = d.sizes;
+    let labels = d.labels;
+    Data {
+        sizes,
+        style,
+        names,
+        labels,
+        matrix: Matrix::Read(Held {
+            names,
+            style,
+            head,
+            to,
+            lines,
+            taxa,
+            characters,
+            default: TypeWord::None,
+            typed: false,
+        }),
+    }
+}
+
+// MATRIX, of a shape that was declared, is stored, unless work memory is too short for any.
+fn matrix_stored(
+    text: &[u8],
+    work: &mut [u32],
+    count: usize,
+    s: State,
+    b: usize,
+    head: usize,
+    to: usize,
+    taxa: u64,
+    characters: u64,
+) -> Stepped
+    requires { ⌜ (count ≤ length (now work)) × (head < to) × (to ≤ count) ⌝ }
+    ensures { λ r. ⌜ Matrix·stored (now (text .entry)) (now (work .entry)) (now (work .exit)) count s b head to taxa characters r ⌝ }
+{
+    let d = s.data;
+    let held = s.matrix;
+    let style = d.style;
+    let few = symbols_few(text, &work[..count], style);
+    if !storable(text.len(), work.len(), count, held, d, few) {
+        return Stepped::Refused(Refusal::WorkMemoryShort, 0);
+    }
+    match matrix_reading(text, work, count, d, head, to, taxa, characters) {
+        Rows::Done(lines) => Stepped::State(in_data(
+            s,
+            b,
+            with_matrix(d, head, to, lines, taxa as usize, characters as usize),
+        )),
+        Rows::Refused(n, i) => Stepped::Refused(n, i),
+    }
+}
+
+// MATRIX.
+pub fn matrix(
+    text: &[u8],
+    work: &mut [u32],
+    count: usize,
+    s: State,
+    b: usize,
+    head: usize,
+    to: usize,
+) -> Stepped
+    requires { ⌜ (count ≤ length (now work)) × (head < to) × (to ≤ count) ⌝ }
+    ensures { λ r. ⌜ (s .phase ≡ Phase.Data b → Made (now (text .entry)) (now (work .entry)) (now (work .exit)) count head to s r (matrix·step (now (text .entry)) (now (work .entry)) count s b head to)) ⌝ }
+{
+    let d = s.data;
+    let sizes = d.sizes;
+    match sizes {
+        Sizes::None => Stepped::Refused(Refusal::Absent, head),
+        Sizes::Given(dims) => match matrix_shape(text, &work[..count], d, dims) {
+            MatrixShape::Counts(taxa, characters) => matrix_stored(
+                text,
+                work,
+                count,
+                s,
+                b,
+                head,
+                to,
+                taxa,
+                characters,
+            ),
+            MatrixShape::Refused(n) => Stepped::Refused(n, head),
+        },
     }
 }
