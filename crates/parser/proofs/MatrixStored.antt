@@ -46,6 +46,14 @@ module _ (text before mid : List ℕ) (count head to taxa characters : ℕ) (d :
   abbrev raw : List Numbered
   raw = range text (take count before) (head + 1) to
 
+  -- by the code's format and answer
+  pub rows-told : (f : Format) (r q : Rows) → f ≡ form → r ≡ q → Rows·taken text before mid count (head + 1) to taxa characters head f r → Taking q
+  rows-told f r q e g t = rw (g, e) at t
+
+  pub labels-told : (f : Format) (lines symbols : ℕ) (after : List ℕ) (r : Judged) → f ≡ form → symbols ≡ length (f .symbols) → Labels·made text mid after count lines taxa characters symbols head d r
+      → Labels·made text mid after count lines taxa characters (length (form .symbols)) head d r
+  labels-told f lines symbols after r e g l = rw (g, e) at l
+
   taken-rows : (r : Rows) → Taking r → rows·answer text mid count form taxa characters to r ≡ rows whole raw
   taken-rows r t = rw (range-front text before count (head + 1) to within) at (t .read)
 
