@@ -8,6 +8,7 @@ use Rattle.lexer.proofs.Basics.{by-test}
 use Rattle.lexer.specs.Base.{bytes}
 use Rattle.parser.specs.MatrixHeld.{format·held}
 use Rattle.parser.specs.StateHeld.{style·of}
+use Rattle.parser.specs.StatePlaced.{Style·placed}
 use Rattle.parser.specs.Storing.{symbols·few}
 use Rattle.parser.specs.declared.state.Style.{Style}
 use borrow.Author.Tests.{le-leb, lt-leb, leb-true, leb-false}
@@ -66,3 +67,9 @@ module _ (text front : List ℕ) (style : Style) where
       pub given-few : leb (f .count) 74 ≡ symbols·few text front style
       unfolding symbols·few
       given-few = settled-count f _ (rw held-given at s)
+
+-- A style that is placed has few symbols.
+pub placed-few : (text front : List ℕ) (size : ℕ) (style : Style) → Style·placed text front size style → symbols·few text front style ≡ true
+unfolding symbols·few format·held style·of
+placed-few text front size Style.None p = sym (default-few text front Style.None refl)
+placed-few text front size (Style.Given o) p = le-leb (length (F.format·of (options·of text front o) .symbols)) 74 p

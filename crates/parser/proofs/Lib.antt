@@ -12,6 +12,7 @@ pub mod LabelsStored
 pub mod LexedEnough
 pub mod MapEnough
 pub mod MapFits
+pub mod MatrixMade
 pub mod MatrixStored
 pub mod OrderLaws
 pub mod OrderedLaws

@@ -1,63 +1,56 @@
-use native.Mathlib.Omega.{arith}
-use borrow.Author.Needs.{needs}
+-- The function `matrix` meets its contract: its shape, then all of it. Assumes nothing.
+use Rattle.parser.proofs.MatrixMade.{matrix-absent, matrix-unshaped, matrix-shaped-made}
 use Rattle.parser.proofs.reading.matrix.Statement.{statement}
 use Rattle.parser.proofs.reading.matrix.Tie as tie
-use Rattle.parser.proofs.reading.matrix.Reads as reads
-use Rattle.parser.proofs.reading.matrix.Lts as lts
-use Rattle.parser.proofs.reading.matrix_shape.Reads as matrix-shape-reads
-use Rattle.parser.proofs.reading.matrix_stored.Reads as matrix-stored-reads
+use borrow.Author.Needs.{needs}
+use borrow.Table.Elements.{length-take-le}
+use mathlib.Core.Path.{sym}
 
--- src/reading.rt:350:41
 enum-told : tie.Need-enum-told
 enum-told c = search needs
 
--- src/reading.rt:351:22
 enum-known-sizes : tie.Need-enum-known-sizes
 enum-known-sizes c = search needs
 
--- src/reading.rt:351:56
 slice-reshare-prefix-matrix-shape : tie.Need-slice-reshare-prefix-matrix-shape
 slice-reshare-prefix-matrix-shape c = search needs
 
--- src/reading.rt:351:56
 slice-aggregate-matrix-shape : tie.Need-slice-aggregate-matrix-shape
-slice-aggregate-matrix-shape c = search needs
+slice-aggregate-matrix-shape c = let s = c .before .before .before .before .before .before .before in sym (length-take-le _ (s .args .work .now) (s .pre .0))
 
--- src/reading.rt:351:37
 matrix-shape-requires : tie.Need-matrix-shape-requires
 matrix-shape-requires c κs = search needs
 
--- src/reading.rt:352:33
 enum-known-taxa : tie.Need-enum-known-taxa
 enum-known-taxa c = search needs
 
--- src/reading.rt:352:54
 matrix-stored-requires : tie.Need-matrix-stored-requires
 matrix-stored-requires c κs = search needs
 
--- src/reading.rt:363:34
 enum-known-n : tie.Need-enum-known-n
 enum-known-n c = search needs
 
--- src/reading.rt:335:1
 returns : tie.Need-returns
-returns c = ?
+returns c = λ e. let s = c .before .before .before .before .before in matrix-absent _ _ (s .args .work .now) _ _ _ (s .args .s) _ (c .enum-told .given .1)
 
--- src/reading.rt:335:1
 same-length : tie.Need-same-length
 same-length c = search needs
 
--- src/reading.rt:335:1
 returns-2 : tie.Need-returns-2
-returns-2 c = ?
+returns-2 c =
+    let m = c .before .before .before .before .before .before .before in
+    let s = m .before .before .before .before .before .before .before .before in
+    matrix-shaped-made _ _ _ _ _ _ (s .args .s) _ _ (m .before .before .before .sizes .given .1) _ (m .matrix-shape .ensures) _ _ (c .before .before .before .before .before .taxa .given .1) _ (c .before .before .matrix-stored .ensures)
 
--- src/reading.rt:335:1
 same-length-2 : tie.Need-same-length-2
 same-length-2 c = search needs
 
--- src/reading.rt:335:1
 returns-3 : tie.Need-returns-3
-returns-3 c = ?
+returns-3 c =
+    λ e.
+    let m = c .before .before .before in
+    let s = m .before .before .before .before .before .before .before .before in
+    matrix-unshaped _ _ (s .args .work .now) _ _ _ (s .args .s) _ _ (m .before .before .before .sizes .given .1) _ (m .matrix-shape .ensures) _ (c .before .n .given .1)
 
 pub matrix-spec : {M : Type 1} → statement M
 matrix-spec =
