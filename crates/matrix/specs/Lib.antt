@@ -1,5 +1,6 @@
 -- What the rows of a matrix mean, as the code holds them.
 pub mod RowShape
+pub mod Taken
 pub mod Lines
 pub mod OrderHeld
 pub mod SequentialShape
