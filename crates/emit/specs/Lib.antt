@@ -1,0 +1,2 @@
+-- What putting bytes means.
+pub mod Puts
