@@ -191,8 +191,8 @@ fn order_labels(
     d: Data,
     head: usize,
     lines: usize,
-    taxa: usize,
-    characters: usize,
+    taxa: u64,
+    characters: u64,
     symbols: usize,
 ) -> Judged
     requires { ⌜ (map·fits (length (now work)) count lines taxa characters ≡ true) × (names·within count (d .names) ≡ true) × (commands·within count (d .labels) ≡ true) × (symbols < 128) ⌝ }
@@ -200,14 +200,15 @@ fn order_labels(
 {
     let names = d.names;
     let labels = d.labels;
-    match taxa_order(text, work, count, names, lines, taxa, head) {
+    let rows = taxa as usize;
+    match taxa_order(text, work, count, names, lines, rows, head) {
         Judged::Good => apply_labels(
             text,
             work,
             labels,
             symbols,
-            characters,
-            labels_place(count, lines, taxa),
+            characters as usize,
+            labels_place(count, lines, rows),
         ),
         Judged::Refused(n, i) => Judged::Refused(n, i),
     }
@@ -229,33 +230,14 @@ fn matrix_reading(
 {
     let style = d.style;
     let format = format_of(text, &work[..count], style);
-    match rows_of(
-        text,
-        work,
-        count,
-        head + 1,
-        to,
-        taxa,
-        characters,
-        head,
-        format,
-    ) {
+    let from = head + 1;
+    match rows_of(text, work, count, from, to, taxa, characters, head, format) {
         Rows::Done(lines) => {
             if !map_fits(work.len(), count, lines, taxa, characters) {
                 return Rows::Refused(Refusal::WorkMemoryShort, 0);
             }
             let symbols = format.states();
-            match order_labels(
-                text,
-                work,
-                count,
-                d,
-                head,
-                lines,
-                taxa as usize,
-                characters as usize,
-                symbols,
-            ) {
+            match order_labels(text, work, count, d, head, lines, taxa, characters, symbols) {
                 Judged::Good => Rows::Done(lines),
                 Judged::Refused(n, i) => Rows::Refused(n, i),
             }

@@ -20,8 +20,8 @@ slice-aggregate-format-of c = let s = c .before .before .before in sym (length-t
 format-of-requires : tie.Need-format-of-requires
 format-of-requires c κs = search needs
 
-add-rows-of : tie.Need-add-rows-of
-add-rows-of c = search needs
+add-from : tie.Need-add-from
+add-from c = search needs
 
 rows-of-requires : tie.Need-rows-of-requires
 rows-of-requires c κs = search needs
@@ -109,7 +109,7 @@ matrix-reading-spec =
     slice-reshare-prefix-format-of
     slice-aggregate-format-of
     format-of-requires
-    add-rows-of
+    add-from
     rows-of-requires
     enum-known-lines
     map-fits-requires
