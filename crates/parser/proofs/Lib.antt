@@ -19,5 +19,6 @@ pub mod RoomLaws
 pub mod ShapeLaws
 pub mod StartsLaws
 pub mod StatesPlaced
+pub mod StepLaws
 pub mod StorableLaws
 pub mod TaxaLaws
