@@ -2,6 +2,7 @@
 pub mod AnswerLaws
 pub mod AssumptionLaws
 pub mod BlockLaws
+pub mod DataInner
 pub mod DataLaws
 pub mod EndLaws
 pub mod FinishLaws
@@ -10,6 +11,7 @@ pub mod HeldLaws
 pub mod LabelKindLaws
 pub mod LabelsStored
 pub mod LexedEnough
+pub mod MadeLaws
 pub mod MapEnough
 pub mod MapFits
 pub mod MatrixStored
