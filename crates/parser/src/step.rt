@@ -63,3 +63,27 @@ fn data_inner(
     }
     matrix(text, work, count, s, b, head, to)
 }
+
+// A command inside the open block that does not end it. In TREES every command is passed over.
+fn inner_step(
+    text: &[u8],
+    work: &mut [u32],
+    count: usize,
+    s: State,
+    head: usize,
+    to: usize,
+) -> Stepped
+    requires { ⌜ (count ≤ length (now work)) × (head < to) × (to ≤ count) ⌝ }
+    ensures { λ r. ⌜ Made (now (text .entry)) (now (work .entry)) (now (work .exit)) count head to s r (then (inner·step (state·held (now (text .entry)) (now (work .entry)) count s) (word·of (now (text .entry)) (take count (now (work .entry))) head) (range (now (text .entry)) (take count (now (work .entry))) (head + 1) to) (phase·of (held (now (text .entry)) (now (work .entry)) count) (now (text .entry)) (take count (now (work .entry))) (s .«data») (s .matrix) (s .phase))) (λ p. done (in·phase p (state·held (now (text .entry)) (now (work .entry)) count s)))) ⌝ }
+{
+    let phase = s.phase;
+    match phase {
+        Phase::Outside => Stepped::State(in_phase(Phase::Outside, s)),
+        Phase::Taxa(b, n, names) => { taxa_step(text, &work[..count], s, b, n, names, head, to) }
+        Phase::Data(b) => data_inner(text, work, count, s, b, head, to),
+        Phase::Assumptions(b, default, typed) => {
+            assumption_step(text, work, count, s, b, default, typed, head, to)
+        }
+        Phase::Trees(b) => Stepped::State(in_phase(Phase::Trees(b), s)),
+    }
+}
