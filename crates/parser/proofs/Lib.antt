@@ -2,6 +2,8 @@
 pub mod AnswerLaws
 pub mod AssumptionLaws
 pub mod BlockLaws
+pub mod BlockMade
+pub mod CutMade
 pub mod DataInner
 pub mod DataLaws
 pub mod EndLaws
