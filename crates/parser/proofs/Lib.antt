@@ -2,6 +2,9 @@
 pub mod AnswerLaws
 pub mod AssumptionLaws
 pub mod BlockLaws
+pub mod BlockMade
+pub mod CutMade
+pub mod DataInner
 pub mod DataLaws
 pub mod EndLaws
 pub mod FinishLaws
@@ -10,6 +13,7 @@ pub mod HeldLaws
 pub mod LabelKindLaws
 pub mod LabelsStored
 pub mod LexedEnough
+pub mod MadeLaws
 pub mod MapEnough
 pub mod MapFits
 pub mod MatrixMade
@@ -20,5 +24,6 @@ pub mod RoomLaws
 pub mod ShapeLaws
 pub mod StartsLaws
 pub mod StatesPlaced
+pub mod StepLaws
 pub mod StorableLaws
 pub mod TaxaLaws

@@ -6,5 +6,6 @@ pub mod finish;
 pub mod map;
 pub mod reading;
 pub mod state;
+pub mod step;
 pub mod taxa;
 pub mod types;

@@ -1,0 +1,169 @@
+// The step over a command, after parse in mod.rs.
+
+ghost use Prim.Native.Nat.{ℕ, _+_, _<_, _≤_};
+ghost use Rattle.block.specs.Blocks as B;
+ghost use Rattle.block.specs.Blocks.{block·step, data·step, end·block, in·phase, inner·step, outside?};
+ghost use Rattle.block.specs.Commands.{command};
+ghost use Rattle.block.specs.Outcome.{done, then};
+ghost use Rattle.lexer.specs.Stored.{range, word·of};
+ghost use Rattle.parser.specs.MatrixHeld.{held};
+ghost use Rattle.parser.specs.StateHeld.{Reader, Retypes, data·of, phase·of, state·of, stepped};
+ghost use Rattle.parser.specs.StatePlaced.{State·placed, Stepped·placed};
+ghost use Rattle.parser.specs.Stepping.{Made, state·held};
+ghost use Rattle.parser.specs.Steps.{Step·made};
+ghost use Rattle.parser.specs.declared.state.Data.{Data};
+ghost use Rattle.parser.specs.declared.state.Matrix.{Matrix};
+ghost use lib.ListN.{length, take};
+ghost use mathlib.Core.List.{List};
+ghost use mathlib.Core.Path.{_≡_};
+use super::blocks::begin_words;
+use super::blocks::in_phase;
+use super::blocks::matrix_given;
+use super::data::data_end;
+use super::data::data_step;
+use super::reading::matrix;
+use super::state::Phase;
+use super::state::State;
+use super::state::Stepped;
+use super::taxa::taxa_end;
+use super::taxa::taxa_step;
+use super::types::assumption_step;
+use super::types::end_assumptions;
+use assumptions::assumptions::next_word;
+use block::Cut;
+use block::is;
+use lexer::Refusal;
+
+// END: what the open block declared is taken over, and no block is open.
+fn end_block(text: &[u8], starts: &[u32], s: State) -> Stepped
+    ensures step { λ r. ⌜ ((m : Reader) → Retypes m → stepped m (now (text .entry)) (now (starts .entry)) r ≡ end·block (state·of m (now (text .entry)) (now (starts .entry)) s) (phase·of m (now (text .entry)) (now (starts .entry)) (s .«data») (s .matrix) (s .phase))) ⌝ }
+    ensures placed { λ r. ⌜ ((size : ℕ) → State·placed (now (text .entry)) (now (starts .entry)) size s → Stepped·placed (now (text .entry)) (now (starts .entry)) size r) ⌝ }
+{
+    let phase = s.phase;
+    match phase {
+        Phase::Outside => Stepped::State(s),
+        Phase::Taxa(b, count, names) => taxa_end(text, starts, s, b, count, names),
+        Phase::Data(b) => data_end(s, b),
+        Phase::Assumptions(_, default, typed) => end_assumptions(s, default, typed),
+        Phase::Trees(_) => Stepped::State(in_phase(Phase::Outside, s)),
+    }
+}
+
+// A command of a data block: MATRIX, once, and any other in front of it.
+fn data_inner(
+    text: &[u8],
+    work: &mut [u32],
+    count: usize,
+    s: State,
+    b: usize,
+    head: usize,
+    to: usize,
+) -> Stepped
+    requires { ⌜ (count ≤ length (now work)) × (head < to) × (to ≤ count) ⌝ }
+    ensures { λ r. ⌜ (s .phase ≡ Phase.Data b → Made (now (text .entry)) (now (work .entry)) (now (work .exit)) count head to s r (then (data·step (word·of (now (text .entry)) (take count (now (work .entry))) head) (range (now (text .entry)) (take count (now (work .entry))) (head + 1) to) b (data·of (held (now (text .entry)) (now (work .entry)) count) (now (text .entry)) (take count (now (work .entry))) (s .«data»))) (λ p. done (in·phase p (state·held (now (text .entry)) (now (work .entry)) count s))))) ⌝ }
+{
+    if !is(text, work, head, b"MATRIX") {
+        return data_step(text, &work[..count], s, b, head, to);
+    }
+    let data = s.data;
+    let read = data.matrix;
+    if matrix_given(read) {
+        return Stepped::Refused(Refusal::Command, head);
+    }
+    matrix(text, work, count, s, b, head, to)
+}
+
+// A command inside the open block that does not end it. In TREES every command is passed over.
+fn inner_step(
+    text: &[u8],
+    work: &mut [u32],
+    count: usize,
+    s: State,
+    head: usize,
+    to: usize,
+) -> Stepped
+    requires { ⌜ (count ≤ length (now work)) × (head < to) × (to ≤ count) ⌝ }
+    ensures { λ r. ⌜ Made (now (text .entry)) (now (work .entry)) (now (work .exit)) count head to s r (then (inner·step (state·held (now (text .entry)) (now (work .entry)) count s) (word·of (now (text .entry)) (take count (now (work .entry))) head) (range (now (text .entry)) (take count (now (work .entry))) (head + 1) to) (phase·of (held (now (text .entry)) (now (work .entry)) count) (now (text .entry)) (take count (now (work .entry))) (s .«data») (s .matrix) (s .phase))) (λ p. done (in·phase p (state·held (now (text .entry)) (now (work .entry)) count s)))) ⌝ }
+{
+    let phase = s.phase;
+    match phase {
+        Phase::Outside => Stepped::State(in_phase(Phase::Outside, s)),
+        Phase::Taxa(b, n, names) => { taxa_step(text, &work[..count], s, b, n, names, head, to) }
+        Phase::Data(b) => data_inner(text, work, count, s, b, head, to),
+        Phase::Assumptions(b, default, typed) => {
+            assumption_step(text, work, count, s, b, default, typed, head, to)
+        }
+        Phase::Trees(b) => Stepped::State(in_phase(Phase::Trees(b), s)),
+    }
+}
+
+// A command inside a block: END or ENDBLOCK, alone, ends it, whatever block it is.
+fn block_step(
+    text: &[u8],
+    work: &mut [u32],
+    count: usize,
+    s: State,
+    head: usize,
+    to: usize,
+) -> Stepped
+    requires { ⌜ (count ≤ length (now work)) × (head < to) × (to ≤ count) ⌝ }
+    ensures { λ r. ⌜ Made (now (text .entry)) (now (work .entry)) (now (work .exit)) count head to s r (block·step (state·held (now (text .entry)) (now (work .entry)) count s) (word·of (now (text .entry)) (take count (now (work .entry))) head) (range (now (text .entry)) (take count (now (work .entry))) (head + 1) to)) ⌝ }
+{
+    if is(text, work, head, b"END") | is(text, work, head, b"ENDBLOCK") {
+        if next_word(text, work, head + 1, to) < to {
+            return Stepped::Refused(Refusal::WordsAfterEnd, head);
+        }
+        return end_block(text, &work[..count], s);
+    }
+    inner_step(text, work, count, s, head, to)
+}
+
+// Is no block open?
+fn is_outside(phase: Phase) -> bool
+    ensures { λ r. ⌜ ((m : Reader) (text work : List ℕ) (d : Data) (matrix : Matrix) → r ≡ outside? (phase·of m text work d matrix phase)) ⌝ }
+{
+    match phase {
+        Phase::Outside => true,
+        Phase::Taxa(_, _, _) => false,
+        Phase::Data(_) => false,
+        Phase::Assumptions(_, _, _) => false,
+        Phase::Trees(_) => false,
+    }
+}
+
+// A command: outside a block it begins one.
+fn command_step(
+    text: &[u8],
+    work: &mut [u32],
+    count: usize,
+    s: State,
+    head: usize,
+    to: usize,
+) -> Stepped
+    requires { ⌜ (count ≤ length (now work)) × (head < to) × (to ≤ count) ⌝ }
+    ensures { λ r. ⌜ Made (now (text .entry)) (now (work .entry)) (now (work .exit)) count head to s r (B.step (state·held (now (text .entry)) (now (work .entry)) count s) (command (word·of (now (text .entry)) (take count (now (work .entry))) head) (range (now (text .entry)) (take count (now (work .entry))) (head + 1) to))) ⌝ }
+{
+    let phase = s.phase;
+    if is_outside(phase) {
+        return begin_words(text, &work[..count], s, head, to);
+    }
+    block_step(text, work, count, s, head, to)
+}
+
+// The step over what was found next among so many tokens; a command that does not stand among them has no room there.
+pub fn step(text: &[u8], work: &mut [u32], count: usize, s: State, cut: Cut) -> Stepped
+    requires { ⌜ count ≤ length (now work) ⌝ }
+    ensures { λ r. ⌜ Step·made (now (text .entry)) (now (work .entry)) (now (work .exit)) count s cut r ⌝ }
+{
+    match cut {
+        Cut::None => Stepped::State(s),
+        Cut::Empty(i) => Stepped::Refused(Refusal::EmptyCommand, i),
+        Cut::Unended(i) => Stepped::Refused(Refusal::UnendedCommand, i),
+        Cut::Command(head, end) => {
+            if (end <= head) | (count < end) {
+                return Stepped::Refused(Refusal::WorkMemoryShort, 0);
+            }
+            command_step(text, work, count, s, head, end)
+        }
+    }
+}
