@@ -3,7 +3,7 @@ use Prim.Native.Nat.{ℕ}
 use Rattle.block.proofs.ChunkSound.{none-some, some-inj}
 use Rattle.block.proofs.OutcomeLaws.{then-done, need-done, pick-when, refused-done, done-inj}
 use Rattle.block.specs.Cell.{Cell, state, uncertain, polymorphic, missing, gap, insert·all}
-use Rattle.block.specs.Chunk.{Row, plain, within, cell, before, cells·of, symbols, with·state, only·states, closer, set·cell, closed, into·set, chunk}
+use Rattle.block.specs.Chunk.{Row, plain, within, cell, before, cells·of, symbols, with·state, only·states, closer, set·cell, closed, into·set, chunk, row·end}
 use Rattle.block.specs.Format.{Format}
 use Rattle.block.specs.Outcome.{done, then, fold, need}
 use Rattle.block.specs.declared.kinds.Bracket.{Bracket}
@@ -83,3 +83,14 @@ module _ (f : Format) where
   line-good row (w ∷ r) next h =
       let one = then-done (chunk f row w) (λ t. fold (chunk f) t r) next h in
       rw (taken-good row w (one .0) (one .1)) (line-good (one .0) r next (one .2))
+
+  -- The cells of a row whose words have ended.
+  end-good : (row : Row) (cells : List Cell) → row·end row ≡ done cells → cells·in row ≡ cells
+  unfolding row·end cells·in
+  end-good (plain new) cells h = done-inj h
+  end-good (within new k i set) cells h = refused-done Refusal.StateSet i cells h
+
+  pub ended-good : (row : Row) (ws : List Numbered) (cells : List Cell) → then (fold (chunk f) row ws) row·end ≡ done cells → line·taken f row ws ≡ cells
+  ended-good row ws cells h =
+      let one = then-done (fold (chunk f) row ws) row·end cells h in
+      line-good row ws (one .0) (one .1) ∙ end-good (one .0) cells (one .2)
