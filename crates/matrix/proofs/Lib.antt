@@ -18,4 +18,5 @@ pub mod ShapeLaws
 pub mod StoredLines
 pub mod StoredRows
 pub mod SymbolCounts
+pub mod TakenLaws
 pub mod WalkedRows

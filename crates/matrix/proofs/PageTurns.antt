@@ -25,9 +25,11 @@ use Rattle.matrix.proofs.CodeLaws.{coded-counted}
 use Rattle.matrix.proofs.PageShapes.{name-none, name-twice, name-new, name-same, name-other}
 use Rattle.matrix.proofs.RowNames.{names-count}
 use Rattle.matrix.proofs.ShapeLaws.{chunk-shaped}
+use Rattle.matrix.proofs.TakenLaws.{ended-good}
 use Rattle.matrix.specs.Lines.{name·at, stored, names·stored}
-use Rattle.matrix.specs.PagesHeld.{cells·or·none, line·cells·of, line·at, first·of, row·on, with·line, end·count, count·from, line·name, misfit, page·grown, line·grown, page·short, line·shape}
+use Rattle.matrix.specs.PagesHeld.{line·at, first·of, row·on, with·line, end·count, count·from, line·name, misfit, page·grown, line·grown, page·short, line·shape}
 use Rattle.matrix.specs.RowShape.{shape, chunk·shape}
+use Rattle.matrix.specs.Taken.{line·taken}
 use Rattle.matrix.specs.declared.interleaved.Pages.{Pages}
 use Rattle.matrix.specs.declared.matrix.Chunk.{Chunk}
 use borrow.Author.Tests.{ltb-true, ltb-false, lt-ltb, le-ltb, eqb-true, eqb-false, ne-eqb}
@@ -259,10 +261,11 @@ module _ (taxa : ℕ) (stored : List (List ℕ)) (q : Pages) (p : Page) (k : Sha
         (by-test (misfit characters q (length cells)) (λ e. rw e refl)
         (λ e. rw e (ap done (on-same cells), rw (← on-same cells) (grown-shaped taxa stored q p k n characters t g cells e sh refl))))
 
-    line-follows : (o : Outcome (List Cell)) → Follows (cells·or·none o) (then (mapped length o) (λ m. line·grown taxa characters q i m)) (then o (λ cells. line·cells sh p i t cells))
-    unfolding then mapped cells·or·none
-    line-follows (done cells) = cells-follow cells
-    line-follows (refused m j) = refl
+    line-follows : (cells : List Cell) (o : Outcome (List Cell)) → ((l : List Cell) → o ≡ done l → cells ≡ l)
+        → Follows cells (then (mapped length o) (λ m. line·grown taxa characters q i m)) (then o (λ l. line·cells sh p i t l))
+    unfolding then mapped
+    line-follows cells (done l) same = rw (same l refl) (cells-follow l)
+    line-follows cells (refused m j) same = refl
 
 -- Three steps, whichever two are taken together.
 then-then : {A B C : Type 0} (o : Outcome A) (g : A → Outcome B) (h : B → Outcome C) → then o (λ a. then (g a) h) ≡ then (then o g) h
@@ -342,7 +345,11 @@ module _ (text work codes : List ℕ) (f : Format) (c : Coded f codes) (few : le
   Comes (done r) o = (o ≡ done (with·line f taxa p (line·at text work f to i))) × Shaped taxa (ns ++ (n ∷ [])) r (with·line f taxa p (line·at text work f to i))
   Comes (refused m j) o = o ≡ refused m j
 
-  comes : (r : Outcome Pages) (o : Outcome Page) → Follows taxa ns q p k n f characters head within-all i (line·cells·of f (line .rest)) r o → Comes r o
+  -- The cells that are taken from the line.
+  abbrev taken : List Cell
+  taken = line·taken f (plain []) (line .rest)
+
+  comes : (r : Outcome Pages) (o : Outcome Page) → Follows taxa ns q p k n f characters head within-all i taken r o → Comes r o
   unfolding line·at
   comes (done r) o h = h
   comes (refused m j) o h = h
@@ -355,10 +362,10 @@ module _ (text work codes : List ℕ) (f : Format) (c : Coded f codes) (few : le
 
   row-comes : (j : Judged) (o : Outcome Taxon) → Agrees j o
       → Comes (then (judged i j) counted) (then o (λ t. then cells (λ l. line·cells matrix p i t l)))
-  unfolding then judged line·cells·of
+  unfolding then judged
   row-comes Judged.Good o (t, e, g) =
       rw (e, ← cells-counted f codes c few (line .rest) (line-small text work small (i + 1) to))
-      (comes (then (mapped length cells) (λ m. line·grown taxa characters q i m)) (then cells (λ l. line·cells matrix p i t l)) (line-follows taxa ns q p k n f characters head within-all i t g cells))
+      (comes (then (mapped length cells) (λ m. line·grown taxa characters q i m)) (then cells (λ l. line·cells matrix p i t l)) (line-follows taxa ns q p k n f characters head within-all i t g taken cells (ended-good f (plain []) (line .rest))))
   row-comes (Judged.Refused m j) o e = rw e refl
 
   pub turn-comes : (left : ℕ) → length (lines·from false (range text work i to)) ≡ suc left

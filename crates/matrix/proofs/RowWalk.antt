@@ -20,9 +20,11 @@ use Rattle.lexer.specs.Words.{label}
 use Rattle.lexer.specs.declared.refusal.Refusal.{Refusal}
 use Rattle.matrix.proofs.CodeLaws.{coded-counted}
 use Rattle.matrix.proofs.ShapeLaws.{chunk-shaped}
-use Rattle.matrix.specs.Lines.{row·after, row·from, name·at, row·at}
+use Rattle.matrix.proofs.TakenLaws.{taken-good}
+use Rattle.matrix.specs.Lines.{name·at, row·at}
 use Rattle.matrix.specs.RowShape.{shape, chunk·shape}
 use Rattle.matrix.specs.SequentialShape.{named·shape, begun·shape, grown·shape, turn·shape}
+use Rattle.matrix.specs.Taken.{taken, row·after, row·taken}
 use Rattle.matrix.specs.declared.matrix.Chunk.{Chunk}
 use Rattle.matrix.specs.declared.matrix.Sequence.{Sequence}
 use Rattle.matrix.specs.declared.matrix.Turned.{Turned}
@@ -44,7 +46,7 @@ module _ (text work : List ℕ) (f : Format) (n to : ℕ) where
   -- A row so far has this shape, and the words from here on give the cells that all of its words give.
   pub record Growing (s : ℕ) (c : Chunk) (row : Row) (i : ℕ) : Type 0 where
     pub shaped : shape row ≡ c
-    pub cells : row·from f n row (words (range text work i to)) ≡ row·from f n (plain []) (words (range text work (s + 1) to))
+    pub cells : row·taken f n row (words (range text work i to)) ≡ row·taken f n (plain []) (words (range text work (s + 1) to))
 
   abbrev pub Grown : Sequence → Row → ℕ → Type 0
   Grown Sequence.Between row i = Unit {0}
@@ -78,26 +80,26 @@ module _ (text work : List ℕ) (f : Format) (n to : ℕ) where
     module _ (k : Coded f codes) (few : length (f .symbols) ≤ 74) (small : Small text) (within-end : i < to) (word : newline (word·of text work i) ≡ false) where
       -- a row behind the word
       module _ (s : ℕ) (row : Row) (g : Growing s (shape row) row i) where
-        after : row·after n (chunk f row (word·of text work i)) (λ next. row·from f n next (words (range text work (i + 1) to))) ≡ row·from f n (plain []) (words (range text work (s + 1) to))
-        unfolding row·from
+        after : row·after n (taken f row (word·of text work i)) (λ next. row·taken f n next (words (range text work (i + 1) to))) ≡ row·taken f n (plain []) (words (range text work (s + 1) to))
+        unfolding row·taken
         after = rw (words-next text work i to within-end word) at (g .cells)
 
         grown-follows : (o : Outcome Row) → chunk f row (word·of text work i) ≡ o
             → Follows rows i (grown·shape n s i (mapped shape o)) (then o (S.row·grown sh rows s (name·at text work s) (word·of text work i)))
         unfolding grown·shape mapped shape then S.row·grown pick row·at row·after word·of
         grown-follows (refused m j) e = refl
-        grown-follows (done (within cells b m set)) e = (within cells b m set, refl, record { shaped = refl; cells = rw e at after })
+        grown-follows (done (within cells b m set)) e = (within cells b m set, refl, record { shaped = refl; cells = rw (taken-good f row (word·of text work i) (within cells b m set) e) at after })
         grown-follows (done (plain cells)) e =
             by-test (ltb n (length cells)) (λ t. rw t refl)
             (λ t. rw t (by-test (eqb (length cells) n) (λ u. rw u (full (eqb-true (length cells) n u))) (λ u. rw u (more (ltb-false n (length cells) t) (eqb-false (length cells) n u)))))
           where
-            behind : row·after n (done (plain cells)) (λ next. row·from f n next (words (range text work (i + 1) to))) ≡ row·from f n (plain []) (words (range text work (s + 1) to))
-            behind = rw e at after
+            behind : row·after n (plain cells) (λ next. row·taken f n next (words (range text work (i + 1) to))) ≡ row·taken f n (plain []) (words (range text work (s + 1) to))
+            behind = rw (taken-good f row (word·of text work i) (plain cells) e) at after
 
             full : length cells ≡ n
                 → done (S.between (rows ++ (record { name = name·at text work s; cells = cells } ∷ []))) ≡ done (S.between (rows ++ (row·at text work f n to s ∷ [])))
             full u =
-                let all : cells ≡ row·from f n (plain []) (words (range text work (s + 1) to)) = rw (le-leb n (length cells) (omega arith)) at behind in
+                let all : cells ≡ row·taken f n (plain []) (words (range text work (s + 1) to)) = rw (le-leb n (length cells) (omega arith)) at behind in
                 ap (λ x. done (S.between (rows ++ (record { name = name·at text work s; cells = x } ∷ [])))) all
 
             more : length cells ≤ n → (length cells ≡ n → ⊥) → Follows rows i (Turned.On (Sequence.Inside s (Chunk.Plain (length cells)))) (done (S.inside rows s (name·at text work s) (plain cells)))

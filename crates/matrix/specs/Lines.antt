@@ -1,28 +1,14 @@
 -- What stored rows mean. Of a row only the index of its name's token is stored; its cells are what the words behind it give.
 use Prim.Native.Nat.{ℕ, _+_, _≤_}
-use Rattle.block.specs.Cell.{Cell}
-use Rattle.block.specs.Chunk.{Row, plain, within, chunk}
+use Rattle.block.specs.Chunk.{plain}
 use Rattle.block.specs.Commands.{words}
 use Rattle.block.specs.Format.{Format}
-use Rattle.block.specs.Outcome.{Outcome, done, refused}
 use Rattle.block.specs.Reading.{Taxon}
-use Rattle.lexer.specs.Base.{pick}
 use Rattle.lexer.specs.Stored.{word·of, range}
-use Rattle.lexer.specs.Words.{Numbered, spaced}
-use lib.Dec.{leb}
+use Rattle.lexer.specs.Words.{spaced}
+use Rattle.matrix.specs.Taken.{row·taken}
 use lib.ListN.{length, take, drop}
-use mathlib.Core.List.{List, [], _∷_, map}
-
--- The cells of a row behind a token: it ends where no set is open and it has so many.
-unfoldable pub row·after : ℕ → Outcome Row → (Row → List Cell) → List Cell
-row·after n (done (plain cells)) more = pick (leb n (length cells)) cells (more (plain cells))
-row·after n (done (within cells k i set)) more = more (within cells k i set)
-row·after n (refused m i) more = []
-
--- The cells that words give a row until it has so many; none if a word is refused, or they end before.
-unfoldable pub row·from : Format → ℕ → Row → List Numbered → List Cell
-row·from f n row [] = []
-row·from f n row (w ∷ r) = row·after n (chunk f row w) (λ next. row·from f n next r)
+use mathlib.Core.List.{List, [], map}
 
 -- The name that a word is.
 unfoldable pub name·at : List ℕ → List ℕ → ℕ → List ℕ
@@ -30,7 +16,7 @@ name·at text work s = spaced (word·of text work s .token .text)
 
 -- The row whose name is a word, with so many cells from the words behind it, up to the end of the matrix.
 unfoldable pub row·at : List ℕ → List ℕ → Format → ℕ → ℕ → ℕ → Taxon
-row·at text work f n to s = record { name = name·at text work s; cells = row·from f n (plain []) (words (range text work (s + 1) to)) }
+row·at text work f n to s = record { name = name·at text work s; cells = row·taken f n (plain []) (words (range text work (s + 1) to)) }
 
 -- So many numbers that stand in work memory from an index on.
 unfoldable pub stored : List ℕ → ℕ → ℕ → List ℕ

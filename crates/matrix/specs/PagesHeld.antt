@@ -1,8 +1,7 @@
 -- What the stored lines of an interleaved matrix mean. Of a line only the index of its first token, its name, is stored; its cells are what the
 -- tokens behind it give, up to the next newline. And how the code judges a line: by the shape of its page, and by the names that are stored.
 use Prim.Native.Nat.{ℕ, _+_, _-_, _≤_, _<_}
-use Rattle.block.specs.Cell.{Cell}
-use Rattle.block.specs.Chunk.{plain, chunk, row·end}
+use Rattle.block.specs.Chunk.{plain}
 use Rattle.block.specs.Codes.{Coded}
 use Rattle.block.specs.Commands.{newline}
 use Rattle.block.specs.Format.{Format}
@@ -20,6 +19,7 @@ use Rattle.lexer.specs.declared.refusal.Refusal.{Refusal}
 use Rattle.matrix.specs.Lines.{name·at, stored, names·stored}
 use Rattle.matrix.specs.OrderHeld.{all·below}
 use Rattle.matrix.specs.RowShape.{chunk·shape}
+use Rattle.matrix.specs.Taken.{line·taken}
 use Rattle.matrix.specs.declared.interleaved.LineCells.{LineCells}
 use Rattle.matrix.specs.declared.interleaved.Lined.{Lined}
 use Rattle.matrix.specs.declared.interleaved.Pages.{Pages}
@@ -31,17 +31,9 @@ use mathlib.Core.Bool.{Bool, true, false, _&&_, _||_, not}
 use mathlib.Core.List.{List, [], _∷_, _++_}
 use mathlib.Core.Path.{_≡_}
 
--- The cells that the tokens of a line give; none if one is refused.
-unfoldable pub cells·or·none : Outcome (List Cell) → List Cell
-cells·or·none (done cells) = cells
-cells·or·none (refused n i) = []
-
-unfoldable pub line·cells·of : Format → List Numbered → List Cell
-line·cells·of f ws = cells·or·none (then (fold (chunk f) (plain []) ws) row·end)
-
 -- The line that begins with the token of an index, up to the end of the matrix at most: its name, and its cells.
 unfoldable pub line·at : List ℕ → List ℕ → Format → ℕ → ℕ → Taxon
-line·at text work f to s = record { name = name·at text work s; cells = line·cells·of f (to·newline (range text work (s + 1) to)) }
+line·at text work f to s = record { name = name·at text work s; cells = line·taken f (plain []) (to·newline (range text work (s + 1) to)) }
 
 -- The row that a line goes on with: on the first page a new one of its name, later the one that stands there.
 unfoldable pub first·of : List Taxon → Taxon → Taxon
