@@ -1,2 +1,3 @@
 -- What the proofs of this crate rest on, and what other crates may cite.
+pub mod DecimalMade
 pub mod PutLaws

@@ -5,7 +5,7 @@ use Rattle.emit.specs.Puts.{Puts, last·place, puts}
 use Rattle.lexer.proofs.Basics.{by-test}
 use borrow.Author.Tests.{le-leb, leb-false, leb-true, lt-leb}
 use lib.Dec.{leb}
-use lib.ListN.{length, getD, take, drop, set, length-set}
+use lib.ListN.{length, getD, take, drop, set, length-drop, length-set}
 use lib.Seq.{append-snoc, set-out, sets, sets-eq, take-all, take-suc}
 use mathlib.Core.List.{List, [], _∷_, _++_}
 use mathlib.Core.Path.{_≡_, refl, sym, ap, _∙_}
@@ -71,6 +71,11 @@ module _ (l : List ℕ) (i : ℕ) {a b : List ℕ} {n m : ℕ} (f : Puts a n (λ
 
   pub puts-all : length l ≤ i → Puts a n (λ behind. l ++ behind) b m
   puts-all h = rw (take-all i l h) at f
+
+-- The part of a list from a place on is put.
+pub puts-from : (l : List ℕ) (i size : ℕ) {d a b : List ℕ} {n m : ℕ} → length l ≡ size → drop i l ≡ d → Puts a n (λ behind. take (size - i) (drop i l) ++ behind) b m
+    → Puts a n (λ behind. d ++ behind) b m
+puts-from l i size s e f = puts-as f (λ behind. ap (λ t. t ++ behind) (take-all (size - i) (drop i l) (omega (arith, length-drop i l)) ∙ e))
 
 -- A piece that has room stands there whole.
 puts-sets : (buffer : List ℕ) (at : ℕ) (l : List ℕ) → puts buffer at l ≡ sets buffer at l

@@ -1,10 +1,14 @@
 // Bytes put into a lent buffer, one after another. What has no room is not written, and the place goes on all the same, so that the same calls measure
 // what would be written.
 
+ghost use Prim.Native.Nat.{_<_};
 ghost use Rattle.emit.specs.Puts.{Puts};
+ghost use Rattle.record.specs.Decimal.{digit, decimal};
+ghost use lib.ListN.{length, drop};
 ghost use mathlib.Core.List.{_∷_, _++_};
+ghost use mathlib.Core.Path.{_≡_};
 
-// Puts a byte at a place, if there is room, and answers the next place; behind the last place there is none.
+// Puts a byte at a place, if there is room, and answers the next place; behind the largest place there is none, and it answers that place again.
 pub fn put(buffer: &mut [u8], n: usize, b: u8) -> usize
     ensures { λ r. ⌜ Puts (now (buffer .entry)) n (λ behind. b ∷ behind) (now (buffer .exit)) r ⌝ }
 {
@@ -29,4 +33,37 @@ pub fn put_all(buffer: &mut [u8], n: usize, bytes: &[u8]) -> usize
         i += 1;
     }
     at
+}
+
+// The last digit of a number.
+fn last_digit(value: u64) -> u8
+    ensures { λ r. ⌜ r ≡ digit value ⌝ }
+{
+    48 + (value % 10) as u8
+}
+
+// Fills the back of a scratch of twenty bytes with the digits of a number, from the last one on, and answers where they begin.
+fn fill_digits(scratch: &mut [u8], value: u64) -> usize
+    requires { ⌜ length (now scratch) ≡ 20 ⌝ }
+    ensures within { λ r. ⌜ (r < 20) × (length (now (scratch .exit)) ≡ 20) ⌝ }
+    ensures made { λ r. ⌜ drop r (now (scratch .exit)) ≡ decimal value ⌝ }
+{
+    let mut rest = value;
+    let mut i = 19;
+    while 10 <= rest {
+        scratch[i] = last_digit(rest);
+        rest = rest / 10;
+        i -= 1;
+    }
+    scratch[i] = last_digit(rest);
+    i
+}
+
+// Puts the digits of a number.
+pub fn put_decimal(buffer: &mut [u8], n: usize, value: u64) -> usize
+    ensures { λ r. ⌜ Puts (now (buffer .entry)) n (λ behind. decimal value ++ behind) (now (buffer .exit)) r ⌝ }
+{
+    let mut scratch = [0u8; 20];
+    let i = fill_digits(&mut scratch, value);
+    put_all(buffer, n, &scratch[i..])
 }
