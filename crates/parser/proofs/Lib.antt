@@ -21,3 +21,4 @@ pub mod StartsLaws
 pub mod StatesPlaced
 pub mod StorableLaws
 pub mod TaxaLaws
+pub mod TurnLaws
