@@ -2,6 +2,7 @@
 pub mod AnswerLaws
 pub mod AssumptionLaws
 pub mod BlockLaws
+pub mod CommandsWalk
 pub mod DataLaws
 pub mod EndLaws
 pub mod FinishLaws

@@ -5,13 +5,15 @@ ghost use Rattle.block.specs.Blocks as B;
 ghost use Rattle.block.specs.CommandsCut.{Within};
 ghost use Rattle.parser.specs.StateHeld.{Reader, state·of};
 ghost use Rattle.parser.specs.StatePlaced.{State·placed};
-ghost use Rattle.parser.specs.Turning.{Turn·made, cut·end};
+ghost use Rattle.parser.specs.Turning.{Behind·made, Turn·made, cut·end};
 ghost use lib.ListN.{length};
 ghost use mathlib.Core.List.{List};
 ghost use mathlib.Core.Path.{_≡_};
 use super::blocks::no_data;
+use super::finish::finish;
 use super::state::Matrix;
 use super::state::Names;
+use super::state::Parsed;
 use super::state::Phase;
 use super::state::State;
 use super::state::Stepped;
@@ -64,4 +66,25 @@ fn turn(text: &[u8], work: &mut [u32], count: usize, s: State, from: usize) -> T
         Stepped::State(t) => Turned::State(t, end),
         Stepped::Refused(n, i) => Turned::Refused(n, i),
     }
+}
+
+// The commands behind #NEXUS, the word with this index, and the end of the text.
+fn read_commands(text: &[u8], work: &mut [u32], count: usize, header: usize) -> Parsed
+    requires { ⌜ (count ≤ length (now work)) × (header < count) ⌝ }
+    ensures { λ r. ⌜ Behind·made (now (text .entry)) (now (work .entry)) (now (work .exit)) count header r ⌝ }
+{
+    let mut s = at_start();
+    let mut i = header + 1;
+    while i < count {
+        match turn(text, work, count, s, i) {
+            Turned::State(t, end) => {
+                s = t;
+                i = end;
+            }
+            Turned::Refused(n, k) => {
+                return Parsed::Refused(n, k);
+            }
+        }
+    }
+    finish(text, work, count, s, header)
 }
