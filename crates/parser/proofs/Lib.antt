@@ -16,6 +16,7 @@ pub mod MapFits
 pub mod MatrixStored
 pub mod OrderLaws
 pub mod OrderedLaws
+pub mod ParseLaws
 pub mod RoomLaws
 pub mod ShapeLaws
 pub mod StartsLaws

@@ -5,6 +5,7 @@ ghost use Rattle.block.specs.Blocks as B;
 ghost use Rattle.block.specs.CommandsCut.{Within};
 ghost use Rattle.parser.specs.StateHeld.{Reader, state·of};
 ghost use Rattle.parser.specs.StatePlaced.{State·placed};
+ghost use Rattle.parser.specs.Steps.{Parse·made};
 ghost use Rattle.parser.specs.Turning.{Behind·made, Turn·made, cut·end};
 ghost use lib.ListN.{length};
 ghost use mathlib.Core.List.{List};
@@ -19,7 +20,9 @@ use super::state::State;
 use super::state::Stepped;
 use super::step::step;
 use block::Cut;
+use block::is;
 use block::next;
+use block::skip_newlines;
 use lexer::Refusal;
 
 // The state behind the next command and the index behind that; or its refusal.
@@ -87,4 +90,21 @@ fn read_commands(text: &[u8], work: &mut [u32], count: usize, header: usize) -> 
         }
     }
     finish(text, work, count, s, header)
+}
+
+// What a text comes to, so many of whose tokens work memory names.
+pub fn parse(text: &[u8], work: &mut [u32], count: usize) -> Parsed
+    ensures { λ r. ⌜ Parse·made (now (text .entry)) (now (work .entry)) (now (work .exit)) count r ⌝ }
+{
+    if work.len() < count {
+        return Parsed::Refused(Refusal::WorkMemoryShort, 0);
+    }
+    let header = skip_newlines(text, work, 0, count);
+    if count <= header {
+        return Parsed::Refused(Refusal::NoNexus, count);
+    }
+    if !is(text, work, header, b"#NEXUS") {
+        return Parsed::Refused(Refusal::NoNexus, header);
+    }
+    read_commands(text, work, count, header)
 }
