@@ -17,6 +17,7 @@ pub mod MatrixStored
 pub mod OrderLaws
 pub mod OrderedLaws
 pub mod ParseLaws
+pub mod ParseRead
 pub mod RoomLaws
 pub mod ShapeLaws
 pub mod StartsLaws
