@@ -3,6 +3,7 @@ pub mod AnswerLaws
 pub mod AssumptionLaws
 pub mod BlockLaws
 pub mod BlockMade
+pub mod CommandsWalk
 pub mod CutMade
 pub mod DataInner
 pub mod DataLaws
@@ -20,6 +21,8 @@ pub mod MatrixMade
 pub mod MatrixStored
 pub mod OrderLaws
 pub mod OrderedLaws
+pub mod ParseLaws
+pub mod ParseRead
 pub mod RoomLaws
 pub mod ShapeLaws
 pub mod StartsLaws
@@ -27,3 +30,4 @@ pub mod StatesPlaced
 pub mod StepLaws
 pub mod StorableLaws
 pub mod TaxaLaws
+pub mod TurnLaws

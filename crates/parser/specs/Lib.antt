@@ -10,3 +10,4 @@ pub mod Storing
 pub mod TypesRoom
 pub mod ParsedHeld
 pub mod Steps
+pub mod Turning

@@ -52,7 +52,7 @@ pub fn matrix_given(matrix: Matrix) -> bool
 }
 
 // A data block in which nothing was declared but these names.
-fn no_data(names: Names) -> Data
+pub fn no_data(names: Names) -> Data
     ensures step { λ r. ⌜ ((m : Reader) (text work : List ℕ) → data·of m text work r ≡ no·data (names·in text work names)) ⌝ }
     ensures placed { λ r. ⌜ ((text front : List ℕ) (size : ℕ) → Names·placed text front size names → Data·placed text front size r) ⌝ }
 {

@@ -4,6 +4,7 @@ pub mod blocks;
 pub mod data;
 pub mod finish;
 pub mod map;
+pub mod parse;
 pub mod reading;
 pub mod state;
 pub mod step;
