@@ -1,8 +1,8 @@
 -- Commands are read one after another: those that are left make of the state what all of them make of the first one. Assumes nothing.
-use Prim.Native.Nat.{ℕ, _+_, _≤_, _<_}
+use Prim.Native.Nat.{ℕ, _+_, _≤_}
 use Rattle.block.specs.Blocks as B
 use Rattle.block.specs.Commands.{commands}
-use Rattle.block.specs.Outcome.{Outcome, done, fold, refused, then}
+use Rattle.block.specs.Outcome.{fold, then}
 use Rattle.block.specs.Parse.{parse·behind}
 use Rattle.lexer.specs.Lexing.{longest}
 use Rattle.lexer.specs.Stored.{range}
@@ -25,7 +25,7 @@ use lib.ListN.{length, take}
 use lib.Seq.{length-take-le}
 use mathlib.Core.Bool.{true}
 use mathlib.Core.List.{List}
-use mathlib.Core.Path.{_≡_, refl, sym, ap, _∙_}
+use mathlib.Core.Path.{_≡_, refl, ap, _∙_}
 use native.Mathlib.Omega.{arith}
 
 -- Work memory stays enough where its front is kept, and tokens for which it is enough are few.

@@ -21,7 +21,7 @@ use Rattle.parser.specs.Steps.{Parse·made}
 use Rattle.parser.specs.Turning.{Behind·made}
 use Rattle.parser.specs.declared.state.Parsed.{Parsed}
 use borrow.Author.Tests.{not-true, not-false}
-use lib.ListN.{length, take}
+use lib.ListN.{length}
 use mathlib.Core.Bool.{Bool, true, false, not}
 use mathlib.Core.List.{List}
 use mathlib.Core.Path.{_≡_, refl, sym, _∙_}

@@ -1,5 +1,5 @@
 -- The step over what was found next, and the commands behind it, make of a state what all the commands make of it. Assumes nothing.
-use Prim.Native.Nat.{ℕ, _+_, _≤_, _<_}
+use Prim.Native.Nat.{ℕ, _≤_, _<_}
 use Rattle.block.specs.Blocks as B
 use Rattle.block.specs.Commands.{commands, commands·from}
 use Rattle.block.specs.CommandsCut.{Within, cut·of}
@@ -16,9 +16,9 @@ use Rattle.parser.specs.Turning.{Turn·made, commands·held, cut·end}
 use Rattle.parser.specs.declared.parse.Turned.{Turned}
 use Rattle.parser.specs.declared.state.State.{State}
 use Rattle.parser.specs.declared.state.Stepped.{Stepped}
-use lib.ListN.{length, take}
+use lib.ListN.{take}
 use mathlib.Core.Bool.{Bool, true, false, true≢false}
-use mathlib.Core.List.{List, []}
+use mathlib.Core.List.{List}
 use mathlib.Core.Path.{_≡_, refl, sym, ap, _∙_}
 use native.Mathlib.Omega.{arith}
 
