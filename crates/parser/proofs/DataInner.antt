@@ -9,6 +9,7 @@ use Rattle.lexer.proofs.Basics.{by-test}
 use Rattle.lexer.specs.Base.{alike, bytes, given, lower, pick}
 use Rattle.lexer.specs.Stored.{range, word·of}
 use Rattle.lexer.specs.Words.{Numbered, is}
+use Rattle.lexer.specs.declared.refusal.Refusal.{Refusal}
 use Rattle.parser.proofs.AnswerLaws.{answers-wider}
 use Rattle.parser.proofs.DataLaws.{step-behind}
 use Rattle.parser.proofs.MadeLaws.{kept-made, made-as}
@@ -23,13 +24,12 @@ use Rattle.parser.specs.declared.state.Matrix.{Matrix}
 use Rattle.parser.specs.declared.state.Phase.{Phase}
 use Rattle.parser.specs.declared.state.State.{State}
 use Rattle.parser.specs.declared.state.Stepped.{Stepped}
+use borrow.Author.Tests.{not-true, not-false}
 use lib.ListN.{length, take}
 use mathlib.Core.Bool.{Bool, true, false, not}
 use mathlib.Core.List.{List}
 use mathlib.Core.Path.{_≡_, refl, sym, ap, _∙_}
 use native.Mathlib.Omega.{arith}
-use Rattle.lexer.specs.declared.refusal.Refusal.{Refusal}
-use borrow.Author.Tests.{not-true, not-false}
 
 -- A word that is one keyword is no other.
 other-key : (k l : List ℕ) (h : Numbered) → alike k l ≡ false → is k h ≡ true → is l h ≡ false

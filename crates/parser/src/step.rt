@@ -150,7 +150,7 @@ fn command_step(
     block_step(text, work, count, s, head, to)
 }
 
-// The step over what was found next among so many tokens; a command that does not stand among them has no room there.
+// The step over what was found next. The answer to a command that does not stand among so many tokens is that work memory is short.
 pub fn step(text: &[u8], work: &mut [u32], count: usize, s: State, cut: Cut) -> Stepped
     requires { ⌜ count ≤ length (now work) ⌝ }
     ensures { λ r. ⌜ Step·made (now (text .entry)) (now (work .entry)) (now (work .exit)) count s cut r ⌝ }
