@@ -21,6 +21,7 @@ ghost use mathlib.Core.Option.{none};
 ghost use mathlib.Core.Path.{_≡_};
 use super::characters::ListAnswer;
 use super::characters::list_from;
+use block::CharacterNumber;
 use block::CharacterOrdering;
 use block::Form;
 use block::Judged;
@@ -145,15 +146,15 @@ fn least(a: u64, b: u64) -> u64
 }
 
 // Gives a type to the character with a number, from 1 on, unless it has one already. No character has the number 0.
-fn type_one(work: &mut [u32], at: usize, k: u64, value: u32) -> bool
-    requires { ⌜ at + k ≤ length (now work) ⌝ }
-    ensures free { λ r. ⌜ r ≡ (eqb k 0 || eqb (getD (now (work .entry)) (at + (k - 1)) 0) 0) ⌝ }
-    ensures stored { λ r. ⌜ now (work .exit) ≡ pick (ltb 0 k && r) (set (now (work .entry)) (at + (k - 1)) value) (now (work .entry)) ⌝ }
+fn type_one(work: &mut [u32], at: usize, k: CharacterNumber, value: u32) -> bool
+    requires { ⌜ at + k .0 ≤ length (now work) ⌝ }
+    ensures free { λ r. ⌜ r ≡ (eqb (k .0) 0 || eqb (getD (now (work .entry)) (at + (k .0 - 1)) 0) 0) ⌝ }
+    ensures stored { λ r. ⌜ now (work .exit) ≡ pick (ltb 0 (k .0) && r) (set (now (work .entry)) (at + (k .0 - 1)) value) (now (work .entry)) ⌝ }
 {
-    if k == 0 {
+    if k.0 == 0 {
         return true;
     }
-    let i = at + (k - 1) as usize;
+    let i = at + (k.0 - 1);
     if work[i] == 0 {
         work[i] = value;
         return true;
@@ -178,7 +179,7 @@ pub fn type_range(
     let stride = range.stride;
     let mut k = range.first;
     while k <= last {
-        if !type_one(work, at, k, value) {
+        if !type_one(work, at, CharacterNumber(k as usize), value) {
             return false;
         }
         if (stride == 0) | (last - k < stride) {

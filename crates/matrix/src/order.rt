@@ -1,17 +1,26 @@
 // Rows in declared order, after mod.rs.
 
-ghost use Prim.Native.Nat.{_+_, _≤_, _<_};
+ghost use Prim.Native.Nat.{ℕ, _+_, _≤_, _<_};
 ghost use Rattle.block.specs.Cells.{index·of};
 ghost use Rattle.matrix.specs.Lines.{name·at, names·stored, stored};
 ghost use Rattle.matrix.specs.OrderHeld.{Arranged, Index·below, place·of};
-ghost use lib.ListN.{length};
+ghost use lib.ListN.{getD, length};
 ghost use mathlib.Core.Path.{_≡_};
 use block::Index;
 use block::Judged;
+use block::TaxonNumber;
 use block::alike;
 use block::newline;
 use lexer::Refusal;
 use lexer::start_of;
+
+// The index of the name of a row by its number, counted from 1 on, where rows are stored from an index of work memory on.
+pub fn row_name(work: &[u32], at: usize, row: TaxonNumber) -> usize
+    requires { ⌜ (1 ≤ row .0) × (at + row .0 ≤ length (now work)) ⌝ }
+    ensures { λ r. ⌜ ((k : ℕ) → row .0 ≡ k + 1 → r ≡ getD (now (work .entry)) (at + k) 0) ⌝ }
+{
+    start_of(work, at + (row.0 - 1))
+}
 
 // The first stored row, of so many from an index of work memory on, whose name is that of a word.
 pub fn row_of(text: &[u8], work: &[u32], at: usize, rows: usize, i: usize) -> Index
@@ -21,7 +30,7 @@ pub fn row_of(text: &[u8], work: &[u32], at: usize, rows: usize, i: usize) -> In
 {
     let mut k = 0;
     while k < rows {
-        if alike(text, work, i, start_of(work, at + k)) {
+        if alike(text, work, i, row_name(work, at, TaxonNumber(k + 1))) {
             return Index::At(k);
         }
         k += 1;

@@ -35,16 +35,16 @@ same-length c = search needs
 returns-2 : tie.Need-returns-2
 unfolding pick
 returns-2 c =
-    let s = c .before .before .before in
-    let some : 0 < s .args .k = omega (arith, c .before .before .if1 .left) in
-    (rw (ne-eqb (s .args .k) 0 (c .before .before .if1 .left), eq-eqb _ _ (c .if2 .taken)), rw (lt-ltb 0 (s .args .k) some))
+    let s = c .before .before .before .before .before in
+    let some : 0 < s .args .k .0 = omega (arith, c .before .before .before .if1 .left) in
+    (rw (ne-eqb (s .args .k .0) 0 (c .before .before .before .if1 .left), eq-eqb _ _ (c .if2 .taken)), rw (lt-ltb 0 (s .args .k .0) some))
 
 returns-3 : tie.Need-returns-3
 unfolding pick
 returns-3 c =
-    let s = c .before .before .before in
-    let some : 0 < s .args .k = omega (arith, c .before .before .if1 .left) in
-    (rw (ne-eqb (s .args .k) 0 (c .before .before .if1 .left), ne-eqb _ _ (c .if2 .left)), rw (lt-ltb 0 (s .args .k) some))
+    let s = c .before .before .before .before .before in
+    let some : 0 < s .args .k .0 = omega (arith, c .before .before .before .if1 .left) in
+    (rw (ne-eqb (s .args .k .0) 0 (c .before .before .before .if1 .left), ne-eqb _ _ (c .if2 .left)), rw (lt-ltb 0 (s .args .k .0) some))
 
 pub type-one-spec : {M : Type 1} → statement M
 type-one-spec =
