@@ -6,7 +6,7 @@ use Rattle.matrix.proofs.order.row_of.Statement.{statement}
 use Rattle.matrix.proofs.order.row_of.Tie as tie
 use Rattle.matrix.specs.Lines.{name·at}
 use borrow.Author.Needs.{needs}
-use mathlib.Core.Path.{sym, _∙_}
+use mathlib.Core.Path.{refl, sym, _∙_}
 use native.Mathlib.Omega.{arith}
 
 abbrev Inv-loop : tie.InvT-loop
@@ -18,18 +18,18 @@ abbrev μ-loop : tie.MeasureT-loop
 loop-holds : tie.Need-loop-holds Inv-loop μ-loop
 loop-holds c = placing-start _ _ _ _ _ (c .before .before .pre)
 
-add-start-of : tie.Need-add-start-of Inv-loop μ-loop
-add-start-of c = omega (arith, c .before .loop .inv .room)
+add-t10 : tie.Need-add-t10 Inv-loop μ-loop
+add-t10 c = search needs
 
-start-of-requires : tie.Need-start-of-requires Inv-loop μ-loop
-start-of-requires c κs = search needs
+row-name-requires : tie.Need-row-name-requires Inv-loop μ-loop
+row-name-requires c κs = (omega arith, omega (arith, c .before .loop .inv .room))
 
 alike-requires : tie.Need-alike-requires Inv-loop μ-loop
 alike-requires c κs = search needs
 
 returns : tie.Need-returns Inv-loop μ-loop
 unfolding name·at index·of
-returns c = let l = c .before .before .before in (placing-found _ _ _ _ _ _ (l .before .loop .inv) (l .loop-test .taken) (rw (← c .before .before .start-of .ensures) (sym (c .before .alike .ensures) ∙ c .if1 .taken)), l .loop-test .taken)
+returns c = let l = c .before .before .before in (placing-found _ _ _ _ _ _ (l .before .loop .inv) (l .loop-test .taken) (rw (← c .before .before .row-name .ensures (l .before .loop .k) refl) (sym (c .before .alike .ensures) ∙ c .if1 .taken)), l .loop-test .taken)
 
 add-k : tie.Need-add-k Inv-loop μ-loop
 add-k c = search needs
@@ -39,7 +39,7 @@ loop-less c = search needs
 
 loop-again : tie.Need-loop-again Inv-loop μ-loop
 unfolding name·at
-loop-again c = let l = c .before .before .before in placing-turn _ _ _ _ _ _ (l .before .loop .inv) (l .loop-test .taken) (rw (← c .before .before .start-of .ensures) (sym (c .before .alike .ensures) ∙ c .if1 .left))
+loop-again c = let l = c .before .before .before in placing-turn _ _ _ _ _ _ (l .before .loop .inv) (l .loop-test .taken) (rw (← c .before .before .row-name .ensures (l .before .loop .k) refl) (sym (c .before .alike .ensures) ∙ c .if1 .left))
 
 returns-2 : tie.Need-returns-2 Inv-loop μ-loop
 unfolding index·of
@@ -52,8 +52,8 @@ row-of-spec =
     Inv-loop
     μ-loop
     loop-holds
-    add-start-of
-    start-of-requires
+    add-t10
+    row-name-requires
     alike-requires
     returns
     add-k
