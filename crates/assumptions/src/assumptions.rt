@@ -29,8 +29,8 @@ use block::Range;
 use block::count_words;
 use block::is;
 use block::named;
-use block::newline;
 use block::punct;
+use block::skip_newlines;
 use lexer::Refusal;
 
 // The type that a word is, or none.
@@ -67,14 +67,7 @@ pub enum FormAnswer {
 pub fn next_word(text: &[u8], work: &[u32], from: usize, to: usize) -> usize
     ensures { λ r. ⌜ Next (now (text .entry)) (now (work .entry)) from to r ⌝ }
 {
-    let mut i = from;
-    while i < to {
-        if !newline(text, work, i) {
-            return i;
-        }
-        i += 1;
-    }
-    i
+    skip_newlines(text, work, from, to)
 }
 
 // The type that a word is: ORD or UNORD.
