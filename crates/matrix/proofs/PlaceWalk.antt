@@ -1,16 +1,28 @@
 -- The walk over the names of stored rows for the place of a name. Assumes nothing.
 use Prim.Native.Nat.{ℕ, suc, _+_, _-_, _≤_, _<_}
-use Rattle.lexer.specs.Base.{pick, alike}
+use Rattle.block.specs.Names.{known}
+use Rattle.lexer.proofs.Basics.{by-test}
+use Rattle.lexer.specs.Base.{pick, alike, given}
 use Rattle.matrix.proofs.RowNames.{stored-next}
 use Rattle.matrix.specs.Lines.{name·at, stored, names·stored}
 use Rattle.matrix.specs.OrderHeld.{place·from, place·of}
 use lib.ListN.{length, getD}
 use mathlib.Core.Bool.{true, false}
-use mathlib.Core.List.{List, _∷_}
-use mathlib.Core.Option.{none, some}
-use mathlib.Core.Path.{_≡_, sym, _∙_}
+use mathlib.Core.List.{List, [], _∷_}
+use mathlib.Core.Option.{Option, none, some}
+use mathlib.Core.Path.{_≡_, refl, sym, _∙_}
 use native.Mathlib.Numerals.{add-one}
 use native.Mathlib.Omega.{arith}
+
+-- A name is known where it has a place.
+place-known : (n : List ℕ) (k : ℕ) (names : List (List ℕ)) → known n names ≡ given (place·from n k names)
+unfolding known place·from pick given
+place-known n k [] = refl
+place-known n k (m ∷ r) = by-test (alike n m) (λ t. rw t) (λ f. rw f (place-known n (suc k) r))
+
+pub known-placed : (n : List ℕ) (names : List (List ℕ)) (o : Option ℕ) → o ≡ place·of n names → given o ≡ known n names
+unfolding place·of
+known-placed n names o e = rw e (sym (place-known n 0 names))
 
 -- What is sought is found alike behind so many names.
 pub record Placing (text work : List ℕ) (at rows i k : ℕ) : Type 0 where

@@ -11,8 +11,9 @@ ghost use Rattle.matrix.specs.SequentialShape.{Rows·read, begun·shape,
 ghost use lib.ListN.{length, getD};
 ghost use mathlib.Core.Bool.{true};
 ghost use mathlib.Core.Path.{_≡_};
+use super::order::row_of;
 use block::Bracket;
-use block::alike;
+use block::Index;
 use block::named;
 use block::newline;
 use block::punct;
@@ -184,15 +185,10 @@ pub fn known_row(text: &[u8], work: &[u32], at: usize, rows: usize, i: usize) ->
     requires { ⌜ at + rows ≤ length (now work) ⌝ }
     ensures { λ r. ⌜ r ≡ known (name·at (now (text .entry)) (now (work .entry)) i) (names·stored (now (text .entry)) (now (work .entry)) (stored (now (work .entry)) at rows)) ⌝ }
 {
-    let end = at + rows;
-    let mut k = at;
-    while k < end {
-        if alike(text, work, i, start_of(work, k)) {
-            return true;
-        }
-        k += 1;
+    match row_of(text, work, at, rows, i) {
+        Index::At(_) => true,
+        Index::None => false,
     }
-    false
 }
 
 // A row begins with its name, if there are to be more than so many.

@@ -1,64 +1,28 @@
--- The function `known_row` meets its contract. A turn passes one name that is another, and keeps what is sought. The measure is what is left of the
--- names. Assumes nothing.
-use Prim.Native.Nat.{_+_, _-_}
-use Rattle.matrix.proofs.RowNames.{Naming, naming-start, naming-turn, naming-found, naming-end}
+-- The function `known_row` meets its contract. Assumes nothing.
+use Rattle.block.specs.Cells.{index·of}
+use Rattle.lexer.specs.Base.{given}
+use Rattle.matrix.proofs.PlaceWalk.{known-placed}
 use Rattle.matrix.proofs.matrix.known_row.Statement.{statement}
 use Rattle.matrix.proofs.matrix.known_row.Tie as tie
-use Rattle.matrix.specs.Lines.{name·at}
+use Rattle.matrix.proofs.order.row_of.Reads as row-of-reads
 use borrow.Author.Needs.{needs}
-use mathlib.Core.Path.{sym, _∙_}
 
-abbrev Inv-loop : tie.InvT-loop
-Inv-loop text work at rows i end k₀ k = Naming text work at rows i k
+row-of-requires : tie.Need-row-of-requires
+row-of-requires c κs = search needs
 
-abbrev μ-loop : tie.MeasureT-loop
-μ-loop text work at rows i end k₀ k = at + rows - k
+enum-told : tie.Need-enum-told
+enum-told c = search needs
 
-add-end : tie.Need-add-end Inv-loop μ-loop
-add-end c = search needs
+enum-told-2 : tie.Need-enum-told-2
+enum-told-2 c = search needs
 
-loop-holds : tie.Need-loop-holds Inv-loop μ-loop
-loop-holds c = naming-start _ _ _ _ _ (c .before .before .pre)
+returns : tie.Need-returns
+unfolding index·of given
+returns c = rw (c .enum-told .given .1) at (known-placed _ _ _ (c .before .before .row-of .ensures .0))
 
-start-of-requires : tie.Need-start-of-requires Inv-loop μ-loop
-start-of-requires c κs = search needs
-
-alike-requires : tie.Need-alike-requires Inv-loop μ-loop
-alike-requires c κs = search needs
-
-returns : tie.Need-returns Inv-loop μ-loop
-unfolding name·at
-returns c =
-    let l = c .before .before .before in
-    naming-found _ _ _ _ _ _ (l .before .loop .inv) (l .loop-test .taken) (rw (← c .before .before .start-of .ensures) (sym (c .before .alike .ensures) ∙ c .if1 .taken))
-
-add-k : tie.Need-add-k Inv-loop μ-loop
-add-k c = search needs
-
-loop-less : tie.Need-loop-less Inv-loop μ-loop
-loop-less c = search needs
-
-loop-again : tie.Need-loop-again Inv-loop μ-loop
-unfolding name·at
-loop-again c =
-    let l = c .before .before .before in
-    naming-turn _ _ _ _ _ _ (l .before .loop .inv) (l .loop-test .taken) (rw (← c .before .before .start-of .ensures) (sym (c .before .alike .ensures) ∙ c .if1 .left))
-
-returns-2 : tie.Need-returns-2 Inv-loop μ-loop
-returns-2 c = naming-end _ _ _ _ _ _ (c .before .loop .inv) (c .loop-test .left)
+returns-2 : tie.Need-returns-2
+unfolding index·of given
+returns-2 c = rw (c .enum-told2 .given .1) at (known-placed _ _ _ (c .before .before .row-of .ensures .0))
 
 pub known-row-spec : {M : Type 1} → statement M
-known-row-spec =
-    tie.close
-    (tie.spec
-    Inv-loop
-    μ-loop
-    add-end
-    loop-holds
-    start-of-requires
-    alike-requires
-    returns
-    add-k
-    loop-less
-    loop-again
-    returns-2)
+known-row-spec = tie.close (tie.spec row-of-requires enum-told enum-told-2 returns returns-2)
