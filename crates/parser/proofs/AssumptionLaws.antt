@@ -11,6 +11,14 @@ use Rattle.block.specs.Outcome.{Outcome, done, refused, then}
 use Rattle.block.specs.Typeset.{Types, typeset}
 use Rattle.block.specs.declared.Judged.{Judged}
 use Rattle.block.specs.declared.model.CharacterOrdering.{CharacterOrdering}
+use Rattle.commands.specs.MatrixHeld.{held}
+use Rattle.commands.specs.StateHeld.{Reader, set·of, state·of, stepped, types·of}
+use Rattle.commands.specs.StatePlaced.{Phase·placed, State·placed, Stepped·placed, Untyped}
+use Rattle.commands.specs.Stepping.{Made, answered, short, state·held, step·held}
+use Rattle.commands.specs.declared.state.Matrix.{Matrix}
+use Rattle.commands.specs.declared.state.Phase.{Phase}
+use Rattle.commands.specs.declared.state.State.{State}
+use Rattle.commands.specs.declared.state.Stepped.{Stepped}
 use Rattle.labels.proofs.LabelSlotLaws.{range-front, word-front}
 use Rattle.lexer.proofs.Basics.{and-right}
 use Rattle.lexer.specs.Base.{bytes, given, pick}
@@ -19,15 +27,7 @@ use Rattle.lexer.specs.Words.{Numbered, is}
 use Rattle.lexer.specs.declared.refusal.Refusal.{Refusal}
 use Rattle.parser.proofs.HeldLaws.{front-kept}
 use Rattle.parser.proofs.RoomLaws.{never-short, roomy}
-use Rattle.parser.specs.MatrixHeld.{held}
-use Rattle.parser.specs.StateHeld.{Reader, set·of, state·of, stepped, types·of}
-use Rattle.parser.specs.StatePlaced.{Phase·placed, State·placed, Stepped·placed, Untyped}
-use Rattle.parser.specs.Stepping.{Made, answered, short, state·held, step·held}
 use Rattle.parser.specs.TypesRoom.{types·room}
-use Rattle.parser.specs.declared.state.Matrix.{Matrix}
-use Rattle.parser.specs.declared.state.Phase.{Phase}
-use Rattle.parser.specs.declared.state.State.{State}
-use Rattle.parser.specs.declared.state.Stepped.{Stepped}
 use Rattle.parser.specs.declared.types.Room.{Room}
 use borrow.Author.Tests.{not-true}
 use lib.ListN.{length, take}

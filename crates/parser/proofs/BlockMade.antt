@@ -4,6 +4,14 @@ use Rattle.block.specs.Blocks as B
 use Rattle.block.specs.Blocks.{begin·words, block·step, end·block, ends, in·phase, inner·step, outside?}
 use Rattle.block.specs.Commands.{command, words}
 use Rattle.block.specs.Outcome.{Outcome, done, refused, then}
+use Rattle.commands.specs.MatrixHeld.{held}
+use Rattle.commands.specs.StateHeld.{Reader, Retypes, phase·of, state·of, stepped}
+use Rattle.commands.specs.StatePlaced.{State·placed, Stepped·placed}
+use Rattle.commands.specs.Stepping.{Made, state·held, step·held}
+use Rattle.commands.specs.declared.state.Data.{Data}
+use Rattle.commands.specs.declared.state.Matrix.{Matrix}
+use Rattle.commands.specs.declared.state.State.{State}
+use Rattle.commands.specs.declared.state.Stepped.{Stepped}
 use Rattle.lexer.specs.Base.{bytes, empty?, pick}
 use Rattle.lexer.specs.Stored.{range, word·of}
 use Rattle.lexer.specs.Words.{Numbered, is}
@@ -11,14 +19,6 @@ use Rattle.lexer.specs.declared.refusal.Refusal.{Refusal}
 use Rattle.parser.proofs.HeldLaws.{held-retypes}
 use Rattle.parser.proofs.MadeLaws.{kept-made, made-as}
 use Rattle.parser.proofs.StartsLaws.{range-front, word-front}
-use Rattle.parser.specs.MatrixHeld.{held}
-use Rattle.parser.specs.StateHeld.{Reader, Retypes, phase·of, state·of, stepped}
-use Rattle.parser.specs.StatePlaced.{State·placed, Stepped·placed}
-use Rattle.parser.specs.Stepping.{Made, state·held, step·held}
-use Rattle.parser.specs.declared.state.Data.{Data}
-use Rattle.parser.specs.declared.state.Matrix.{Matrix}
-use Rattle.parser.specs.declared.state.State.{State}
-use Rattle.parser.specs.declared.state.Stepped.{Stepped}
 use lib.ListN.{length, take}
 use mathlib.Core.Bool.{Bool, true, false, _||_}
 use mathlib.Core.List.{List, [], _∷_}

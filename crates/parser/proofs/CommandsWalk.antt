@@ -4,23 +4,23 @@ use Rattle.block.specs.Blocks as B
 use Rattle.block.specs.Commands.{commands}
 use Rattle.block.specs.Outcome.{fold, then}
 use Rattle.block.specs.Parse.{parse·behind}
+use Rattle.commands.proofs.AnswerLaws.{answers-as, answers-then, answers-wider}
+use Rattle.commands.specs.StateHeld.{Reader, state·of}
+use Rattle.commands.specs.StatePlaced.{State·placed}
+use Rattle.commands.specs.Stepping.{Answers, Enough, state·held}
+use Rattle.commands.specs.WorkMap.{map·fits}
+use Rattle.commands.specs.declared.state.Held.{Held}
+use Rattle.commands.specs.declared.state.Parsed.{Parsed}
+use Rattle.commands.specs.declared.state.State.{State}
 use Rattle.lexer.specs.Lexing.{longest}
 use Rattle.lexer.specs.Stored.{range}
 use Rattle.lexer.specs.declared.refusal.Refusal.{Refusal}
-use Rattle.parser.proofs.AnswerLaws.{answers-as, answers-then, answers-wider}
 use Rattle.parser.proofs.FinishLaws.{refused-fits}
 use Rattle.parser.proofs.StartsLaws.{range-front}
 use Rattle.parser.proofs.TurnLaws.{none-left}
 use Rattle.parser.specs.ParsedHeld.{parsed·held}
-use Rattle.parser.specs.StateHeld.{Reader, state·of}
-use Rattle.parser.specs.StatePlaced.{State·placed}
-use Rattle.parser.specs.Stepping.{Answers, Enough, state·held}
 use Rattle.parser.specs.Turning.{Behind·made, Turn·made, commands·held}
-use Rattle.parser.specs.WorkMap.{map·fits}
 use Rattle.parser.specs.declared.parse.Turned.{Turned}
-use Rattle.parser.specs.declared.state.Held.{Held}
-use Rattle.parser.specs.declared.state.Parsed.{Parsed}
-use Rattle.parser.specs.declared.state.State.{State}
 use lib.ListN.{length, take}
 use lib.Seq.{length-take-le}
 use mathlib.Core.Bool.{true}

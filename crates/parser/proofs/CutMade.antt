@@ -3,17 +3,17 @@ use Prim.Native.Nat.{ℕ, _+_, _≤_, _<_}
 use Rattle.block.specs.Blocks as B
 use Rattle.block.specs.Commands.{command}
 use Rattle.block.specs.declared.commands.Cut.{Cut}
+use Rattle.commands.proofs.AnswerLaws.{answers-wider}
+use Rattle.commands.specs.StateHeld.{stepped}
+use Rattle.commands.specs.StatePlaced.{Command·placed}
+use Rattle.commands.specs.Stepping.{Enough, Made, answered, short, state·held, step·held}
+use Rattle.commands.specs.declared.state.State.{State}
+use Rattle.commands.specs.declared.state.Stepped.{Stepped}
 use Rattle.lexer.proofs.Basics.{not-both, or-both, or-left, or-right}
 use Rattle.lexer.specs.Lexing.{longest}
 use Rattle.lexer.specs.Stored.{range, word·of}
 use Rattle.lexer.specs.declared.refusal.Refusal.{Refusal}
-use Rattle.parser.proofs.AnswerLaws.{answers-wider}
-use Rattle.parser.specs.StateHeld.{stepped}
-use Rattle.parser.specs.StatePlaced.{Command·placed}
-use Rattle.parser.specs.Stepping.{Enough, Made, answered, short, state·held, step·held}
 use Rattle.parser.specs.Steps.{Step·made, cut·step}
-use Rattle.parser.specs.declared.state.State.{State}
-use Rattle.parser.specs.declared.state.Stepped.{Stepped}
 use borrow.Author.Tests.{le-ltb, leb-false, lt-leb, ltb-false}
 use lib.Dec.{leb, ltb}
 use lib.ListN.{length, take}

@@ -5,25 +5,25 @@ use Rattle.block.specs.Blocks as B
 use Rattle.block.specs.Blocks.{data·command, data·step, in·data, in·phase, matrix, with·matrix}
 use Rattle.block.specs.Outcome.{Outcome, done, refused, then}
 use Rattle.block.specs.Reading.{Reading}
+use Rattle.commands.proofs.AnswerLaws.{answers-wider}
+use Rattle.commands.proofs.DataLaws.{step-behind}
+use Rattle.commands.specs.MatrixHeld.{held}
+use Rattle.commands.specs.StateHeld.{Reader, data·of, matrix·of, state·of, stepped}
+use Rattle.commands.specs.StatePlaced.{Command·placed, Data·placed, State·placed, Stepped·placed}
+use Rattle.commands.specs.Stepping.{Answers, Made, state·held, step·held}
+use Rattle.commands.specs.declared.state.Matrix.{Matrix}
+use Rattle.commands.specs.declared.state.Phase.{Phase}
+use Rattle.commands.specs.declared.state.State.{State}
+use Rattle.commands.specs.declared.state.Stepped.{Stepped}
 use Rattle.lexer.proofs.Basics.{by-test}
 use Rattle.lexer.specs.Base.{alike, bytes, given, lower, pick}
 use Rattle.lexer.specs.Stored.{range, word·of}
 use Rattle.lexer.specs.Words.{Numbered, is}
 use Rattle.lexer.specs.declared.refusal.Refusal.{Refusal}
-use Rattle.parser.proofs.AnswerLaws.{answers-wider}
-use Rattle.parser.proofs.DataLaws.{step-behind}
 use Rattle.parser.proofs.MadeLaws.{kept-made, made-as}
 use Rattle.parser.proofs.StartsLaws.{word-front}
 use Rattle.parser.proofs.StepLaws.{data-placed}
-use Rattle.parser.specs.MatrixHeld.{held}
-use Rattle.parser.specs.StateHeld.{Reader, data·of, matrix·of, state·of, stepped}
-use Rattle.parser.specs.StatePlaced.{Command·placed, Data·placed, State·placed, Stepped·placed}
-use Rattle.parser.specs.Stepping.{Answers, Made, state·held, step·held}
 use Rattle.parser.specs.Storing.{matrix·step}
-use Rattle.parser.specs.declared.state.Matrix.{Matrix}
-use Rattle.parser.specs.declared.state.Phase.{Phase}
-use Rattle.parser.specs.declared.state.State.{State}
-use Rattle.parser.specs.declared.state.Stepped.{Stepped}
 use borrow.Author.Tests.{not-true, not-false}
 use lib.ListN.{length, take}
 use mathlib.Core.Bool.{Bool, true, false, not}

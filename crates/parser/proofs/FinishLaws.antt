@@ -11,22 +11,22 @@ use Rattle.block.specs.Outcome.{Outcome, done, refused}
 use Rattle.block.specs.Reading.{Character, Reading}
 use Rattle.block.specs.declared.data.DataType.{DataType}
 use Rattle.block.specs.declared.format_options.Options.{Options}
+use Rattle.commands.specs.MatrixHeld.{format·held, reading·held, untyped·held}
+use Rattle.commands.specs.StateHeld.{Reader, matrix·of, phase·of, style·of}
+use Rattle.commands.specs.StatePlaced.{Matrix·placed}
+use Rattle.commands.specs.Stepping.{Answers, answered, short}
+use Rattle.commands.specs.WorkMap.{map·fits}
+use Rattle.commands.specs.declared.state.Data.{Data}
+use Rattle.commands.specs.declared.state.Held.{Held}
+use Rattle.commands.specs.declared.state.Matrix.{Matrix}
+use Rattle.commands.specs.declared.state.Names.{Names}
+use Rattle.commands.specs.declared.state.Parsed.{Parsed}
+use Rattle.commands.specs.declared.state.Phase.{Phase}
+use Rattle.commands.specs.declared.state.Style.{Style}
 use Rattle.lexer.proofs.Basics.{and-false}
 use Rattle.lexer.specs.Base.{pick}
 use Rattle.lexer.specs.declared.refusal.Refusal.{Refusal}
-use Rattle.parser.specs.MatrixHeld.{format·held, reading·held, untyped·held}
 use Rattle.parser.specs.ParsedHeld.{dna?, parsed·held}
-use Rattle.parser.specs.StateHeld.{Reader, matrix·of, phase·of, style·of}
-use Rattle.parser.specs.StatePlaced.{Matrix·placed}
-use Rattle.parser.specs.Stepping.{Answers, answered, short}
-use Rattle.parser.specs.WorkMap.{map·fits}
-use Rattle.parser.specs.declared.state.Data.{Data}
-use Rattle.parser.specs.declared.state.Held.{Held}
-use Rattle.parser.specs.declared.state.Matrix.{Matrix}
-use Rattle.parser.specs.declared.state.Names.{Names}
-use Rattle.parser.specs.declared.state.Parsed.{Parsed}
-use Rattle.parser.specs.declared.state.Phase.{Phase}
-use Rattle.parser.specs.declared.state.Style.{Style}
 use borrow.Author.Tests.{lt-ltb}
 use lib.Dec.{ltb}
 use lib.ListN.{length, take}

@@ -4,13 +4,13 @@ use Rattle.block.specs.Format as F
 use Rattle.block.specs.Formats.{Settled, meant, options·of}
 use Rattle.block.specs.declared.format_options.Options.{Options}
 use Rattle.block.specs.declared.formats.Format.{Format}
+use Rattle.commands.specs.MatrixHeld.{format·held}
+use Rattle.commands.specs.StateHeld.{style·of}
+use Rattle.commands.specs.StatePlaced.{Style·placed}
+use Rattle.commands.specs.declared.state.Style.{Style}
 use Rattle.lexer.proofs.Basics.{by-test}
 use Rattle.lexer.specs.Base.{bytes}
-use Rattle.parser.specs.MatrixHeld.{format·held}
-use Rattle.parser.specs.StateHeld.{style·of}
-use Rattle.parser.specs.StatePlaced.{Style·placed}
 use Rattle.parser.specs.Storing.{symbols·few}
-use Rattle.parser.specs.declared.state.Style.{Style}
 use borrow.Author.Tests.{le-leb, lt-leb, leb-true, leb-false}
 use lib.Dec.{leb}
 use lib.ListN.{length, length-take}

@@ -10,17 +10,17 @@ use Rattle.block.specs.NamesHeld.{names·of}
 use Rattle.block.specs.Reading.{Character, Reading, Taxon}
 use Rattle.block.specs.Typeset.{Types}
 use Rattle.block.specs.declared.model.CharacterOrdering.{CharacterOrdering}
+use Rattle.commands.specs.MatrixHeld.{held, order·held, reading·held, rows·of, types·at, untyped·held}
+use Rattle.commands.specs.StateHeld.{Retypes}
+use Rattle.commands.specs.WorkMap.{labels·place, order·place, types·place}
+use Rattle.commands.specs.declared.state.Held.{Held}
+use Rattle.commands.specs.declared.state.Names.{Names}
 use Rattle.labels.proofs.LabelSlotLaws as slots
 use Rattle.labels.specs.LabelSlots.{labels·of, labels·held}
 use Rattle.lexer.specs.Base.{pick}
 use Rattle.lexer.specs.Stored.{range}
 use Rattle.matrix.proofs.StoredRows.{stored-kept}
 use Rattle.matrix.specs.OrderHeld.{ordered}
-use Rattle.parser.specs.MatrixHeld.{held, order·held, reading·held, rows·of, types·at, untyped·held}
-use Rattle.parser.specs.StateHeld.{Retypes}
-use Rattle.parser.specs.WorkMap.{labels·place, order·place, types·place}
-use Rattle.parser.specs.declared.state.Held.{Held}
-use Rattle.parser.specs.declared.state.Names.{Names}
 use lib.ListN.{getD, length, length-take, take}
 use lib.Seq.{getD-take, take-take}
 use mathlib.Core.Bool.{false}

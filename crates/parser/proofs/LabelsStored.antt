@@ -7,6 +7,9 @@ use Rattle.block.specs.Labels.{Labelled, apply·labels}
 use Rattle.block.specs.Outcome.{Outcome, done, refused, then}
 use Rattle.block.specs.Reading.{Reading, Taxon}
 use Rattle.block.specs.declared.Judged.{Judged}
+use Rattle.commands.specs.MatrixHeld.{order·held}
+use Rattle.commands.specs.WorkMap.{labels·place, map·fits, order·place}
+use Rattle.commands.specs.declared.state.Data.{Data}
 use Rattle.labels.specs.LabelLists.{Fits, commands·held}
 use Rattle.labels.specs.LabelSlots.{labels·held}
 use Rattle.labels.specs.declared.labels.LabelCommands.{LabelCommands}
@@ -14,10 +17,7 @@ use Rattle.lexer.specs.declared.refusal.Refusal.{Refusal}
 use Rattle.parser.proofs.HeldLaws.{front-kept, order-kept}
 use Rattle.parser.proofs.MapFits.{fits, fitting}
 use Rattle.parser.proofs.StartsLaws.{commands-fit, commands-front}
-use Rattle.parser.specs.MatrixHeld.{order·held}
 use Rattle.parser.specs.Storing.{Labels·made, Order·made, commands·within, order·labelled, reading·parts}
-use Rattle.parser.specs.WorkMap.{labels·place, map·fits, order·place}
-use Rattle.parser.specs.declared.state.Data.{Data}
 use lib.ListN.{length, take}
 use mathlib.Core.Bool.{true}
 use mathlib.Core.List.{List}

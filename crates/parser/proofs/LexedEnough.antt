@@ -1,6 +1,7 @@
 -- Behind lexing, work memory is enough, and its words are the numbered tokens of the text. Assumes nothing.
 use Prim.Native.Nat.{ℕ}
 use Rattle.block.proofs.TokensWeigh.{tokens-weigh}
+use Rattle.commands.specs.Stepping.{Enough}
 use Rattle.lexer.proofs.LexedAnswers.{tokens-lexed}
 use Rattle.lexer.proofs.RangeLaws.{range-stored}
 use Rattle.lexer.specs.Lexing.{lexed, longest, work·needed}
@@ -8,7 +9,6 @@ use Rattle.lexer.specs.Stored.{Stored, range}
 use Rattle.lexer.specs.Tokens.{tokens}
 use Rattle.lexer.specs.Words.{numbered}
 use Rattle.lexer.specs.declared.Lexed.{Lexed}
-use Rattle.parser.specs.Stepping.{Enough}
 use lib.ListN.{length}
 use mathlib.Core.List.{List}
 use mathlib.Core.Path.{_≡_}

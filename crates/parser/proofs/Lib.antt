@@ -1,17 +1,13 @@
 -- What the proofs of this crate rest on, and what other crates may cite.
-pub mod AnswerLaws
 pub mod AssumptionLaws
-pub mod BlockLaws
 pub mod BlockMade
 pub mod CommandsWalk
 pub mod CutMade
 pub mod DataInner
-pub mod DataLaws
 pub mod EndLaws
 pub mod FinishLaws
 pub mod FormatHeld
 pub mod HeldLaws
-pub mod LabelKindLaws
 pub mod LabelsStored
 pub mod LexedEnough
 pub mod MadeLaws
@@ -26,8 +22,6 @@ pub mod ParseRead
 pub mod RoomLaws
 pub mod ShapeLaws
 pub mod StartsLaws
-pub mod StatesPlaced
 pub mod StepLaws
 pub mod StorableLaws
-pub mod TaxaLaws
 pub mod TurnLaws

@@ -2,15 +2,15 @@
 use Prim.Native.Nat.{ℕ, zero, suc, _+_, _*_, _-_, _≤_}
 use Rattle.block.specs.Format.{Format}
 use Rattle.block.specs.Weights.{weights}
+use Rattle.commands.specs.StatePlaced.{Command·placed}
+use Rattle.commands.specs.Stepping.{Enough}
+use Rattle.commands.specs.WorkMap.{map·fits}
 use Rattle.lexer.proofs.RangeLaws.{range-next}
 use Rattle.lexer.specs.Lexing.{longest, work·needed}
 use Rattle.lexer.specs.Stored.{range, word·of, words·of}
 use Rattle.matrix.specs.RowsHeld.{Rows·taken}
 use Rattle.matrix.specs.declared.matrix.Rows.{Rows}
 use Rattle.parser.proofs.MapFits.{fits}
-use Rattle.parser.specs.StatePlaced.{Command·placed}
-use Rattle.parser.specs.Stepping.{Enough}
-use Rattle.parser.specs.WorkMap.{map·fits}
 use lib.ListN.{length, length-take, take}
 use mathlib.Core.Bool.{true}
 use mathlib.Core.List.{List, _∷_}

@@ -1,8 +1,8 @@
 -- That the map of work memory fits, as its six inequalities. Assumes nothing.
 use Prim.Native.Nat.{ℕ, _+_, _*_, _≤_}
+use Rattle.commands.specs.WorkMap.{map·fits, types·place}
 use Rattle.lexer.proofs.Basics.{and-both, and-left, and-right}
 use Rattle.lexer.specs.Lexing.{longest}
-use Rattle.parser.specs.WorkMap.{map·fits, types·place}
 use borrow.Author.Tests.{le-leb, leb-true}
 use lib.Dec.{leb}
 use mathlib.Core.Bool.{true, _&&_}

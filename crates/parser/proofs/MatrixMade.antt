@@ -7,28 +7,28 @@ use Rattle.block.specs.Outcome.{Outcome, done, need, refused, then}
 use Rattle.block.specs.Reading.{Reading}
 use Rattle.block.specs.Sequential.{Shape}
 use Rattle.block.specs.declared.dimension.Dimensions.{Dimensions}
+use Rattle.commands.specs.MatrixHeld.{format·held, held}
+use Rattle.commands.specs.StateHeld.{Reader, data·of, matrix·of, names·in, sizes·of, state·of, stepped, style·of}
+use Rattle.commands.specs.StatePlaced.{Command·placed, Data·placed, Phase·placed, State·placed, Stepped·placed, Style·placed}
+use Rattle.commands.specs.Stepping.{Answers, Enough, Made, answered, short, state·held, step·held}
+use Rattle.commands.specs.WorkMap.{map·fits}
+use Rattle.commands.specs.declared.state.Data.{Data}
+use Rattle.commands.specs.declared.state.Matrix.{Matrix}
+use Rattle.commands.specs.declared.state.Phase.{Phase}
+use Rattle.commands.specs.declared.state.Sizes.{Sizes}
+use Rattle.commands.specs.declared.state.State.{State}
+use Rattle.commands.specs.declared.state.Stepped.{Stepped}
 use Rattle.lexer.proofs.Basics.{and-both, and-left, and-right}
 use Rattle.lexer.specs.Lexing.{longest, work·needed}
 use Rattle.lexer.specs.Stored.{range, word·of}
 use Rattle.lexer.specs.declared.refusal.Refusal.{Refusal}
 use Rattle.matrix.specs.Lines.{Rows·room}
 use Rattle.matrix.specs.declared.matrix.Rows.{Rows}
-use Rattle.parser.proofs.StartsLaws.{names-placed-within, placed-within}
 use Rattle.parser.proofs.FormatHeld.{default-few, placed-few}
+use Rattle.parser.proofs.StartsLaws.{names-placed-within, placed-within}
 use Rattle.parser.proofs.StorableLaws.{none-there}
-use Rattle.parser.specs.MatrixHeld.{format·held, held}
-use Rattle.parser.specs.StateHeld.{Reader, data·of, matrix·of, names·in, sizes·of, state·of, stepped, style·of}
-use Rattle.parser.specs.StatePlaced.{Command·placed, Data·placed, Phase·placed, State·placed, Stepped·placed, Style·placed}
-use Rattle.parser.specs.Stepping.{Answers, Enough, Made, answered, short, state·held, step·held}
 use Rattle.parser.specs.Storing.{Matrix·stored, Reading·made, commands·within, held·of, matrix·step, names·within, none·held, reading·step, rows·reading, shape·of, storable, symbols·few}
-use Rattle.parser.specs.WorkMap.{map·fits}
 use Rattle.parser.specs.declared.reading.MatrixShape.{MatrixShape}
-use Rattle.parser.specs.declared.state.Data.{Data}
-use Rattle.parser.specs.declared.state.Matrix.{Matrix}
-use Rattle.parser.specs.declared.state.Phase.{Phase}
-use Rattle.parser.specs.declared.state.Sizes.{Sizes}
-use Rattle.parser.specs.declared.state.State.{State}
-use Rattle.parser.specs.declared.state.Stepped.{Stepped}
 use borrow.Author.Tests.{le-leb, leb-true}
 use borrow.Table.Elements.{length-take-le}
 use lib.Dec.{leb, eqb}

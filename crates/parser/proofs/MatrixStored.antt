@@ -7,6 +7,12 @@ use Rattle.block.specs.Outcome.{Outcome, done, refused, then}
 use Rattle.block.specs.Reading.{Reading, Taxon}
 use Rattle.block.specs.Sequential.{Shape}
 use Rattle.block.specs.declared.Judged.{Judged}
+use Rattle.commands.specs.MatrixHeld.{format·held, order·held, reading·held, rows·of, untyped·held}
+use Rattle.commands.specs.StateHeld.{Reader, data·of, names·in}
+use Rattle.commands.specs.StatePlaced.{Command·placed}
+use Rattle.commands.specs.Stepping.{Enough, answered, short}
+use Rattle.commands.specs.WorkMap.{labels·place, map·fits, order·place}
+use Rattle.commands.specs.declared.state.Data.{Data}
 use Rattle.labels.specs.LabelLists.{commands·held}
 use Rattle.labels.specs.LabelSlots.{labels·held}
 use Rattle.lexer.specs.Stored.{range}
@@ -19,13 +25,7 @@ use Rattle.matrix.specs.declared.matrix.Rows.{Rows}
 use Rattle.parser.proofs.HeldLaws.{front-kept, held-untyped}
 use Rattle.parser.proofs.MapEnough.{map-enough}
 use Rattle.parser.proofs.StartsLaws.{range-front}
-use Rattle.parser.specs.MatrixHeld.{format·held, order·held, reading·held, rows·of, untyped·held}
-use Rattle.parser.specs.StateHeld.{Reader, data·of, names·in}
-use Rattle.parser.specs.StatePlaced.{Command·placed}
-use Rattle.parser.specs.Stepping.{Enough, answered, short}
 use Rattle.parser.specs.Storing.{Labels·made, Reading·made, held·of, order·labelled, reading·parts, rows·reading}
-use Rattle.parser.specs.WorkMap.{labels·place, map·fits, order·place}
-use Rattle.parser.specs.declared.state.Data.{Data}
 use lib.ListN.{length, take}
 use mathlib.Core.Bool.{true, false, true≢false}
 use mathlib.Core.List.{List}

@@ -5,17 +5,17 @@ use Rattle.block.specs.Commands.{words}
 use Rattle.block.specs.Judged.{judged}
 use Rattle.block.specs.NamesHeld.{names·of}
 use Rattle.block.specs.declared.Judged.{Judged}
+use Rattle.commands.specs.MatrixHeld.{order·held}
+use Rattle.commands.specs.StateHeld.{names·in}
+use Rattle.commands.specs.WorkMap.{map·fits, order·place}
+use Rattle.commands.specs.declared.state.Names.{Names}
 use Rattle.lexer.proofs.Basics.{and-left}
 use Rattle.lexer.specs.Stored.{range}
 use Rattle.lexer.specs.Words.{largest}
 use Rattle.matrix.proofs.StoredRows.{range-kept}
 use Rattle.matrix.specs.OrderHeld.{Arranged, all·below}
 use Rattle.parser.proofs.MapFits.{fitting}
-use Rattle.parser.specs.MatrixHeld.{order·held}
-use Rattle.parser.specs.StateHeld.{names·in}
 use Rattle.parser.specs.Storing.{Order·made, names·within}
-use Rattle.parser.specs.WorkMap.{map·fits, order·place}
-use Rattle.parser.specs.declared.state.Names.{Names}
 use borrow.Author.Tests.{eqb-true, leb-true}
 use lib.Dec.{eqb, leb}
 use lib.ListN.{length, take}

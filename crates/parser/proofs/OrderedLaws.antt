@@ -6,13 +6,13 @@ use Rattle.block.specs.Blocks.{has·ordered, ordered?, retyped, with·types}
 use Rattle.block.specs.Reading.{Character, Reading}
 use Rattle.block.specs.Typeset.{Types}
 use Rattle.block.specs.declared.model.CharacterOrdering.{CharacterOrdering}
+use Rattle.commands.specs.MatrixHeld.{reading·held, types·at, untyped·held}
+use Rattle.commands.specs.WorkMap.{types·place}
+use Rattle.commands.specs.declared.state.Held.{Held}
 use Rattle.lexer.proofs.Basics.{and-false}
 use Rattle.lexer.specs.Base.{pick}
 use Rattle.parser.proofs.HeldLaws.{untyped-length}
-use Rattle.parser.specs.MatrixHeld.{reading·held, types·at, untyped·held}
 use Rattle.parser.specs.ParsedHeld.{types·ordered}
-use Rattle.parser.specs.WorkMap.{types·place}
-use Rattle.parser.specs.declared.state.Held.{Held}
 use borrow.Author.Tests.{lt-ltb}
 use lib.Dec.{eqb, ltb}
 use lib.ListN.{getD, length}

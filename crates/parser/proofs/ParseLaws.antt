@@ -5,6 +5,9 @@ use Rattle.block.specs.Commands.{newline}
 use Rattle.block.specs.CommandsCut.{first·where}
 use Rattle.block.specs.Outcome.{refused}
 use Rattle.block.specs.Parse.{parse·behind, parse·from}
+use Rattle.commands.proofs.AnswerLaws.{answers-as}
+use Rattle.commands.specs.Stepping.{answered, short}
+use Rattle.commands.specs.declared.state.Parsed.{Parsed}
 use Rattle.lexer.proofs.Basics.{by-test}
 use Rattle.lexer.proofs.RangeLaws.{range-end, range-next}
 use Rattle.lexer.specs.Base.{bytes, pick}
@@ -12,14 +15,11 @@ use Rattle.lexer.specs.Lexing.{work·needed}
 use Rattle.lexer.specs.Stored.{range, word·of, words·of}
 use Rattle.lexer.specs.Words.{is}
 use Rattle.lexer.specs.declared.refusal.Refusal.{Refusal}
-use Rattle.parser.proofs.AnswerLaws.{answers-as}
 use Rattle.parser.proofs.FinishLaws.{refused-fits}
 use Rattle.parser.proofs.StartsLaws.{range-front}
 use Rattle.parser.specs.ParsedHeld.{parsed·held}
-use Rattle.parser.specs.Stepping.{answered, short}
 use Rattle.parser.specs.Steps.{Parse·made}
 use Rattle.parser.specs.Turning.{Behind·made}
-use Rattle.parser.specs.declared.state.Parsed.{Parsed}
 use borrow.Author.Tests.{not-true, not-false}
 use lib.ListN.{length}
 use mathlib.Core.Bool.{Bool, true, false, not}

@@ -1,6 +1,8 @@
 -- What lexing leaves in work memory is read rightly. Assumes nothing.
 use Prim.Native.Nat.{ℕ}
 use Rattle.block.specs.Parse.{parse, parse·from}
+use Rattle.commands.proofs.AnswerLaws.{answers-right}
+use Rattle.commands.specs.declared.state.Parsed.{Parsed}
 use Rattle.lexer.proofs.LexedAnswers.{tokens-lexed}
 use Rattle.lexer.proofs.StoredLaws.{stored-count}
 use Rattle.lexer.specs.Lexing.{lexed}
@@ -8,11 +10,9 @@ use Rattle.lexer.specs.Stored.{Stored}
 use Rattle.lexer.specs.Tokens.{tokens}
 use Rattle.lexer.specs.Words.{numbered}
 use Rattle.lexer.specs.declared.Lexed.{Lexed}
-use Rattle.parser.proofs.AnswerLaws.{answers-right}
 use Rattle.parser.proofs.LexedEnough.{lexed-enough, lexed-range}
 use Rattle.parser.specs.ParsedHeld.{parsed·held}
 use Rattle.parser.specs.Steps.{Parse·made}
-use Rattle.parser.specs.declared.state.Parsed.{Parsed}
 use lib.ListN.{length}
 use mathlib.Core.List.{List}
 use mathlib.Core.Path.{_≡_, sym, ap, _∙_}

@@ -6,13 +6,13 @@ use Rattle.block.specs.Format.{Format, default·format}
 use Rattle.block.specs.NamesHeld.{names·of}
 use Rattle.block.specs.Outcome.{done, refused}
 use Rattle.block.specs.declared.dimension.Dimensions.{Dimensions}
+use Rattle.commands.specs.StateHeld.{names·in}
+use Rattle.commands.specs.declared.state.Names.{Names}
 use Rattle.lexer.proofs.Basics.{and-true}
 use Rattle.lexer.specs.Base.{pick}
 use Rattle.lexer.specs.Stored.{range}
 use Rattle.lexer.specs.Words.{Numbered, largest}
 use Rattle.lexer.specs.declared.refusal.Refusal.{Refusal}
-use Rattle.parser.specs.StateHeld.{names·in}
-use Rattle.parser.specs.declared.state.Names.{Names}
 use borrow.Author.Tests.{le-leb}
 use lib.Dec.{eqb}
 use lib.ListN.{length, length-map}

@@ -1,6 +1,9 @@
 -- The front of work memory, where the tokens begin: words, label commands and names that are among so many tokens are the same by it alone; and what
 -- a state is placed in is among its tokens. Assumes nothing.
 use Prim.Native.Nat.{ℕ, _+_, _≤_, _<_}
+use Rattle.commands.specs.StateHeld.{names·in}
+use Rattle.commands.specs.StatePlaced.{Commands·placed, Names·placed}
+use Rattle.commands.specs.declared.state.Names.{Names}
 use Rattle.labels.proofs.LabelSlotLaws as slots
 use Rattle.labels.specs.LabelLists.{Fits, command·held, commands·held}
 use Rattle.labels.specs.declared.labels.LabelCommand.{LabelCommand}
@@ -8,10 +11,7 @@ use Rattle.labels.specs.declared.labels.LabelCommands.{LabelCommands}
 use Rattle.lexer.proofs.Basics.{and-both, and-left, and-right}
 use Rattle.lexer.specs.Lexing.{longest}
 use Rattle.lexer.specs.Stored.{range, word·of}
-use Rattle.parser.specs.StateHeld.{names·in}
-use Rattle.parser.specs.StatePlaced.{Commands·placed, Names·placed}
 use Rattle.parser.specs.Storing.{command·within, commands·within, names·within}
-use Rattle.parser.specs.declared.state.Names.{Names}
 use borrow.Author.Tests.{le-leb, leb-true, lt-ltb, ltb-true}
 use lib.Dec.{leb, ltb}
 use lib.ListN.{length, take}

@@ -6,14 +6,14 @@ use Rattle.block.specs.Blocks as B
 use Rattle.block.specs.Blocks.{assumption·step, data·end, data·step, end·block, in·phase, in·trees, inner·step, matrix·typed, outside, taxa·end, taxa·step}
 use Rattle.block.specs.Commands.{words}
 use Rattle.block.specs.Outcome.{Outcome, done, then}
+use Rattle.commands.specs.StateHeld.{Reader, data·of, matrix·of, names·in, phase·of, set·of}
+use Rattle.commands.specs.StatePlaced.{Data·placed, Names·placed, Phase·placed}
+use Rattle.commands.specs.declared.state.Data.{Data}
+use Rattle.commands.specs.declared.state.Matrix.{Matrix}
+use Rattle.commands.specs.declared.state.Names.{Names}
+use Rattle.commands.specs.declared.state.Phase.{Phase}
+use Rattle.commands.specs.declared.state.State.{State}
 use Rattle.lexer.specs.Words.{Numbered}
-use Rattle.parser.specs.StateHeld.{Reader, data·of, matrix·of, names·in, phase·of, set·of}
-use Rattle.parser.specs.StatePlaced.{Data·placed, Names·placed, Phase·placed}
-use Rattle.parser.specs.declared.state.Data.{Data}
-use Rattle.parser.specs.declared.state.Matrix.{Matrix}
-use Rattle.parser.specs.declared.state.Names.{Names}
-use Rattle.parser.specs.declared.state.Phase.{Phase}
-use Rattle.parser.specs.declared.state.State.{State}
 use mathlib.Core.Bool.{Bool, true}
 use mathlib.Core.List.{List}
 use mathlib.Core.Path.{_≡_, subst}

@@ -5,17 +5,17 @@ use Rattle.block.specs.Commands.{commands, commands·from}
 use Rattle.block.specs.CommandsCut.{Within, cut·of}
 use Rattle.block.specs.Outcome.{Outcome, done, fold, refused, then}
 use Rattle.block.specs.declared.commands.Cut.{Cut}
+use Rattle.commands.proofs.AnswerLaws.{answers-as, answers-then, answers-wider}
+use Rattle.commands.specs.StateHeld.{stepped}
+use Rattle.commands.specs.Stepping.{Answers, answered, short, state·held, step·held}
+use Rattle.commands.specs.declared.state.State.{State}
+use Rattle.commands.specs.declared.state.Stepped.{Stepped}
 use Rattle.lexer.proofs.RangeLaws.{range-end}
 use Rattle.lexer.specs.Stored.{range}
 use Rattle.lexer.specs.declared.refusal.Refusal.{Refusal}
-use Rattle.parser.proofs.AnswerLaws.{answers-as, answers-then, answers-wider}
-use Rattle.parser.specs.StateHeld.{stepped}
-use Rattle.parser.specs.Stepping.{Answers, answered, short, state·held, step·held}
 use Rattle.parser.specs.Steps.{Step·made, cut·step}
 use Rattle.parser.specs.Turning.{Turn·made, commands·held, cut·end}
 use Rattle.parser.specs.declared.parse.Turned.{Turned}
-use Rattle.parser.specs.declared.state.State.{State}
-use Rattle.parser.specs.declared.state.Stepped.{Stepped}
 use lib.ListN.{take}
 use mathlib.Core.Bool.{Bool, true, false, true≢false}
 use mathlib.Core.List.{List}

@@ -1,11 +1,4 @@
--- What the state between two commands means, and the map of work memory.
-pub mod WorkMap
-pub mod StateHeld
-pub mod MatrixHeld
-pub mod LabelKinds
-pub mod StatePlaced
-pub mod DataHeld
-pub mod Stepping
+-- MATRIX, ASSUMPTIONS and a whole text, as the code reads them.
 pub mod Storing
 pub mod TypesRoom
 pub mod ParsedHeld

@@ -6,15 +6,15 @@ use Rattle.block.specs.CommandsCut.{Within}
 use Rattle.block.specs.Outcome.{Outcome, done}
 use Rattle.block.specs.Parse.{parse·from}
 use Rattle.block.specs.declared.commands.Cut.{Cut}
+use Rattle.commands.specs.StatePlaced.{State·placed, Stepped·placed}
+use Rattle.commands.specs.Stepping.{Answers, Enough, state·held, step·held}
+use Rattle.commands.specs.WorkMap.{map·fits}
+use Rattle.commands.specs.declared.state.Held.{Held}
+use Rattle.commands.specs.declared.state.Parsed.{Parsed}
+use Rattle.commands.specs.declared.state.State.{State}
+use Rattle.commands.specs.declared.state.Stepped.{Stepped}
 use Rattle.lexer.specs.Stored.{range, word·of}
 use Rattle.parser.specs.ParsedHeld.{parsed·held}
-use Rattle.parser.specs.StatePlaced.{State·placed, Stepped·placed}
-use Rattle.parser.specs.Stepping.{Answers, Enough, state·held, step·held}
-use Rattle.parser.specs.WorkMap.{map·fits}
-use Rattle.parser.specs.declared.state.Held.{Held}
-use Rattle.parser.specs.declared.state.Parsed.{Parsed}
-use Rattle.parser.specs.declared.state.State.{State}
-use Rattle.parser.specs.declared.state.Stepped.{Stepped}
 use lib.ListN.{length, take}
 use mathlib.Core.Bool.{true}
 use mathlib.Core.List.{List}

@@ -3,26 +3,26 @@
 ghost use Prim.Native.Nat.{ℕ, _≤_, _<_};
 ghost use Rattle.block.specs.Blocks as B;
 ghost use Rattle.block.specs.CommandsCut.{Within};
-ghost use Rattle.parser.specs.StateHeld.{Reader, state·of};
-ghost use Rattle.parser.specs.StatePlaced.{State·placed};
+ghost use Rattle.commands.specs.StateHeld.{Reader, state·of};
+ghost use Rattle.commands.specs.StatePlaced.{State·placed};
 ghost use Rattle.parser.specs.Steps.{Parse·made};
 ghost use Rattle.parser.specs.Turning.{Behind·made, Turn·made, cut·end};
 ghost use lib.ListN.{length};
 ghost use mathlib.Core.List.{List};
 ghost use mathlib.Core.Path.{_≡_};
-use super::blocks::no_data;
 use super::finish::finish;
-use super::state::Matrix;
-use super::state::Names;
-use super::state::Parsed;
-use super::state::Phase;
-use super::state::State;
-use super::state::Stepped;
 use super::step::step;
 use block::Cut;
 use block::is;
 use block::next;
 use block::skip_newlines;
+use commands::Matrix;
+use commands::Names;
+use commands::Parsed;
+use commands::Phase;
+use commands::State;
+use commands::Stepped;
+use commands::no_data;
 use lexer::Refusal;
 
 // The state behind the next command and the index behind that; or its refusal.

@@ -1,12 +1,12 @@
 -- The function `finish` meets its contract. Assumes nothing.
 use Rattle.block.specs.Blocks.{finish}
+use Rattle.commands.specs.MatrixHeld.{held}
+use Rattle.commands.specs.StateHeld.{state·of}
+use Rattle.commands.specs.Stepping.{answered, state·held}
 use Rattle.parser.proofs.FinishLaws.{open-taxa, open-data, open-assumptions, open-trees, no-matrix, read-matrix, answers-from, placed-fits, refused-fits}
 use Rattle.parser.proofs.finish.finish.Statement.{statement}
 use Rattle.parser.proofs.finish.finish.Tie as tie
-use Rattle.parser.specs.MatrixHeld.{held}
 use Rattle.parser.specs.ParsedHeld.{parsed·held}
-use Rattle.parser.specs.StateHeld.{state·of}
-use Rattle.parser.specs.Stepping.{answered, state·held}
 use borrow.Author.Needs.{needs}
 use denote.Ref.{now}
 use mathlib.Core.Path.{refl}

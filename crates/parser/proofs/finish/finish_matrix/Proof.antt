@@ -1,10 +1,10 @@
 -- The function `finish_matrix` meets its contract. Assumes nothing.
+use Rattle.commands.specs.Stepping.{answered, short}
 use Rattle.lexer.proofs.Basics.{not-both}
 use Rattle.parser.proofs.FinishLaws.{standard-final, dna-final, ordered-final, refused-fits, held-fits}
 use Rattle.parser.proofs.finish.finish_matrix.Statement.{statement}
 use Rattle.parser.proofs.finish.finish_matrix.Tie as tie
 use Rattle.parser.specs.ParsedHeld.{parsed·held}
-use Rattle.parser.specs.Stepping.{answered, short}
 use borrow.Author.Needs.{needs}
 use borrow.Author.Tests.{not-true, not-false}
 use mathlib.Core.Path.{refl, sym, _∙_}

@@ -1,9 +1,9 @@
 -- The function `matrix_shape` meets its contract: one test after the other. Assumes nothing.
+use Rattle.commands.specs.MatrixHeld.{format·held}
+use Rattle.commands.specs.StateHeld.{data·of}
 use Rattle.parser.proofs.ShapeLaws.{shape-absent, shape-differs, shape-new, shape-whole}
 use Rattle.parser.proofs.reading.matrix_shape.Statement.{statement}
 use Rattle.parser.proofs.reading.matrix_shape.Tie as tie
-use Rattle.parser.specs.MatrixHeld.{format·held}
-use Rattle.parser.specs.StateHeld.{data·of}
 use Rattle.parser.specs.Storing.{shape·of}
 use borrow.Author.Needs.{needs}
 use borrow.Author.Tests.{not-true, not-false}

@@ -1,8 +1,8 @@
 -- The function `with_matrix` meets its contract, by computation. Assumes nothing.
 use Rattle.block.specs.Blocks.{with·matrix}
+use Rattle.commands.specs.StateHeld.{data·of, matrix·of}
 use Rattle.parser.proofs.reading.with_matrix.Statement.{statement}
 use Rattle.parser.proofs.reading.with_matrix.Tie as tie
-use Rattle.parser.specs.StateHeld.{data·of, matrix·of}
 use Rattle.parser.specs.Storing.{held·of}
 use mathlib.Core.Path.{refl}
 

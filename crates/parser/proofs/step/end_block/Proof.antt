@@ -1,9 +1,9 @@
 -- The function `end_block` meets its contract: one block after the other. Assumes nothing.
 use Rattle.block.specs.Outcome.{done}
+use Rattle.commands.specs.StateHeld.{phase·of, state·of, stepped}
 use Rattle.parser.proofs.StepLaws.{data-placed, ends-assumptions, ends-data, ends-outside, ends-taxa, ends-trees, taxa-placed}
 use Rattle.parser.proofs.step.end_block.Statement.{statement}
 use Rattle.parser.proofs.step.end_block.Tie as tie
-use Rattle.parser.specs.StateHeld.{phase·of, state·of, stepped}
 use borrow.Author.Needs.{needs}
 use denote.Ref.{now}
 use mathlib.Core.Path.{ap, _∙_}

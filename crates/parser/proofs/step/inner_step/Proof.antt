@@ -1,12 +1,12 @@
 -- The function `inner_step` meets its contract: one block after the other. Assumes nothing.
 use Rattle.block.specs.Outcome.{done}
+use Rattle.commands.specs.MatrixHeld.{held}
+use Rattle.commands.specs.StateHeld.{phase·of, stepped}
+use Rattle.commands.specs.Stepping.{state·held, step·held}
 use Rattle.parser.proofs.MadeLaws.{kept-made, made-as}
 use Rattle.parser.proofs.StepLaws.{inner-assumptions, inner-data, inner-outside, inner-taxa, inner-trees}
 use Rattle.parser.proofs.step.inner_step.Statement.{statement}
 use Rattle.parser.proofs.step.inner_step.Tie as tie
-use Rattle.parser.specs.MatrixHeld.{held}
-use Rattle.parser.specs.StateHeld.{phase·of, stepped}
-use Rattle.parser.specs.Stepping.{state·held, step·held}
 use borrow.Author.Needs.{needs}
 use denote.Ref.{now}
 use lib.ListN.{length, take}

@@ -1,8 +1,8 @@
 -- The function `is_outside` meets its contract. Assumes nothing.
 use Rattle.block.specs.Blocks.{outside?}
+use Rattle.commands.specs.StateHeld.{phase·of}
 use Rattle.parser.proofs.step.is_outside.Statement.{statement}
 use Rattle.parser.proofs.step.is_outside.Tie as tie
-use Rattle.parser.specs.StateHeld.{phase·of}
 use borrow.Author.Needs.{needs}
 
 enum-told : tie.Need-enum-told

@@ -1,9 +1,9 @@
 -- The function `after_options` meets its contract. Assumes nothing.
 use Rattle.assumptions.specs.TypesHeld.{options·answer, type·word}
 use Rattle.block.specs.Outcome.{done, then}
+use Rattle.commands.specs.StateHeld.{stepped}
 use Rattle.parser.proofs.types.after_options.Statement.{statement}
 use Rattle.parser.proofs.types.after_options.Tie as tie
-use Rattle.parser.specs.StateHeld.{stepped}
 use borrow.Author.Needs.{needs}
 use mathlib.Core.Path.{ap}
 

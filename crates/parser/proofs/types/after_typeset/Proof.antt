@@ -1,10 +1,10 @@
 -- The function `after_typeset` meets its contract. Assumes nothing.
 use Rattle.block.specs.Judged.{judged}
 use Rattle.block.specs.Outcome.{done, then}
+use Rattle.commands.specs.StateHeld.{stepped, set·of}
 use Rattle.lexer.specs.Base.{pick}
 use Rattle.parser.proofs.types.after_typeset.Statement.{statement}
 use Rattle.parser.proofs.types.after_typeset.Tie as tie
-use Rattle.parser.specs.StateHeld.{stepped, set·of}
 use borrow.Author.Needs.{needs}
 use mathlib.Core.Path.{ap}
 

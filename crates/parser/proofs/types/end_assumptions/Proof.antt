@@ -1,7 +1,7 @@
 -- The function `end_assumptions` meets its contract. Assumes nothing.
+use Rattle.commands.specs.StateHeld.{stepped, state·of, phase·of}
 use Rattle.parser.proofs.types.end_assumptions.Statement.{statement}
 use Rattle.parser.proofs.types.end_assumptions.Tie as tie
-use Rattle.parser.specs.StateHeld.{stepped, state·of, phase·of}
 use borrow.Author.Needs.{needs}
 use mathlib.Core.Bool.{true≢false}
 

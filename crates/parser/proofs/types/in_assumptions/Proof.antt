@@ -1,8 +1,8 @@
 -- The function `in_assumptions` meets its contract. Assumes nothing.
 use Rattle.block.specs.Blocks.{in·phase}
+use Rattle.commands.specs.StateHeld.{state·of, phase·of}
 use Rattle.parser.proofs.types.in_assumptions.Statement.{statement}
 use Rattle.parser.proofs.types.in_assumptions.Tie as tie
-use Rattle.parser.specs.StateHeld.{state·of, phase·of}
 use mathlib.Core.Path.{refl}
 
 returns : tie.Need-returns
