@@ -2,7 +2,7 @@
 -- Made from host/definitions/chosen/04-block-commands.txt, with the Rust's answers.
 use mathlib.Core.Path.{_≡_, refl}
 use Rattle.lexer.specs.Base.{bytes}
-use Rattle.vectors.specs.Asked.{read, refused}
+use Rattle.vectors.specs.Asked.{read, answered, refused}
 
 -- TAXLABELS before DIMENSIONS is 13 at it.
 c1 :
@@ -227,3 +227,17 @@ c32 :
     ≡ refused 14 1 58 2
 unfolding read refused
 c32 = refl
+
+-- A label command before DIMENSIONS.
+c33 :
+    read 106 (bytes "#NEXUS BEGIN DATA;CHARLABELS x;DIMENSIONS NTAX=1 NCHAR=1;MATRIX a 0;END;")
+    ≡ answered 1 (bytes "datatype=STANDARD\ntaxa=1\ncharacters=1\nsymbols=01\nname=a\ncells=0\ncharacter=1\nlabel=x\norder=UNORD\nstates=0\n")
+unfolding read answered
+c33 = refl
+
+-- FORMAT and a label command before TAXLABELS.
+c34 :
+    read 107 (bytes "#NEXUS BEGIN DATA;DIMENSIONS NCHAR=1;FORMAT SYMBOLS=\"012\";CHARLABELS x;TAXLABELS a;MATRIX a 2;END;")
+    ≡ answered 1 (bytes "datatype=STANDARD\ntaxa=1\ncharacters=1\nsymbols=012\nname=a\ncells=2\ncharacter=1\nlabel=x\norder=UNORD\nstates=0\n")
+unfolding read answered
+c34 = refl

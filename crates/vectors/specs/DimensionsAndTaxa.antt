@@ -326,3 +326,10 @@ c46 :
     ≡ answered 1 (bytes "datatype=STANDARD\ntaxa=2\ncharacters=1\nsymbols=01\nname=END\ncells=0\nname=0\ncells=1\ncharacter=1\nlabel=\norder=UNORD\nstates=0\n")
 unfolding read answered
 c46 = refl
+
+-- NEWTAXA last.
+c47 :
+    read 105 (bytes "#NEXUS BEGIN DATA;DIMENSIONS NTAX=1 NCHAR=1 NEWTAXA;MATRIX a 0;END;")
+    ≡ answered 1 (bytes "datatype=STANDARD\ntaxa=1\ncharacters=1\nsymbols=01\nname=a\ncells=0\ncharacter=1\nlabel=\norder=UNORD\nstates=0\n")
+unfolding read answered
+c47 = refl

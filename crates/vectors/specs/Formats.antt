@@ -368,3 +368,31 @@ c52 :
     ≡ answered 1 (bytes "datatype=STANDARD\ntaxa=1\ncharacters=1\nsymbols=aA\nname=x\ncells=1\ncharacter=1\nlabel=\norder=UNORD\nstates=0\n")
 unfolding read answered
 c52 = refl
+
+-- An option behind a bare INTERLEAVE.
+c53 :
+    read 147 (bytes "#NEXUS BEGIN DATA;DIMENSIONS NTAX=1 NCHAR=2;FORMAT INTERLEAVE GAP=-;MATRIX\na 0\na -;END;")
+    ≡ answered 1 (bytes "datatype=STANDARD\ntaxa=1\ncharacters=2\nsymbols=01\nname=a\ncells=0 g\ncharacter=1\nlabel=\norder=UNORD\nstates=0\ncharacter=2\nlabel=\norder=UNORD\nstates=0\n")
+unfolding read answered
+c53 = refl
+
+-- Options before LABELS stay.
+c54 :
+    read 190 (bytes "#NEXUS BEGIN DATA;DIMENSIONS NTAX=1 NCHAR=3;FORMAT SYMBOLS=\"012\" MISSING=x GAP=- LABELS;MATRIX a 2x-;END;")
+    ≡ answered 1 (bytes "datatype=STANDARD\ntaxa=1\ncharacters=3\nsymbols=012\nname=a\ncells=2 m g\ncharacter=1\nlabel=\norder=UNORD\nstates=0\ncharacter=2\nlabel=\norder=UNORD\nstates=0\ncharacter=3\nlabel=\norder=UNORD\nstates=0\n")
+unfolding read answered
+c54 = refl
+
+-- All options, one after another.
+c55 :
+    read 275 (bytes "#NEXUS BEGIN DATA;DIMENSIONS NTAX=1 NCHAR=5;FORMAT DATATYPE=STANDARD SYMBOLS=\"abX2\" MISSING=x GAP=- INTERLEAVE=YES RESPECTCASE LABELS NOTOKENS;MATRIX\na abX\na 2-;END;")
+    ≡ answered 1 (bytes "datatype=STANDARD\ntaxa=1\ncharacters=5\nsymbols=abX2\nname=a\ncells=0 1 2 3 g\ncharacter=1\nlabel=\norder=UNORD\nstates=0\ncharacter=2\nlabel=\norder=UNORD\nstates=0\ncharacter=3\nlabel=\norder=UNORD\nstates=0\ncharacter=4\nlabel=\norder=UNORD\nstates=0\ncharacter=5\nlabel=\norder=UNORD\nstates=0\n")
+unfolding read answered
+c55 = refl
+
+-- The same from the last to the first.
+c56 :
+    read 275 (bytes "#NEXUS BEGIN DATA;DIMENSIONS NTAX=1 NCHAR=5;FORMAT NOTOKENS LABELS RESPECTCASE INTERLEAVE=YES GAP=- MISSING=x SYMBOLS=\"abX2\" DATATYPE=STANDARD;MATRIX\na abX\na 2-;END;")
+    ≡ answered 1 (bytes "datatype=STANDARD\ntaxa=1\ncharacters=5\nsymbols=abX2\nname=a\ncells=0 1 2 3 g\ncharacter=1\nlabel=\norder=UNORD\nstates=0\ncharacter=2\nlabel=\norder=UNORD\nstates=0\ncharacter=3\nlabel=\norder=UNORD\nstates=0\ncharacter=4\nlabel=\norder=UNORD\nstates=0\ncharacter=5\nlabel=\norder=UNORD\nstates=0\n")
+unfolding read answered
+c56 = refl

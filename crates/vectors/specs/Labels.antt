@@ -241,3 +241,10 @@ c34 :
     ≡ refused 22 1 65 2
 unfolding read refused
 c34 = refl
+
+-- States first, then the label of the same character.
+c35 :
+    read 124 (bytes "#NEXUS BEGIN DATA;DIMENSIONS NTAX=1 NCHAR=1;CHARSTATELABELS 1/x y,1 eye;MATRIX a 0;END;")
+    ≡ answered 1 (bytes "datatype=STANDARD\ntaxa=1\ncharacters=1\nsymbols=01\nname=a\ncells=0\ncharacter=1\nlabel=eye\norder=UNORD\nstates=2\nstate=x\nstate=y\n")
+unfolding read answered
+c35 = refl

@@ -178,3 +178,10 @@ c25 :
     ≡ refused 16 1 63 2
 unfolding read refused
 c25 = refl
+
+-- DNA in pages.
+c26 :
+    read 161 (bytes "#NEXUS BEGIN DATA;DIMENSIONS NTAX=2 NCHAR=2;FORMAT DATATYPE=DNA INTERLEAVE;MATRIX\na A\nb C\na G\nb T;END;")
+    ≡ answered 1 (bytes "datatype=DNA\ntaxa=2\ncharacters=2\nsymbols=ACGT\nname=a\ncells=0 2\nname=b\ncells=1 3\ncharacter=1\nlabel=\norder=UNORD\nstates=0\ncharacter=2\nlabel=\norder=UNORD\nstates=0\n")
+unfolding read answered
+c26 = refl

@@ -284,3 +284,17 @@ c40 :
     ≡ refused 11 1 8 2
 unfolding read refused
 c40 = refl
+
+-- Three comments in each other.
+c41 :
+    read 2 (bytes "[a[b[c]d]e]X")
+    ≡ refused 6 1 12 2
+unfolding read refused
+c41 = refl
+
+-- A letter in the place of a third byte.
+c42 :
+    read 2 (bytes "#NEXUS " ++ (225 ∷ 128 ∷ bytes "A"))
+    ≡ refused 3 0 0 2
+unfolding read refused
+c42 = refl
