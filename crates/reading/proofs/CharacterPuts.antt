@@ -1,0 +1,83 @@
+-- The lines of a character, by the numbers that work memory holds for its label and its state labels, and by its type. Assumes nothing.
+use Prim.Native.Nat.{ℕ, suc, _-_, _/_, _%_}
+use Rattle.assumptions.specs.TypesHeld.{type·of}
+use Rattle.block.specs.declared.model.CharacterOrdering.{CharacterOrdering}
+use Rattle.labels.specs.LabelSlots.{label·slot, states·slot}
+use Rattle.lexer.specs.Base.{bytes, pick}
+use Rattle.reading.proofs.FewNames.{few·names}
+use Rattle.reading.specs.CharactersHeld.{slot·character, slot·label, slot·states, slot·type, states·piece}
+use Rattle.reading.specs.Pieces.{name·piece}
+use Rattle.record.specs.Decimal.{decimal, decimal·from, digit}
+use Rattle.record.specs.Spell.{escaped, line, order·word, spell·character, spell·states}
+use lib.ListN.{getD, length}
+use mathlib.Core.Bool.{Bool, false, true}
+use mathlib.Core.List.{List, _∷_, _++_}
+use mathlib.Core.Path.{_≡_, refl}
+use native.Mathlib.Omega.{arith}
+
+module _ (text front : List ℕ) where
+  module _ (slot : ℕ) (behind : List ℕ) where
+    -- The label: there is none, or it is that of a word.
+    pub label-none : slot ≡ 0 → bytes "label=\n" ++ behind ≡ line "label=" (escaped (slot·label text front slot)) behind
+    unfolding bytes line slot·label label·slot escaped
+    label-none e = rw e
+
+    -- State labels: there are none, or so many from a word on.
+    pub states-none : slot ≡ 0 → bytes "states=0\n" ++ behind ≡ states·piece (slot·states text front slot) behind
+    unfolding bytes line states·piece slot·states states·slot decimal decimal·from digit spell·states
+    states-none e = rw e
+
+  label-next : (i : ℕ) (behind : List ℕ) → bytes "label=" ++ name·piece text front i (10 ∷ behind) ≡ line "label=" (escaped (slot·label text front (suc i))) behind
+  unfolding line name·piece slot·label label·slot
+  label-next i behind = refl
+
+  states-next : (v count : ℕ) (behind : List ℕ) → count ≡ length (few·names text front (v % 128) (v / 128))
+      → bytes "states=" ++ (decimal count ++ (10 ∷ spell·states (few·names text front (v % 128) (v / 128)) behind)) ≡ states·piece (slot·states text front (suc v)) behind
+  unfolding line states·piece slot·states states·slot
+  states-next v count behind e = rw e
+
+  module _ (slot : ℕ) (h : slot ≡ 0 → ⊥) where
+    next : suc (slot - 1) ≡ slot
+    next = omega (arith, h)
+
+    pub label-some : (behind : List ℕ) → bytes "label=" ++ name·piece text front (slot - 1) (10 ∷ behind) ≡ line "label=" (escaped (slot·label text front slot)) behind
+    label-some behind = rw next at (label-next (slot - 1) behind)
+
+    pub states-some : (count : ℕ) → count ≡ length (few·names text front ((slot - 1) % 128) ((slot - 1) / 128)) → (behind : List ℕ)
+        → bytes "states=" ++ (decimal count ++ (10 ∷ spell·states (few·names text front ((slot - 1) % 128) ((slot - 1) / 128)) behind)) ≡ states·piece (slot·states text front slot) behind
+    states-some count e behind = rw next at (states-next (slot - 1) count behind e)
+
+  -- All its lines.
+  pub character-lines : (k l s : ℕ) (o : CharacterOrdering) (behind : List ℕ)
+      → bytes "character=" ++ (decimal k ++ (10 ∷ line "label=" (escaped (slot·label text front l)) (line "order=" (order·word o) (states·piece (slot·states text front s) behind))))
+      ≡ spell·character k (slot·character text front l s o) behind
+  unfolding line states·piece spell·character slot·character
+  character-lines k l s o behind = refl
+
+-- The line of a type.
+pub order-unordered : (o : CharacterOrdering) (behind : List ℕ) → o ≡ CharacterOrdering.Unordered → bytes "order=UNORD\n" ++ behind ≡ line "order=" (order·word o) behind
+unfolding bytes line order·word
+order-unordered o behind e = rw e
+
+pub order-ordered : (o : CharacterOrdering) (behind : List ℕ) → o ≡ CharacterOrdering.Ordered → bytes "order=ORD\n" ++ behind ≡ line "order=" (order·word o) behind
+unfolding bytes line order·word
+order-ordered o behind e = rw e
+
+-- The type at a place: there is no set, it gives none, or one of two.
+module _ (work : List ℕ) (o : CharacterOrdering) (typed : Bool) (t : ℕ) where
+  pub type-untyped : typed ≡ false → o ≡ slot·type work o typed t
+  unfolding slot·type pick
+  type-untyped f = rw f
+
+  module _ (set : typed ≡ true) (number : ℕ) (is : number ≡ getD work t 0) where
+    pub type-none : number ≡ 0 → o ≡ slot·type work o typed t
+    unfolding slot·type pick type·of
+    type-none e = rw (set, ← is, e)
+
+    pub type-one : number ≡ 1 → CharacterOrdering.Unordered ≡ slot·type work o typed t
+    unfolding slot·type pick type·of
+    type-one e = rw (set, ← is, e)
+
+    pub type-two : (number ≡ 0 → ⊥) → (number ≡ 1 → ⊥) → CharacterOrdering.Ordered ≡ slot·type work o typed t
+    unfolding slot·type pick type·of
+    type-two z s = let more : number ≡ suc (suc (number - 2)) = omega (arith, z, s) in rw (set, ← is, more)

@@ -1,0 +1,103 @@
+-- The function `put_each` meets its contract: a turn puts one character. The measure is how many are left. Assumes nothing.
+use Prim.Native.Nat.{_+_, _*_, _-_}
+use Rattle.reading.proofs.CharacterWalk.{Spelling, spelling-end, spelling-start, spelling-turn}
+use Rattle.reading.proofs.characters.put_each.Statement.{statement}
+use Rattle.reading.proofs.characters.put_each.Tie as tie
+use Rattle.reading.specs.CharactersHeld.{characters·from}
+use Rattle.record.specs.Spell.{spell·characters}
+use borrow.Author.Needs.{needs}
+use lib.ListN.{take}
+use lib.Seq.{length-take-le}
+use mathlib.Core.Path.{sym}
+use native.Mathlib.Omega.{arith}
+
+abbrev Inv-loop : tie.InvT-loop
+Inv-loop text work at characters typed o buffer₀ n m₀ k₀ buffer m k =
+    Spelling text (take at work) work at characters typed o buffer₀ n (spell·characters 1 (characters·from text (take at work) work o typed at (at + characters) (at + 2 * characters) characters)) buffer m k
+
+abbrev μ-loop : tie.MeasureT-loop
+μ-loop text work at characters typed o buffer₀ n m₀ k₀ buffer m k = characters - k
+
+loop-holds : tie.Need-loop-holds Inv-loop μ-loop
+loop-holds c = spelling-start _ _ _ _ _ _ _ _ _
+
+add-start-of : tie.Need-add-start-of Inv-loop μ-loop
+add-start-of c = search needs
+
+start-of-requires : tie.Need-start-of-requires Inv-loop μ-loop
+start-of-requires c κs = search needs
+
+add-start-of-2 : tie.Need-add-start-of-2 Inv-loop μ-loop
+add-start-of-2 c = search needs
+
+add-start-of-3 : tie.Need-add-start-of-3 Inv-loop μ-loop
+add-start-of-3 c = search needs
+
+start-of-requires-2 : tie.Need-start-of-requires-2 Inv-loop μ-loop
+start-of-requires-2 c κs = search needs
+
+mul-type-at : tie.Need-mul-type-at Inv-loop μ-loop
+mul-type-at c = search needs
+
+add-type-at : tie.Need-add-type-at Inv-loop μ-loop
+add-type-at c = search needs
+
+add-type-at-2 : tie.Need-add-type-at-2 Inv-loop μ-loop
+add-type-at-2 c = search needs
+
+type-at-requires : tie.Need-type-at-requires Inv-loop μ-loop
+type-at-requires c κs = search needs
+
+slice-aggregate-put-character : tie.Need-slice-aggregate-put-character Inv-loop μ-loop
+slice-aggregate-put-character c =
+    let s = c .before .before .before .before .before .before .before .before .before in
+    sym (length-take-le _ (s .args .work .now) (omega (arith, s .pre)))
+
+add-put-character : tie.Need-add-put-character Inv-loop μ-loop
+add-put-character c = search needs
+
+put-character-requires : tie.Need-put-character-requires Inv-loop μ-loop
+put-character-requires c κs = search needs
+
+add-k : tie.Need-add-k Inv-loop μ-loop
+add-k c = search needs
+
+loop-less : tie.Need-loop-less Inv-loop μ-loop
+loop-less c = search needs
+
+loop-again : tie.Need-loop-again Inv-loop μ-loop
+loop-again c =
+    let t = c .before .before .before .before .before in
+    let l = t .before .before .before in
+    spelling-turn _ _ _ _ _ _ _ _ _ _ _ _ _ (l .before .loop .inv) _ _ _ _ _ (l .loop-test .taken) (t .before .before .start-of .ensures) (t .before .start-of2 .ensures) (t .type-at .ensures) (c .before .before .put-character .ensures)
+
+same-length : tie.Need-same-length Inv-loop μ-loop
+same-length c = search needs
+
+returns : tie.Need-returns Inv-loop μ-loop
+returns c = spelling-end _ _ _ _ _ _ _ _ _ _ _ _ _ (c .before .loop .inv) (c .loop-test .left)
+
+pub put-each-spec : {M : Type 1} → statement M
+put-each-spec =
+    tie.close
+    (tie.spec
+    Inv-loop
+    μ-loop
+    loop-holds
+    add-start-of
+    start-of-requires
+    add-start-of-2
+    add-start-of-3
+    start-of-requires-2
+    mul-type-at
+    add-type-at
+    add-type-at-2
+    type-at-requires
+    slice-aggregate-put-character
+    add-put-character
+    put-character-requires
+    add-k
+    loop-less
+    loop-again
+    same-length
+    returns)

@@ -1,0 +1,4 @@
+-- Pieces of a record, as they are put from work memory.
+pub mod CharactersHeld
+pub mod Pieces
+pub mod CodedCells

@@ -1,0 +1,298 @@
+// The cells of a row, put from the words of work memory.
+
+ghost use Prim.Native.Nat.{_-_, _≤_};
+ghost use Rattle.block.specs.Chunk.{set·cell};
+ghost use Rattle.block.specs.declared.kinds.Bracket.{Bracket};
+ghost use Rattle.emit.specs.Puts.{Puts};
+ghost use Rattle.lexer.specs.Base.{given, pick};
+ghost use Rattle.lexer.specs.Lexing.{token·at};
+ghost use Rattle.lexer.specs.Stored.{word·of};
+ghost use Rattle.matrix.specs.Taken.{also, states·taken};
+ghost use Rattle.reading.specs.CodedCells.{Cleared, Row·put, cells·coded, decoded, dotted·on, has·cells, marked, marks, members, spell·maybe, topped, word·coded};
+ghost use Rattle.record.specs.Spell.{spell·cell};
+ghost use lib.ListN.{getD};
+ghost use mathlib.Core.Bool.{false};
+ghost use mathlib.Core.List.{[], _∷_, _++_};
+ghost use mathlib.Core.Path.{_≡_};
+use block::Bracket;
+use block::punct;
+use emit::put;
+use emit::put_decimal;
+use lexer::Item;
+use lexer::Kind;
+use lexer::kind_at;
+use lexer::next_byte;
+use lexer::start_of;
+use lexer::text_start;
+
+// A row that is put: the next place, whether a cell was put, and how many cells are lacking.
+pub struct Putting {
+    pub at: usize,
+    pub started: bool,
+    pub left: usize,
+}
+
+// Puts a state of a set, with a dot before it if others were put.
+fn put_member(buffer: &mut [u8], n: usize, i: usize, begun: bool) -> usize
+    ensures { λ r. ⌜ Puts (now (buffer .entry)) n (dotted·on begun (i ∷ [])) (now (buffer .exit)) r ⌝ }
+{
+    if begun {
+        let at = put(buffer, n, 46);
+        return put_decimal(buffer, at, i as u64);
+    }
+    put_decimal(buffer, n, i as u64)
+}
+
+// Puts the states of a set whose marks are not 0.
+fn put_members(buffer: &mut [u8], n: usize, set: &[u8]) -> usize
+    ensures { λ r. ⌜ Puts (now (buffer .entry)) n (dotted·on false (members 0 (now (set .entry)))) (now (buffer .exit)) r ⌝ }
+{
+    let mut at = n;
+    let mut begun = false;
+    let mut i = 0;
+    while i < set.len() {
+        let k = i;
+        i += 1;
+        if set[k] != 0 {
+            at = put_member(buffer, at, k, begun);
+            begun = true;
+        }
+    }
+    at
+}
+
+// Puts a set of states.
+fn put_set(buffer: &mut [u8], n: usize, kind: Bracket, set: &[u8]) -> usize
+    ensures { λ r. ⌜ Puts (now (buffer .entry)) n (λ behind. spell·cell (set·cell kind (members 0 (now (set .entry)))) ++ behind) (now (buffer .exit)) r ⌝ }
+{
+    match kind {
+        Bracket::Brace => {
+            let at = put(buffer, n, 117);
+            put_members(buffer, at, set)
+        }
+        Bracket::Parenthesis => {
+            let at = put(buffer, n, 112);
+            put_members(buffer, at, set)
+        }
+    }
+}
+
+// Puts the set of DNA states that bits are.
+fn put_bits(buffer: &mut [u8], n: usize, bits: u8) -> usize
+    ensures { λ r. ⌜ Puts (now (buffer .entry)) n (λ behind. spell·cell (set·cell Bracket.Brace (members 0 (marks bits))) ++ behind) (now (buffer .exit)) r ⌝ }
+{
+    let set = [bits % 2, bits / 2 % 2, bits / 4 % 2, bits / 8];
+    put_set(buffer, n, Bracket::Brace, &set)
+}
+
+// Puts the cell of a code, if it has one.
+fn put_code(buffer: &mut [u8], n: usize, code: u8) -> usize
+    ensures { λ r. ⌜ Puts (now (buffer .entry)) n (spell·maybe (decoded code)) (now (buffer .exit)) r ⌝ }
+{
+    if code < 96 {
+        return put_decimal(buffer, n, code as u64);
+    }
+    if code < 112 {
+        return put_bits(buffer, n, code - 96);
+    }
+    if code == 126 {
+        return put(buffer, n, 109);
+    }
+    if code == 127 {
+        return put(buffer, n, 103);
+    }
+    n
+}
+
+// Has a code a cell?
+fn has_cell(code: u8) -> bool
+    ensures { λ r. ⌜ r ≡ given (decoded code) ⌝ }
+{
+    if code < 112 {
+        return true;
+    }
+    if code == 126 {
+        return true;
+    }
+    code == 127
+}
+
+// The code of a byte.
+fn code_of(codes: &[u8; 256], b: u8) -> u8
+    ensures { λ r. ⌜ r ≡ getD (now (codes .entry)) b 0 ⌝ }
+{
+    codes[b as usize]
+}
+
+// One fewer; none is fewer than none.
+fn fewer(left: usize) -> usize
+    ensures { λ r. ⌜ r ≡ left - 1 ⌝ }
+{
+    if left == 0 {
+        return 0;
+    }
+    left - 1
+}
+
+// Puts the blank before a cell that is not the first.
+fn put_blank(buffer: &mut [u8], n: usize, started: bool) -> usize
+    ensures { λ r. ⌜ Puts (now (buffer .entry)) n (λ behind. pick started (32 ∷ behind) behind) (now (buffer .exit)) r ⌝ }
+{
+    if started {
+        return put(buffer, n, 32);
+    }
+    n
+}
+
+// Puts the cell of a code behind those of a row, if it has one.
+fn put_cell(buffer: &mut [u8], row: Putting, code: u8) -> Putting
+    ensures { λ r. ⌜ Row·put (now (buffer .entry)) row (also (decoded code) []) (now (buffer .exit)) r ⌝ }
+{
+    if !has_cell(code) {
+        return row;
+    }
+    let at = put_blank(buffer, row.at, row.started);
+    let next = put_code(buffer, at, code);
+    Putting {
+        at: next,
+        started: true,
+        left: fewer(row.left),
+    }
+}
+
+// Puts a set behind the cells of a row.
+fn put_set_cell(buffer: &mut [u8], row: Putting, kind: Bracket, set: &[u8]) -> Putting
+    ensures { λ r. ⌜ Row·put (now (buffer .entry)) row (set·cell kind (members 0 (now (set .entry))) ∷ []) (now (buffer .exit)) r ⌝ }
+{
+    let at = put_blank(buffer, row.at, row.started);
+    let next = put_set(buffer, at, kind, set);
+    Putting {
+        at: next,
+        started: true,
+        left: fewer(row.left),
+    }
+}
+
+// Puts the cells of a token's text behind those of a row.
+fn put_cells(
+    text: &[u8],
+    start: usize,
+    buffer: &mut [u8],
+    from: Putting,
+    codes: &[u8; 256],
+) -> Putting
+    ensures { λ r. ⌜ Row·put (now (buffer .entry)) from (cells·coded (now (codes .entry)) (token·at (now (text .entry)) start .text)) (now (buffer .exit)) r ⌝ }
+{
+    let mut row = from;
+    let mut c = text_start(text, start);
+    loop {
+        match next_byte(text, c) {
+            Item::Byte(b, d) => {
+                row = put_cell(buffer, row, code_of(codes, b));
+                c = d;
+            }
+            Item::End => {
+                return row;
+            }
+        }
+    }
+}
+
+// Puts the state of a code into a set, if it has one, and answers the end of the marks that are looked at.
+fn mark_state(set: &mut [u8; 96], top: usize, code: u8) -> usize
+    ensures grown { λ r. ⌜ now (set .exit) ≡ marked (states·taken (also (decoded code) [])) (now (set .entry)) ⌝ }
+    ensures within { λ r. ⌜ r ≡ topped (states·taken (also (decoded code) [])) top ⌝ }
+{
+    if 96 <= code {
+        return top;
+    }
+    let i = code as usize;
+    set[i] = 1;
+    if i < top {
+        return top;
+    }
+    i + 1
+}
+
+// Puts the states of a token's text into a set.
+fn mark_states(
+    text: &[u8],
+    start: usize,
+    set: &mut [u8; 96],
+    from: usize,
+    codes: &[u8; 256],
+) -> usize
+    ensures grown { λ r. ⌜ now (set .exit) ≡ marked (states·taken (cells·coded (now (codes .entry)) (token·at (now (text .entry)) start .text))) (now (set .entry)) ⌝ }
+    ensures within { λ r. ⌜ r ≡ topped (states·taken (cells·coded (now (codes .entry)) (token·at (now (text .entry)) start .text))) from ⌝ }
+{
+    let mut top = from;
+    let mut c = text_start(text, start);
+    loop {
+        match next_byte(text, c) {
+            Item::Byte(b, d) => {
+                top = mark_state(set, top, code_of(codes, b));
+                c = d;
+            }
+            Item::End => {
+                return top;
+            }
+        }
+    }
+}
+
+// Has a word cells? Besides a word only the mark `+` can be a symbol.
+fn has_cells(text: &[u8], starts: &[u32], i: usize) -> bool
+    ensures { λ r. ⌜ r ≡ has·cells (word·of (now (text .entry)) (now (starts .entry)) i) ⌝ }
+{
+    match kind_at(text, start_of(starts, i)) {
+        Kind::Word => true,
+        _ => punct(text, starts, i, 43),
+    }
+}
+
+// Takes the states out of a set whose marks are looked at up to an end.
+fn clear(set: &mut [u8; 96], top: usize)
+    requires { ⌜ top ≤ 96 ⌝ }
+    ensures { λ r. ⌜ Cleared (now (set .entry)) top (now (set .exit)) ⌝ }
+{
+    let mut i = 0;
+    while i < top {
+        set[i] = 0;
+        i += 1;
+    }
+}
+
+// Puts the cells of a word behind those of a row.
+fn put_word(
+    text: &[u8],
+    starts: &[u32],
+    buffer: &mut [u8],
+    i: usize,
+    row: Putting,
+    codes: &[u8; 256],
+) -> Putting
+    ensures { λ r. ⌜ Row·put (now (buffer .entry)) row (word·coded (now (codes .entry)) (word·of (now (text .entry)) (now (starts .entry)) i)) (now (buffer .exit)) r ⌝ }
+{
+    if !has_cells(text, starts, i) {
+        return row;
+    }
+    put_cells(text, start_of(starts, i), buffer, row, codes)
+}
+
+// Puts the states of a word into a set.
+fn mark_word(
+    text: &[u8],
+    starts: &[u32],
+    set: &mut [u8; 96],
+    i: usize,
+    top: usize,
+    codes: &[u8; 256],
+) -> usize
+    ensures grown { λ r. ⌜ now (set .exit) ≡ marked (states·taken (word·coded (now (codes .entry)) (word·of (now (text .entry)) (now (starts .entry)) i))) (now (set .entry)) ⌝ }
+    ensures within { λ r. ⌜ r ≡ topped (states·taken (word·coded (now (codes .entry)) (word·of (now (text .entry)) (now (starts .entry)) i))) top ⌝ }
+{
+    if !has_cells(text, starts, i) {
+        return top;
+    }
+    mark_states(text, start_of(starts, i), set, top, codes)
+}
