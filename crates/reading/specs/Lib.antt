@@ -2,3 +2,4 @@
 pub mod CharactersHeld
 pub mod Pieces
 pub mod CodedCells
+pub mod RowLines
