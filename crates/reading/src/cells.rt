@@ -67,8 +67,8 @@ fn put_set(buffer: &mut [u8], n: usize, kind: Bracket, set: &[u8]) -> usize
 {
     match kind {
         Bracket::Brace => {
-            let at = put(buffer, n, 117);
-            put_members(buffer, at, set)
+            let braced = put(buffer, n, 117);
+            put_members(buffer, braced, set)
         }
         Bracket::Parenthesis => {
             let at = put(buffer, n, 112);
