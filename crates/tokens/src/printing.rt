@@ -1,7 +1,6 @@
 // Tokens and refusals as lines.
 
-ghost use Prim.Native.Nat.{_<_, _≤_};
-ghost use Rattle.lexer.specs.Stored.{Stored};
+ghost use Prim.Native.Nat.{_≤_};
 ghost use lib.ListN.{length};
 use super::output::put;
 use super::output::put_all;
@@ -55,19 +54,22 @@ fn put_text(text: &[u8], start: usize, out: &mut [u8], n: usize) -> usize {
     }
 }
 
-// The line of the token at `start`.
+// The line of the token at `start`; none for a start behind the text.
 fn put_token(text: &[u8], start: usize, out: &mut [u8], n: usize) -> usize
-    requires { ⌜ (start < length (now text)) × (length (now text) ≤ 1048576) ⌝ }
+    requires { ⌜ length (now text) ≤ 1048576 ⌝ }
 {
+    if text.len() < start {
+        return n;
+    }
     let kind = put_kind(kind_at(text, start), out, n);
     let place = put_place(place_at(text, start), out, kind);
     let bytes = put_text(text, start, out, place);
     put(out, bytes, b'\n')
 }
 
-// The lines of all tokens, by their stored starts.
+// The lines of so many tokens, by the starts that work memory holds.
 fn put_tokens(text: &[u8], work: &[u32], count: usize, out: &mut [u8], n: usize) -> usize
-    requires { ⌜ Stored (now text) (now work) count × (length (now text) ≤ 1048576) ⌝ }
+    requires { ⌜ length (now text) ≤ 1048576 ⌝ }
 {
     let mut filled = n;
     let mut i = 0;

@@ -1,4 +1,4 @@
--- The function print_text meets its contract: `lex` stores the starts that it counts, and counts those of short texts alone. Assumes nothing.
+-- The function print_text meets its contract: `lex` counts the tokens of short texts alone. Assumes nothing.
 use Rattle.lexer.proofs.LexedAnswers.{tokens-lexed}
 use Rattle.tokens.proofs.printing.print_text.Statement.{statement}
 use Rattle.tokens.proofs.printing.print_text.Tie as tie
@@ -16,7 +16,7 @@ put-tokens-requires c κs =
     let k = c .before .before .before in
     let l = k .before .before .before .before in
     let counted = k .count .given .1 in
-    (l .lex .ensures .1 _ counted, tokens-lexed _ _ _ (sym counted ∙ l .lex .ensures .0) .short)
+    tokens-lexed _ _ _ (sym counted ∙ l .lex .ensures .0) .short
 
 enum-known-why : tie.Need-enum-known-why
 enum-known-why c = search needs

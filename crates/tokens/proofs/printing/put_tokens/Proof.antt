@@ -1,7 +1,6 @@
--- The function put_tokens meets its contract: each stored start is one of the text. The invariant: the room stays as it is. The measure is what is
+-- The function put_tokens meets its contract: one line for each start. The invariant: the room stays as it is. The measure is what is
 -- left of the count. Assumes nothing.
 use Prim.Native.Nat.{_≤_, _-_}
-use Rattle.lexer.proofs.StoredLaws.{stored-below}
 use Rattle.tokens.proofs.printing.put_tokens.Statement.{statement}
 use Rattle.tokens.proofs.printing.put_tokens.Tie as tie
 use borrow.Author.Needs.{needs}
@@ -21,10 +20,7 @@ start-of-requires : tie.Need-start-of-requires Inv-loop μ-loop
 start-of-requires c κs = search needs
 
 put-token-requires : tie.Need-put-token-requires Inv-loop μ-loop
-put-token-requires c κs =
-    let l = c .before .before in
-    let p = l .before .before .before .before .before .pre in
-    (rw (c .before .start-of .ensures) (stored-below _ _ _ _ (p .0) (l .loop-test .taken)), p .1)
+put-token-requires c κs = search needs
 
 add-i : tie.Need-add-i Inv-loop μ-loop
 add-i c = search needs
