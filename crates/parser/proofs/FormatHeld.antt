@@ -1,5 +1,5 @@
 -- The format that a style means, and the one that the code makes of it. Assumes nothing.
-use Prim.Native.Nat.{ℕ, _≤_, _<_}
+use Prim.Native.Nat.{ℕ, _≤_}
 use Rattle.block.specs.Format as F
 use Rattle.block.specs.Formats.{Settled, meant, options·of}
 use Rattle.block.specs.declared.format_options.Options.{Options}
@@ -14,7 +14,7 @@ use Rattle.parser.specs.Storing.{symbols·few}
 use borrow.Author.Tests.{le-leb, lt-leb, leb-true, leb-false}
 use lib.Dec.{leb}
 use lib.ListN.{length, length-take}
-use mathlib.Core.Bool.{true, false}
+use mathlib.Core.Bool.{true}
 use mathlib.Core.List.{List}
 use mathlib.Core.Path.{_≡_, refl, sym, ap, _∙_}
 use native.Mathlib.Omega.{arith}

@@ -1,11 +1,10 @@
 -- The order and the labels of a matrix, stored one after the other behind its rows. Assumes nothing.
 use Prim.Native.Nat.{ℕ, _+_, _*_, _≤_, _<_}
-use Rattle.block.specs.Blocks.{in·order}
 use Rattle.block.specs.Format.{Format}
 use Rattle.block.specs.Judged.{judged}
 use Rattle.block.specs.Labels.{Labelled, apply·labels}
 use Rattle.block.specs.Outcome.{Outcome, done, refused, then}
-use Rattle.block.specs.Reading.{Reading, Taxon}
+use Rattle.block.specs.Reading.{Taxon}
 use Rattle.block.specs.declared.Judged.{Judged}
 use Rattle.commands.specs.MatrixHeld.{order·held}
 use Rattle.commands.specs.WorkMap.{labels·place, map·fits, order·place}
@@ -21,7 +20,7 @@ use Rattle.parser.specs.Storing.{Labels·made, Order·made, commands·wi
 use lib.ListN.{length, take}
 use mathlib.Core.Bool.{true}
 use mathlib.Core.List.{List}
-use mathlib.Core.Path.{_≡_, refl, sym, ap, _∙_}
+use mathlib.Core.Path.{_≡_, ap, _∙_}
 use native.Mathlib.Omega.{arith}
 
 -- What storing asks for.

@@ -1,15 +1,14 @@
 -- MATRIX as a step: whether it may be stored, and the state behind it. Assumes nothing.
-use Prim.Native.Nat.{ℕ, zero, suc, _+_, _*_, _≤_, _<_}
+use Prim.Native.Nat.{ℕ, zero, suc, _+_, _≤_, _<_}
 use Rattle.block.proofs.MatrixParts.{matrix-shaped}
 use Rattle.block.specs.Blocks as B
-use Rattle.block.specs.Format.{Format, default·format}
 use Rattle.block.specs.Outcome.{Outcome, done, need, refused, then}
 use Rattle.block.specs.Reading.{Reading}
 use Rattle.block.specs.Sequential.{Shape}
 use Rattle.block.specs.declared.dimension.Dimensions.{Dimensions}
 use Rattle.commands.specs.MatrixHeld.{format·held, held}
-use Rattle.commands.specs.StateHeld.{Reader, data·of, matrix·of, names·in, sizes·of, state·of, stepped, style·of}
-use Rattle.commands.specs.StatePlaced.{Command·placed, Data·placed, Phase·placed, State·placed, Stepped·placed, Style·placed}
+use Rattle.commands.specs.StateHeld.{Reader, data·of, matrix·of, names·in, sizes·of, state·of, stepped}
+use Rattle.commands.specs.StatePlaced.{Data·placed, Phase·placed, State·placed}
 use Rattle.commands.specs.Stepping.{Answers, Enough, Made, answered, short, state·held, step·held}
 use Rattle.commands.specs.WorkMap.{map·fits}
 use Rattle.commands.specs.declared.state.Data.{Data}
@@ -20,13 +19,12 @@ use Rattle.commands.specs.declared.state.State.{State}
 use Rattle.commands.specs.declared.state.Stepped.{Stepped}
 use Rattle.lexer.proofs.Basics.{and-both, and-left, and-right}
 use Rattle.lexer.specs.Lexing.{longest, work·needed}
-use Rattle.lexer.specs.Stored.{range, word·of}
+use Rattle.lexer.specs.Stored.{word·of}
 use Rattle.lexer.specs.declared.refusal.Refusal.{Refusal}
 use Rattle.matrix.specs.Lines.{Rows·room}
 use Rattle.matrix.specs.declared.matrix.Rows.{Rows}
-use Rattle.parser.proofs.FormatHeld.{default-few, placed-few}
+use Rattle.parser.proofs.FormatHeld.{placed-few}
 use Rattle.parser.proofs.StartsLaws.{names-placed-within, placed-within}
-use Rattle.parser.proofs.StorableLaws.{none-there}
 use Rattle.parser.specs.Storing.{Matrix·stored, Reading·made, commands·within, held·of, matrix·step, names·within, none·held, reading·step, rows·reading, shape·of, storable, symbols·few}
 use Rattle.parser.specs.declared.reading.MatrixShape.{MatrixShape}
 use borrow.Author.Tests.{le-leb, leb-true}
@@ -35,7 +33,7 @@ use lib.Dec.{leb, eqb}
 use lib.ListN.{length, take}
 use mathlib.Core.Bool.{Bool, true, false, _&&_, true≢false}
 use mathlib.Core.List.{List}
-use mathlib.Core.Option.{Option, none, some}
+use mathlib.Core.Option.{none}
 use mathlib.Core.Path.{_≡_, refl, sym, ap, subst, _∙_}
 use native.Mathlib.Omega.{arith}
 

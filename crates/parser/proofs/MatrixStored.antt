@@ -1,16 +1,15 @@
 -- A whole matrix, stored: its rows, then the order of its taxa and its labels. Assumes nothing.
-use Prim.Native.Nat.{ℕ, _+_, _≤_, _<_}
+use Prim.Native.Nat.{ℕ, _+_, _≤_}
 use Rattle.block.specs.Blocks.{agrees, matrix·reading, rows}
 use Rattle.block.specs.Format.{Format}
 use Rattle.block.specs.Judged.{judged}
-use Rattle.block.specs.Outcome.{Outcome, done, refused, then}
-use Rattle.block.specs.Reading.{Reading, Taxon}
+use Rattle.block.specs.Outcome.{done, refused, then}
+use Rattle.block.specs.Reading.{Taxon}
 use Rattle.block.specs.Sequential.{Shape}
 use Rattle.block.specs.declared.Judged.{Judged}
 use Rattle.commands.specs.MatrixHeld.{format·held, order·held, reading·held, rows·of, untyped·held}
 use Rattle.commands.specs.StateHeld.{Reader, data·of, names·in}
-use Rattle.commands.specs.StatePlaced.{Command·placed}
-use Rattle.commands.specs.Stepping.{Enough, answered, short}
+use Rattle.commands.specs.Stepping.{answered, short}
 use Rattle.commands.specs.WorkMap.{labels·place, map·fits, order·place}
 use Rattle.commands.specs.declared.state.Data.{Data}
 use Rattle.labels.specs.LabelLists.{commands·held}

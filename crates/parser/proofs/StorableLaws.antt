@@ -1,21 +1,17 @@
 -- Whether a matrix may be stored, test by test; and what that gives. Assumes nothing.
-use Prim.Native.Nat.{ℕ, _+_, _≤_, _<_}
+use Prim.Native.Nat.{ℕ, _+_, _≤_}
 use Rattle.commands.specs.StateHeld.{Reader, matrix·of}
 use Rattle.commands.specs.declared.state.Data.{Data}
 use Rattle.commands.specs.declared.state.Matrix.{Matrix}
-use Rattle.labels.specs.LabelLists.{Fits}
-use Rattle.labels.specs.declared.labels.LabelCommand.{LabelCommand}
-use Rattle.labels.specs.declared.labels.LabelCommands.{LabelCommands}
 use Rattle.lexer.proofs.Basics.{by-test, or-left, or-right}
 use Rattle.lexer.specs.Base.{given}
 use Rattle.lexer.specs.Lexing.{longest}
-use Rattle.parser.specs.Storing.{command·within, commands·within, names·within, none·held, storable}
+use Rattle.parser.specs.Storing.{commands·within, names·within, none·held, storable}
 use borrow.Author.Tests.{le-leb, lt-leb, ltb-true, ltb-false}
 use lib.Dec.{leb, ltb}
 use mathlib.Core.Bool.{Bool, true, false, _&&_, _||_, not, false≢true}
 use mathlib.Core.List.{List}
-use mathlib.Core.Path.{_≡_, refl, sym}
-use native.Mathlib.Omega.{arith}
+use mathlib.Core.Path.{_≡_, refl}
 
 -- A matrix that was read is held.
 pub none-held : (m : Reader) (text work : List ℕ) (matrix : Matrix) → not (given (matrix·of m text work matrix)) ≡ none·held matrix
