@@ -133,7 +133,7 @@ fn storable(bytes: usize, size: usize, count: usize, matrix: Matrix, d: Data, fe
 }
 
 // The format that was given, or the default.
-fn format_of(text: &[u8], starts: &[u32], style: Style) -> Format
+pub fn format_of(text: &[u8], starts: &[u32], style: Style) -> Format
     ensures { λ r. ⌜ (symbols·few (now (text .entry)) (now (starts .entry)) style ≡ true → meant r ≡ format·held (now (text .entry)) (now (starts .entry)) style) ⌝ }
 {
     match style {

@@ -117,7 +117,7 @@ module _ (text work codes : List ℕ) (count : ℕ) (h : Held) (fit : map·fits 
     abbrev Told : Type 0
     Told = Format·told text front codes (h .style) interleave
 
-    rows-length : Told → length rows ≡ counted
+    pub rows-length : Told → length rows ≡ counted
     unfolding rows·of
     rows-length t = rows-counted text front f (h .to) starts (h .taxa) (h .characters) interleave (t .layout) ∙ ap (λ n. row·count interleave n (h .taxa)) stored-length
 

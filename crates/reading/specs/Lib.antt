@@ -3,3 +3,4 @@ pub mod CharactersHeld
 pub mod Pieces
 pub mod CodedCells
 pub mod RowLines
+pub mod RecordPut

@@ -2,6 +2,8 @@
 
 pub mod cells;
 pub mod characters;
+pub mod lines;
+pub mod spelling;
+pub mod taxa;
 
-pub use characters::put_characters;
-pub use characters::put_name;
+pub use spelling::put_record;
