@@ -1,21 +1,24 @@
 -- What the proofs of this crate rest on.
 mod CharacterPuts
 mod CharacterWalk
-pub mod CodesRead
-pub mod DecodedLaws
+mod CodesRead
+mod DecodedLaws
 mod FewNames
 mod HeadPieces
-pub mod HeldRows
-pub mod LinesWalk
-pub mod MarkLaws
+mod HeldRows
+mod LinesWalk
+mod MarkLaws
 mod NamePuts
-pub mod PageCells
+mod PageCells
 mod PutWalks
 mod RecordPieces
 mod RowCounts
-pub mod RowLaws
-pub mod RowPieces
-pub mod SetPieces
+mod RowLaws
+mod RowPieces
+mod RowSteps
+mod RowWalks
+mod SetMarks
+mod SetPieces
 mod TaxaCounts
-pub mod TaxonPieces
-pub mod WordCells
+mod TaxonPieces
+mod WordCells

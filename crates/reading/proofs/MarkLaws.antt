@@ -13,7 +13,7 @@ use Rattle.reading.proofs.DecodedLaws.{decoded-other, decoded-state}
 use Rattle.reading.specs.CodedCells.{Cleared, cells·coded, decoded, marked, topped}
 use borrow.Author.Tests.{eqb-false, eqb-true, le-ltb, lt-ltb, ltb-false, ltb-true}
 use lib.Dec.{eqb, ltb}
-use lib.ListN.{length, getD, set, List·getD-eq-default}
+use lib.ListN.{length, getD, set, List·getD-eq-default, length-set}
 use lib.Seq.{getD-set-other, getD-set-same, set-out}
 use mathlib.Core.List.{List, [], _∷_, _++_}
 use mathlib.Core.Option.{Option, none, some}
@@ -21,7 +21,7 @@ use mathlib.Core.Path.{_≡_, refl, sym, ap, _∙_}
 use native.Mathlib.Omega.{arith}
 
 -- The states among a cell and others.
-states-append : (o : Option Cell) (cs : List Cell) → states·taken (also o cs) ≡ states·taken (also o []) ++ states·taken cs
+pub states-append : (o : Option Cell) (cs : List Cell) → states·taken (also o cs) ≡ states·taken (also o []) ++ states·taken cs
 unfolding also states·taken
 states-append none cs = refl
 states-append (some (state i)) cs = refl
@@ -84,17 +84,21 @@ zero-set l i =
 
 pub cleared-none : (before : List ℕ) → Cleared before 0 before
 unfolding pick
-cleared-none before k = rw (le-ltb k 0 (omega arith))
+cleared-none before = record { kept = refl; marks = λ k. rw (le-ltb k 0 (omega arith)) }
 
 pub cleared-more : (before l : List ℕ) (i : ℕ) → Cleared before i l → Cleared before (i + 1) (set l i 0)
 unfolding pick
-cleared-more before l i h k =
-    by-test (eqb k i)
-    (λ t. let e = eqb-true k i t in rw (e, lt-ltb i (i + 1) (omega arith)) (zero-set l i))
-    (λ f. let ne = eqb-false k i f in getD-set-other l i k 0 0 ne ∙ h k ∙ ap (λ b. pick b 0 (getD before k 0)) (same ne))
+cleared-more before l i h =
+    record {
+      kept = length-set l i 0 ∙ h .kept;
+      marks = λ k.
+          by-test (eqb k i)
+          (λ t. let e = eqb-true k i t in rw (e, lt-ltb i (i + 1) (omega arith)) (zero-set l i))
+          (λ f. let ne = eqb-false k i f in getD-set-other l i k 0 0 ne ∙ h .marks k ∙ ap (λ b. pick b 0 (getD before k 0)) (same k ne));
+    }
   where
-    same : (k ≡ i → ⊥) → ltb k i ≡ ltb k (i + 1)
-    same ne =
+    same : (k : ℕ) → (k ≡ i → ⊥) → ltb k i ≡ ltb k (i + 1)
+    same k ne =
         by-test (ltb k i)
         (λ t. let lt = ltb-true k i t in t ∙ sym (lt-ltb k (i + 1) (omega arith)))
         (λ f. let le = ltb-false k i f in f ∙ sym (le-ltb k (i + 1) (omega (arith, ne))))

@@ -73,5 +73,6 @@ topped [] top = top
 topped (i ∷ r) top = topped r (pick (ltb i top) top (i + 1))
 
 -- The marks of a set after those up to an end were made 0.
-abbrev pub Cleared : List ℕ → ℕ → List ℕ → Type 0
-Cleared before top after = (k : ℕ) → getD after k 0 ≡ pick (ltb k top) 0 (getD before k 0)
+pub record Cleared (before : List ℕ) (top : ℕ) (after : List ℕ) : Type 0 where
+  pub kept : length after ≡ length before
+  pub marks : (k : ℕ) → getD after k 0 ≡ pick (ltb k top) 0 (getD before k 0)

@@ -3,4 +3,5 @@ pub mod CharactersHeld
 pub mod Pieces
 pub mod CodedCells
 pub mod RowLines
+pub mod RowWalk
 pub mod RecordPut

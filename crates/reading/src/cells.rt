@@ -161,7 +161,7 @@ fn put_cell(buffer: &mut [u8], row: Putting, code: u8) -> Putting
 }
 
 // Puts a set behind the cells of a row.
-fn put_set_cell(buffer: &mut [u8], row: Putting, kind: Bracket, set: &[u8]) -> Putting
+pub fn put_set_cell(buffer: &mut [u8], row: Putting, kind: Bracket, set: &[u8]) -> Putting
     ensures { λ r. ⌜ Row·put (now (buffer .entry)) row (set·cell kind (members 0 (now (set .entry))) ∷ []) (now (buffer .exit)) r ⌝ }
 {
     let at = put_blank(buffer, row.at, row.started);
@@ -251,7 +251,7 @@ fn has_cells(text: &[u8], starts: &[u32], i: usize) -> bool
 }
 
 // Takes the states out of a set whose marks are looked at up to an end.
-fn clear(set: &mut [u8; 96], top: usize)
+pub fn clear(set: &mut [u8; 96], top: usize)
     requires { ⌜ top ≤ 96 ⌝ }
     ensures { λ r. ⌜ Cleared (now (set .entry)) top (now (set .exit)) ⌝ }
 {
@@ -263,7 +263,7 @@ fn clear(set: &mut [u8; 96], top: usize)
 }
 
 // Puts the cells of a word behind those of a row.
-fn put_word(
+pub fn put_word(
     text: &[u8],
     starts: &[u32],
     buffer: &mut [u8],
@@ -280,7 +280,7 @@ fn put_word(
 }
 
 // Puts the states of a word into a set.
-fn mark_word(
+pub fn mark_word(
     text: &[u8],
     starts: &[u32],
     set: &mut [u8; 96],

@@ -1,15 +1,174 @@
 // The cells of a row, put from its words: those of a line, and those of a row that ends when it is full.
 
-ghost use Rattle.block.specs.Chunk.{plain};
+ghost use Prim.Native.Nat.{ℕ, _≤_};
+ghost use Rattle.block.specs.Chunk.{closer, plain, set·cell};
 ghost use Rattle.block.specs.Commands.{words};
 ghost use Rattle.block.specs.Interleaved.{to·newline};
-ghost use Rattle.lexer.specs.Stored.{range};
+ghost use Rattle.lexer.specs.Stored.{range, word·of};
+ghost use Rattle.lexer.specs.Words.{punct};
 ghost use Rattle.matrix.specs.Taken.{line·taken, row·taken};
+ghost use Rattle.reading.specs.CodedCells.{Row·put, members};
 ghost use Rattle.reading.specs.Pieces.{spell·on};
 ghost use Rattle.reading.specs.RowLines.{Coded·puts};
+ghost use Rattle.reading.specs.RowWalk.{Word·put, begun, full};
+ghost use Rattle.reading.specs.declared.lines.Open.{Open};
+ghost use lib.ListN.{length, take};
 ghost use mathlib.Core.Bool.{false};
-ghost use mathlib.Core.List.{[]};
-use emit::put_all;
+ghost use mathlib.Core.List.{List, [], _∷_};
+ghost use mathlib.Core.Path.{_≡_};
+use super::cells::Putting;
+use super::cells::clear;
+use super::cells::mark_word;
+use super::cells::put_set_cell;
+use super::cells::put_word;
+use block::Bracket;
+use block::newline;
+use block::punct;
+
+// The set that is open in a row: none, or one of a kind.
+pub enum Open {
+    None,
+    Set(Bracket),
+}
+
+// A row that is put word by word: its cells so far, the set that is open, and an end of that set's marks.
+pub struct Walk {
+    pub row: Putting,
+    pub opened: Open,
+    pub top: usize,
+}
+
+// A row before its first word: so many cells are lacking, and no set is open.
+fn begin_row(n: usize, started: bool, left: usize) -> Walk
+    ensures { λ r. ⌜ r ≡ begun n started left ⌝ }
+{
+    Walk {
+        row: Putting {
+            at: n,
+            started,
+            left,
+        },
+        opened: Open::None,
+        top: 0,
+    }
+}
+
+// Does a word end a set of this kind?
+fn closes(text: &[u8], starts: &[u32], i: usize, kind: Bracket) -> bool
+    ensures { λ r. ⌜ r ≡ punct (closer kind) (word·of (now (text .entry)) (now (starts .entry)) i) ⌝ }
+{
+    match kind {
+        Bracket::Brace => punct(text, starts, i, 125),
+        Bracket::Parenthesis => punct(text, starts, i, 41),
+    }
+}
+
+// Puts a word where no set is open: it opens one, or its cells are put.
+fn put_plain(
+    text: &[u8],
+    starts: &[u32],
+    buffer: &mut [u8],
+    i: usize,
+    walk: Walk,
+    codes: &[u8; 256],
+) -> Walk
+    requires { ⌜ walk .top ≤ 96 ⌝ }
+    ensures { λ r. ⌜ (walk .opened ≡ Open.None → (set : List ℕ) → Word·put (now (codes .entry)) (word·of (now (text .entry)) (now (starts .entry)) i) (now (buffer .entry)) set walk (now (buffer .exit)) set r) ⌝ }
+{
+    let row = walk.row;
+    if punct(text, starts, i, 123) {
+        return Walk {
+            row,
+            opened: Open::Set(Bracket::Brace),
+            top: walk.top,
+        };
+    }
+    if punct(text, starts, i, 40) {
+        return Walk {
+            row,
+            opened: Open::Set(Bracket::Parenthesis),
+            top: walk.top,
+        };
+    }
+    let next = put_word(text, starts, buffer, i, row, codes);
+    Walk {
+        row: next,
+        opened: Open::None,
+        top: walk.top,
+    }
+}
+
+// Puts a set behind the cells of a row, its states by the marks up to an end.
+fn put_marks(buffer: &mut [u8], row: Putting, kind: Bracket, set: &[u8], top: usize) -> Putting
+    requires { ⌜ top ≤ length (now set) ⌝ }
+    ensures { λ r. ⌜ Row·put (now (buffer .entry)) row (set·cell kind (members 0 (take top (now (set .entry)))) ∷ []) (now (buffer .exit)) r ⌝ }
+{
+    put_set_cell(buffer, row, kind, &set[..top])
+}
+
+// Puts a word where a set is open: the set ends and is put, or the word's states are put into it.
+fn put_within(
+    text: &[u8],
+    starts: &[u32],
+    buffer: &mut [u8],
+    set: &mut [u8; 96],
+    i: usize,
+    walk: Walk,
+    kind: Bracket,
+    codes: &[u8; 256],
+) -> Walk
+    requires { ⌜ walk .top ≤ 96 ⌝ }
+    ensures { λ r. ⌜ (walk .opened ≡ Open.Set kind → Word·put (now (codes .entry)) (word·of (now (text .entry)) (now (starts .entry)) i) (now (buffer .entry)) (now (set .entry)) walk (now (buffer .exit)) (now (set .exit)) r) ⌝ }
+{
+    let row = walk.row;
+    let top = walk.top;
+    if closes(text, starts, i, kind) {
+        let next = put_marks(buffer, row, kind, set, top);
+        clear(set, top);
+        return Walk {
+            row: next,
+            opened: Open::None,
+            top: 0,
+        };
+    }
+    let end = mark_word(text, starts, set, i, top, codes);
+    Walk {
+        row,
+        opened: Open::Set(kind),
+        top: end,
+    }
+}
+
+// Puts one word more of a row.
+fn put_token(
+    text: &[u8],
+    starts: &[u32],
+    buffer: &mut [u8],
+    set: &mut [u8; 96],
+    i: usize,
+    walk: Walk,
+    codes: &[u8; 256],
+) -> Walk
+    requires { ⌜ walk .top ≤ 96 ⌝ }
+    ensures { λ r. ⌜ Word·put (now (codes .entry)) (word·of (now (text .entry)) (now (starts .entry)) i) (now (buffer .entry)) (now (set .entry)) walk (now (buffer .exit)) (now (set .exit)) r ⌝ }
+{
+    let opened = walk.opened;
+    match opened {
+        Open::None => put_plain(text, starts, buffer, i, walk, codes),
+        Open::Set(kind) => put_within(text, starts, buffer, set, i, walk, kind, codes),
+    }
+}
+
+// Is a row full, with no set open?
+fn is_full(walk: Walk) -> bool
+    ensures { λ r. ⌜ r ≡ full walk ⌝ }
+{
+    let opened = walk.opened;
+    match opened {
+        Open::None => walk.row.left == 0,
+        Open::Set(_) => false,
+    }
+}
 
 // Puts the cells of a line, from the word of an index up to the next newline, behind cells of its row or not.
 pub fn put_line(
@@ -24,7 +183,17 @@ pub fn put_line(
 ) -> usize
     ensures { λ r. ⌜ Coded·puts (now (codes .entry)) (now (buffer .entry)) n (λ f. spell·on started (line·taken f (plain []) (to·newline (range (now (text .entry)) (now (starts .entry)) from to)))) (now (buffer .exit)) r ⌝ }
 {
-    put_all(buffer, n, b"")
+    let mut set = [0u8; 96];
+    let mut walk = begin_row(n, started, 0);
+    let mut i = from;
+    while i < to {
+        if newline(text, starts, i) {
+            return walk.row.at;
+        }
+        walk = put_token(text, starts, buffer, &mut set, i, walk, codes);
+        i += 1;
+    }
+    walk.row.at
 }
 
 // Puts the cells of a row, from the word of an index on, until it has so many and no set is open.
@@ -40,5 +209,18 @@ pub fn put_sequence(
 ) -> usize
     ensures { λ r. ⌜ Coded·puts (now (codes .entry)) (now (buffer .entry)) n (λ f. spell·on false (row·taken f characters (plain []) (words (range (now (text .entry)) (now (starts .entry)) from to)))) (now (buffer .exit)) r ⌝ }
 {
-    put_all(buffer, n, b"")
+    let mut set = [0u8; 96];
+    let mut walk = begin_row(n, false, characters);
+    let mut i = from;
+    while i < to {
+        let k = i;
+        i += 1;
+        if !newline(text, starts, k) {
+            walk = put_token(text, starts, buffer, &mut set, k, walk, codes);
+            if is_full(walk) {
+                return walk.row.at;
+            }
+        }
+    }
+    walk.row.at
 }

@@ -41,13 +41,7 @@ fn put_symbols(buffer: &mut [u8], n: usize, format: Format) -> usize
 }
 
 // Puts the first four lines.
-fn put_head(
-    buffer: &mut [u8],
-    n: usize,
-    format: Format,
-    taxa: usize,
-    characters: usize,
-) -> usize
+fn put_head(buffer: &mut [u8], n: usize, format: Format, taxa: usize, characters: usize) -> usize
     ensures { λ r. ⌜ Puts (now (buffer .entry)) n (head·piece (meant format) taxa characters) (now (buffer .exit)) r ⌝ }
 {
     let data_type = format.data_type;

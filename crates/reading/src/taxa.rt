@@ -103,10 +103,30 @@ fn put_row(
     let to = held.to;
     let first = first_line(interleave, held.lines, held.taxa, row);
     if interleave {
-        return put_pages(text, work, count, held.lines, held.taxa, to, first, codes, buffer, n);
+        return put_pages(
+            text,
+            work,
+            count,
+            held.lines,
+            held.taxa,
+            to,
+            first,
+            codes,
+            buffer,
+            n,
+        );
     }
     let from = start_of(work, count + first) + 1;
-    put_sequence(text, &work[..count], from, to, held.characters, codes, buffer, n)
+    put_sequence(
+        text,
+        &work[..count],
+        from,
+        to,
+        held.characters,
+        codes,
+        buffer,
+        n,
+    )
 }
 
 // Puts a taxon: the name that the word of an index is, and the cells of a row by its number.
@@ -151,7 +171,18 @@ fn put_rows(
     while row < rows {
         let first = first_line(interleave, held.lines, held.taxa, row);
         let i = start_of(work, count + first);
-        m = put_taxon(text, work, count, held, interleave, codes, buffer, m, i, row);
+        m = put_taxon(
+            text,
+            work,
+            count,
+            held,
+            interleave,
+            codes,
+            buffer,
+            m,
+            i,
+            row,
+        );
         row += 1;
     }
     m
@@ -183,7 +214,18 @@ fn put_declared(
             return m;
         }
         let row = start_of(work, order + k);
-        m = put_taxon(text, work, count, held, interleave, codes, buffer, m, word, row);
+        m = put_taxon(
+            text,
+            work,
+            count,
+            held,
+            interleave,
+            codes,
+            buffer,
+            m,
+            word,
+            row,
+        );
         i = word + 1;
         k += 1;
     }

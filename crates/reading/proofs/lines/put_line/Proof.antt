@@ -1,25 +1,73 @@
-use borrow.Author.Needs.{needs}
+-- The function `put_line` meets its contract: a turn puts one word more, up to the newline. The measure is what is left of the tokens. Assumes nothing.
+use Prim.Native.Nat.{_-_}
+use Rattle.block.specs.Chunk.{plain}
+use Rattle.reading.proofs.RowWalks.{Line·left, Rowing, line-newline, line-over, line-turn, rowing-end, rowing-start}
 use Rattle.reading.proofs.lines.put_line.Statement.{statement}
 use Rattle.reading.proofs.lines.put_line.Tie as tie
-use Rattle.reading.proofs.lines.put_line.Reads as reads
-use Rattle.reading.proofs.lines.put_line.Lts as lts
-use Rattle.emit.proofs.put_all.Reads as put-all-reads
+use Rattle.reading.specs.RowWalk.{begun}
+use borrow.Author.Needs.{needs}
+use mathlib.Core.List.{[]}
+use mathlib.Core.Path.{sym, _∙_}
 
--- src/lines.rt:27:24
-slice-aggregate-put-all : tie.Need-slice-aggregate-put-all
-slice-aggregate-put-all c = search needs
+abbrev Inv-loop : tie.InvT-loop
+Inv-loop text starts from to codes buffer₀ n started set₀ walk₀ i₀ buffer set walk i =
+    Rowing codes buffer₀ (begun n started 0 .row) (λ f. Line·left text starts to from f (plain [])) (Line·left text starts to i) buffer set walk
 
--- src/lines.rt:27:5
-put-all-requires : tie.Need-put-all-requires
-put-all-requires c κs = search needs
+abbrev μ-loop : tie.MeasureT-loop
+μ-loop text starts from to codes buffer₀ n started set₀ walk₀ i₀ buffer set walk i = to - i
 
--- src/lines.rt:15:1
-same-length : tie.Need-same-length
-same-length c = search needs
+begin-row-requires : tie.Need-begin-row-requires Inv-loop μ-loop
+begin-row-requires c κs = search needs
 
--- src/lines.rt:15:1
-returns : tie.Need-returns
-returns c = ?
+loop-holds : tie.Need-loop-holds Inv-loop μ-loop
+loop-holds c = rowing-start _ _ (c .begin-row .ensures)
+
+newline-requires : tie.Need-newline-requires Inv-loop μ-loop
+newline-requires c κs = search needs
+
+same-length : tie.Need-same-length Inv-loop μ-loop
+same-length c = c .before .before .before .loop .inv .kept
+
+returns : tie.Need-returns Inv-loop μ-loop
+returns c =
+    let t = c .before .before in
+    rowing-end (t .before .loop .inv) (λ f row g. line-newline _ _ _ _ (t .loop-test .taken) (sym (c .before .newline .ensures) ∙ c .if1 .taken) f row)
+
+put-token-requires : tie.Need-put-token-requires Inv-loop μ-loop
+put-token-requires c κs = c .before .before .before .before .before .loop .inv .low
+
+add-i : tie.Need-add-i Inv-loop μ-loop
+add-i c = search needs
+
+loop-less : tie.Need-loop-less Inv-loop μ-loop
+loop-less c = search needs
+
+loop-again : tie.Need-loop-again Inv-loop μ-loop
+loop-again c =
+    let j = c .before .before .before .before .before in
+    let t = j .before .before in
+    line-turn _ _ _ _ (t .loop-test .taken) (λ b. t .before .before .before .before .before .shared-slice-known .given b .fits) (sym (j .before .newline .ensures) ∙ j .if1 .left) (c .before .before .put-token .ensures) (t .before .loop .inv)
+
+same-length-2 : tie.Need-same-length-2 Inv-loop μ-loop
+same-length-2 c = c .before .loop .inv .kept
+
+returns-2 : tie.Need-returns-2 Inv-loop μ-loop
+returns-2 c = rowing-end (c .before .loop .inv) (λ f row g. line-over _ _ _ _ (c .loop-test .left) f row)
 
 pub put-line-spec : {M : Type 1} → statement M
-put-line-spec = tie.close (tie.spec slice-aggregate-put-all put-all-requires same-length returns)
+put-line-spec =
+    tie.close
+    (tie.spec
+    Inv-loop
+    μ-loop
+    begin-row-requires
+    loop-holds
+    newline-requires
+    same-length
+    returns
+    put-token-requires
+    add-i
+    loop-less
+    loop-again
+    same-length-2
+    returns-2)

@@ -71,9 +71,10 @@ loop-again c =
     let o = p .before .before in
     let w = o .before .before in
     let l = w .before .before .before .before in
-    let s = l .before .before .before .before .before in
-    (p .put-taxon .ensures .kept ∙ l .loop .inv .0,
-    words-turn _ _ _ _ (s .args .held) (s .pre) _ _ _ _ _ _ (l .before .order-place .ensures) _ _ (l .loop .inv .1) _ (w .next-word .ensures) (o .before .if2 .left) (w .before .before .if1 .taken) _ (o .start-of .ensures) (p .put-taxon .ensures .put))
+    let s = l .before .before .before .before .before in (
+      p .put-taxon .ensures .kept ∙ l .loop .inv .0,
+      words-turn _ _ _ _ (s .args .held) (s .pre) _ _ _ _ _ _ (l .before .order-place .ensures) _ _ (l .loop .inv .1) _ (w .next-word .ensures) (o .before .if2 .left) (w .before .before .if1 .taken) _ (o .start-of .ensures) (p .put-taxon .ensures .put),
+    )
 
 same-length-2 : tie.Need-same-length-2 Inv-loop μ-loop
 same-length-2 c = c .before .before .loop .inv .0

@@ -52,10 +52,11 @@ unfolding last·place
 loop-again c =
     let p = c .before .before in
     let s = p .before .before .before in
-    let l = s .before .before in
-    (p .put-line .ensures .kept ∙ l .loop .inv .0,
-    omega arith,
-    lining-turn _ _ _ _ _ _ _ _ _ _ _ _ _ (l .loop .inv .2) _ (s .before .loop-test .taken) (ap (λ x. x + 1) (s .start-of .ensures)) (omega (arith, l .before .before .before .before .good)) (omega arith) (omega arith) (p .put-line .ensures .put))
+    let l = s .before .before in (
+      p .put-line .ensures .kept ∙ l .loop .inv .0,
+      omega arith,
+      lining-turn _ _ _ _ _ _ _ _ _ _ _ _ _ (l .loop .inv .2) _ (s .before .loop-test .taken) (ap (λ x. x + 1) (s .start-of .ensures)) (omega (arith, l .before .before .before .before .good)) (omega arith) (omega arith) (p .put-line .ensures .put),
+    )
 
 same-length : tie.Need-same-length Inv-loop μ-loop
 same-length c = c .before .loop .inv .0

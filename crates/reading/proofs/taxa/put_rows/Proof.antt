@@ -48,9 +48,10 @@ loop-again c =
     let o = p .before .before in
     let l = o .before .before in
     let r = l .before .before in
-    let s = r .before .before .before .before in
-    (p .put-taxon .ensures .kept ∙ l .before .loop .inv .0,
-    rows-turn _ _ _ _ (s .args .held) (s .pre) _ _ _ _ _ (r .row-count .ensures) (l .loop-test .taken) _ _ (o .before .first-line .ensures) (o .start-of .ensures) (l .before .loop .inv .1) (p .put-taxon .ensures .put))
+    let s = r .before .before .before .before in (
+      p .put-taxon .ensures .kept ∙ l .before .loop .inv .0,
+      rows-turn _ _ _ _ (s .args .held) (s .pre) _ _ _ _ _ (r .row-count .ensures) (l .loop-test .taken) _ _ (o .before .first-line .ensures) (o .start-of .ensures) (l .before .loop .inv .1) (p .put-taxon .ensures .put),
+    )
 
 same-length : tie.Need-same-length Inv-loop μ-loop
 same-length c = c .before .loop .inv .0
