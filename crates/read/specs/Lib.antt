@@ -1,0 +1,2 @@
+-- What is promised of the read call.
+pub mod Call
