@@ -1,6 +1,8 @@
-//! Long texts, for times and for tests near the limit. Each is given by its numbers alone.
+//! Long texts, for times and for tests near the limit, each given by its numbers alone; and the
+//! worked example.
 
 pub mod clock;
+pub mod example;
 
 /// The longest text that is read.
 pub const MEGABYTE: usize = 1_048_576;
