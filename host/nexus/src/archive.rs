@@ -11,7 +11,6 @@ pub const NOT_LINKED: &str = "target/staticlib/libnexus_c.a is not there; \
 /// the three numbers held before does not matter.
 ///
 /// Panics where the archive is not linked.
-#[cfg(archive)]
 pub fn nexus_read(
     text: &[u8],
     work: &mut [u32],
@@ -20,23 +19,11 @@ pub fn nexus_read(
     line: &mut usize,
     column: &mut usize,
 ) -> usize {
-    unsafe extern "C" {
-        fn nexus_read(
-            text: *const u8,
-            text_length: usize,
-            work: *mut u32,
-            work_length: usize,
-            buffer: *mut u8,
-            buffer_length: usize,
-            number: *mut u32,
-            line: *mut usize,
-            column: *mut usize,
-        ) -> usize;
-    }
+    #[cfg(archive)]
     // SAFETY: the function has no requires, and stays within what it is lent. A slice is passed as
     // its pointer, which is never null, and its length; no two of the references overlap.
     unsafe {
-        nexus_read(
+        functions::nexus_read(
             text.as_ptr(),
             text.len(),
             work.as_mut_ptr(),
@@ -48,16 +35,26 @@ pub fn nexus_read(
             column,
         )
     }
+    #[cfg(not(archive))]
+    {
+        let _ = (text, work, buffer, number, line, column);
+        panic!("{NOT_LINKED}")
+    }
 }
 
-#[cfg(not(archive))]
-pub fn nexus_read(
-    _: &[u8],
-    _: &mut [u32],
-    _: &mut [u8],
-    _: &mut u32,
-    _: &mut usize,
-    _: &mut usize,
-) -> usize {
-    panic!("{NOT_LINKED}")
+#[cfg(archive)]
+mod functions {
+    unsafe extern "C" {
+        pub fn nexus_read(
+            text: *const u8,
+            text_length: usize,
+            work: *mut u32,
+            work_length: usize,
+            buffer: *mut u8,
+            buffer_length: usize,
+            number: *mut u32,
+            line: *mut usize,
+            column: *mut usize,
+        ) -> usize;
+    }
 }

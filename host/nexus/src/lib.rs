@@ -1,6 +1,7 @@
 //! The proved NEXUS reader, for Rust. Its functions are those of the archive that
 //! `rt staticlib nexus_c` writes; what they answer is proved, and written down in
-//! crates/record/specs/Calls.antt.
+//! crates/record/specs/Calls.antt. Where the archive was not there when this crate was built, a call
+//! panics and says so.
 //!
 //! ```no_run
 //! let text = b"#NEXUS BEGIN DATA; DIMENSIONS NTAX=1 NCHAR=2; MATRIX a 01; END;";
