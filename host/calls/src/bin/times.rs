@@ -135,14 +135,14 @@ fn best(name: &str, text: &[u8]) -> Both {
     let expected = answer(parsed.expect("a first turn"));
     let room = expected.as_ref().map_or(0, Vec::len) + 64;
     let (mut work, mut buffer) = (vec![0; work_needed(text)], vec![0; room]);
-    let mut read = || read_into(black_box(text), &mut work, &mut buffer);
-    let given = proved.turn(&mut read).expect("a first turn");
-    for _ in 1..TURNS {
-        proved.turn(&mut read);
-        rust.turn(|| parse(black_box(characters)));
-    }
+    let first = proved.turn(|| read_into(black_box(text), &mut work, &mut buffer));
+    let given = first.expect("a first turn");
     let given = given.map(|length| buffer[..length].to_vec());
     assert!(given == expected, "{name}: the answers differ");
+    for _ in 1..TURNS {
+        proved.turn(|| read_into(black_box(text), &mut work, &mut buffer));
+        rust.turn(|| parse(black_box(characters)));
+    }
     Both {
         proved: proved.best,
         rust: rust.best,
