@@ -55,7 +55,7 @@ fn main() {
     }
     println!(
         "{:36} {:>9} {:>9} {:>9} {:>6}   {:>7} {:>7}",
-        "input", "bytes", "proved", "Rust", "ratio", "proved", "Rust"
+        "input", "bytes", "proved", "Rust", "ratio", "growth", "Rust"
     );
     for (name, size, text) in SHAPES {
         print!("{name:36} ");
@@ -81,7 +81,7 @@ fn main() {
     }
     println!(
         "proved, Rust: nanoseconds a byte, best of {TURNS} turns, or of those that {ENOUGH} s hold, \
-        but one at least;\nratio: Rust / proved; the last two columns: time for 2n / time for n"
+        but one at least;\nratio: Rust / proved; growth, and the Rust's: time for 2n / time for n"
     );
 }
 
