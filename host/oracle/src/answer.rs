@@ -137,7 +137,8 @@ fn nowhere(number: u32) -> Refusal {
     }
 }
 
-fn within(bytes: Vec<u8>, buffer: u64) -> Answer {
+/// Bytes that a buffer of so many has room for, or 30.
+pub fn within(bytes: Vec<u8>, buffer: u64) -> Answer {
     if bytes.len() as u64 > buffer {
         return refused(30);
     }

@@ -3,10 +3,11 @@
 
 use std::hint::black_box;
 
+use inputs::clock::timed;
+use inputs::{MEGABYTE, nested, repeated, row, rows};
 use lexing::{LINKED, NOT_LINKED, lex, oracle_lex, work_needed};
 
 const TURNS: usize = 20;
-const MEGABYTE: usize = 1_048_576;
 
 fn main() {
     if !LINKED {
@@ -46,8 +47,8 @@ fn main() {
         assert_eq!(lex(text, &mut work), oracle_lex(text), "{name}");
         let (mut proved, mut rust) = (f64::INFINITY, f64::INFINITY);
         for _ in 0..TURNS {
-            proved = proved.min(time(|| lex(black_box(text), &mut work)));
-            rust = rust.min(time(|| oracle_lex(black_box(text))));
+            proved = proved.min(timed(|| lex(black_box(text), &mut work)).0);
+            rust = rust.min(timed(|| oracle_lex(black_box(text))).0);
         }
         let a_byte = |seconds: f64| seconds * 1e9 / text.len() as f64;
         let (proved, rust) = (a_byte(proved), a_byte(rust));
@@ -58,71 +59,4 @@ fn main() {
         );
     }
     println!("proved, Rust: nanoseconds a byte, best of {TURNS}; ratio: Rust / proved");
-}
-
-/// Seconds of this thread's own work: other programs on the machine do not count.
-fn time<T>(run: impl FnOnce() -> T) -> f64 {
-    let start = worked();
-    black_box(run());
-    worked() - start
-}
-
-/// How long this thread has worked.
-fn worked() -> f64 {
-    #[repr(C)]
-    struct Time {
-        seconds: i64,
-        nanoseconds: i64,
-    }
-    unsafe extern "C" {
-        fn clock_gettime(clock: i32, time: *mut Time) -> i32;
-    }
-    const THREAD_CPUTIME: i32 = 3;
-    let mut time = Time {
-        seconds: 0,
-        nanoseconds: 0,
-    };
-    // SAFETY: POSIX's function, as Linux has it on 64 bits; the time is lent for the call.
-    let failed = unsafe { clock_gettime(THREAD_CPUTIME, &mut time) };
-    assert_eq!(failed, 0, "clock_gettime");
-    time.seconds as f64 + time.nanoseconds as f64 * 1e-9
-}
-
-/// A file of DNA with so many taxa and characters.
-fn rows(taxa: usize, characters: usize) -> Vec<u8> {
-    let mut text = format!(
-        "#NEXUS\nBEGIN DATA;\nDIMENSIONS NTAX={taxa} NCHAR={characters};\n\
-        FORMAT DATATYPE=DNA MISSING=? GAP=-;\nMATRIX\n"
-    )
-    .into_bytes();
-    for taxon in 0..taxa {
-        text.extend(format!("taxon{taxon:05} ").into_bytes());
-        text.extend(states(taxon, characters));
-        text.push(b'\n');
-    }
-    text.extend(b";\nEND;\n");
-    text
-}
-
-fn states(taxon: usize, characters: usize) -> impl Iterator<Item = u8> {
-    (0..characters).map(move |c| b"ACGT"[(c * 7 + c / 5 + taxon * 3) % 4])
-}
-
-/// One taxon, so long that the text has so many bytes.
-fn row(length: usize) -> Vec<u8> {
-    let rest = rows(1, 1).len() + 8;
-    let mut text = rows(1, length - rest);
-    text.resize(length, b'\n');
-    text
-}
-
-fn nested(length: usize) -> Vec<u8> {
-    let mut text = vec![b'['; length / 2];
-    text.resize(length, b']');
-    text
-}
-
-/// A piece over and over, at most a megabyte.
-fn repeated(piece: &[u8]) -> Vec<u8> {
-    piece.repeat(MEGABYTE / piece.len())
 }

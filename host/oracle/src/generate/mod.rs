@@ -73,6 +73,11 @@ pub fn faulty_text(seed: u64, number: u64, site: usize) -> String {
     render::render(&mut rng, &draft)
 }
 
+/// A text's bytes with a few deleted, inserted, swapped or cut off, by this number.
+pub fn damaged_text(seed: u64, number: u64, text: String) -> Vec<u8> {
+    damage::damage_bytes(&mut Rng::new(seed, number), text)
+}
+
 /// A text that is read, and its reading.
 pub fn sound_pair(seed: u64, number: u64) -> (Matrix, String) {
     sound_text(&mut Rng::new(seed, number))

@@ -1,0 +1,113 @@
+//! include/nexus.h is a header of C and of C++, and what it declares is in the archive.
+
+use std::fs;
+use std::io::Write;
+use std::path::{Path, PathBuf};
+use std::process::{Command, Stdio};
+
+use inputs::example;
+use oracle::answer::{self, ENOUGH};
+
+/// The languages: what the compiler is called, and which standards it is held to.
+const LANGUAGES: &[(&str, &str, &[&str])] = &[
+    ("cc", "c", &["c99", "c11"]),
+    ("c++", "c++", &["c++11", "c++17"]),
+];
+
+/// A folder that is removed in the end.
+struct Folder(PathBuf);
+
+impl Folder {
+    fn new(name: &str) -> Self {
+        let folder = std::env::temp_dir().join(format!("nexus-{}-{name}", std::process::id()));
+        fs::create_dir_all(&folder).expect("a folder");
+        Self(folder)
+    }
+}
+
+impl Drop for Folder {
+    fn drop(&mut self) {
+        let _ = fs::remove_dir_all(&self.0);
+    }
+}
+
+fn here() -> &'static Path {
+    Path::new(env!("CARGO_MANIFEST_DIR"))
+}
+
+/// Runs a compiler on tests/read.c; every warning is an error.
+#[track_caller]
+fn compile(compiler: &str, language: &str, standard: &str, more: &[&str], to: &Path) {
+    let mut command = Command::new(compiler);
+    command.args(["-Wall", "-Wextra", "-Wpedantic", "-Wconversion", "-Werror"]);
+    command.args(["-x", language, &format!("-std={standard}"), "-I"]);
+    command.arg(here().join("../../include"));
+    command
+        .arg(here().join("tests/read.c"))
+        .args(["-x", "none"]);
+    command.args(more).arg("-o").arg(to);
+    let output = command.output();
+    let output = output.unwrap_or_else(|error| panic!("{compiler} does not run: {error}"));
+    let said = String::from_utf8_lossy(&output.stderr);
+    assert!(output.status.success(), "{command:?}:\n{said}");
+}
+
+/// What the program prints of a text.
+fn printed(program: &Path, words: &[&str], text: &[u8]) -> Vec<u8> {
+    let mut command = Command::new(program);
+    command.args(words);
+    command.stdin(Stdio::piped()).stdout(Stdio::piped());
+    let mut child = command.spawn().expect("the program starts");
+    let mut input = child.stdin.take().expect("a pipe");
+    input.write_all(text).expect("the program reads");
+    drop(input);
+    child.wait_with_output().expect("the program ends").stdout
+}
+
+#[test]
+fn the_header_compiles() {
+    let folder = Folder::new("compiled");
+    for (compiler, language, standards) in LANGUAGES {
+        for standard in *standards {
+            compile(
+                compiler,
+                language,
+                standard,
+                &["-c"],
+                &folder.0.join("read.o"),
+            );
+        }
+    }
+}
+
+#[test]
+#[cfg_attr(not(archive), ignore = "no archive; tools/test-calls makes it")]
+fn a_program_of_c_reads() {
+    let folder = Folder::new("linked");
+    let archive = here().join("../../target/staticlib/libnexus_c.a");
+    let archive = archive.to_str().expect("a path in UTF-8");
+    for (compiler, language, standards) in LANGUAGES {
+        let program = folder.0.join(language);
+        compile(compiler, language, standards[0], &[archive], &program);
+        let text = example::TEXT.as_bytes();
+        assert_eq!(printed(&program, &[], text), example::RECORD.as_bytes());
+        assert_eq!(
+            printed(&program, &["short"], text),
+            b"refused=2\nline=0\ncolumn=0\n"
+        );
+        let wrong = example::TEXT.replace("C 1", "É X");
+        assert_eq!(
+            printed(&program, &[], wrong.as_bytes()),
+            b"refused=22\nline=6\ncolumn=3\n"
+        );
+        for text in [
+            "",
+            "#NEXUS [",
+            "\u{feff}X",
+            &example::TEXT.replace("NTAX=2", "NTAX=3"),
+        ] {
+            let right = answer::read(text.as_bytes(), ENOUGH, ENOUGH).into_bytes();
+            assert_eq!(printed(&program, &[], text.as_bytes()), right, "{text:?}");
+        }
+    }
+}

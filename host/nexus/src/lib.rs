@@ -1,0 +1,73 @@
+//! The proved NEXUS reader, for Rust. Its functions are those of the archive that
+//! `rt staticlib nexus_c` writes; what they answer is proved, and written down in
+//! crates/record/specs/Calls.antt. Where the archive was not there when this crate was built, a call
+//! panics and says so.
+//!
+//! ```no_run
+//! let text = b"#NEXUS BEGIN DATA; DIMENSIONS NTAX=1 NCHAR=2; MATRIX a 01; END;";
+//! match nexus::read(text) {
+//!     Ok(record) => println!("{}", String::from_utf8_lossy(record.as_bytes())),
+//!     Err(refusal) => eprintln!("{refusal}"),
+//! }
+//! ```
+
+pub mod archive;
+mod record;
+mod refusal;
+
+pub use record::Record;
+pub use refusal::Refusal;
+
+/// The longest text that is read, in bytes.
+pub const TEXT_LIMIT: usize = 1_048_576;
+
+/// How many numbers of work memory a text needs.
+pub fn work_needed(text: &[u8]) -> usize {
+    4 * text.len() + 64
+}
+
+/// Reads a text into lent memory: the length of its record, which then begins the buffer. The rest
+/// of the buffer is as it was, and all of it where the text is refused. Whatever the memory held
+/// before does not matter, and what work memory holds afterwards means nothing.
+pub fn read_into(text: &[u8], work: &mut [u32], buffer: &mut [u8]) -> Result<usize, Refusal> {
+    let (mut number, mut line, mut column) = (0, 0, 0);
+    let length = archive::nexus_read(text, work, buffer, &mut number, &mut line, &mut column);
+    match length {
+        0 => Err(Refusal {
+            number,
+            line,
+            column,
+        }),
+        _ => Ok(length),
+    }
+}
+
+/// Reads a text into a record of its own.
+pub fn read(text: &[u8]) -> Result<Record, Refusal> {
+    // A text that is too long is refused for that, whatever it is lent.
+    let read = if text.len() > TEXT_LIMIT { &[] } else { text };
+    let mut work = vec![0; work_needed(read)];
+    let mut buffer = vec![0; 4 * read.len() + 256];
+    let most = longest_record(read);
+    // Only 30 asks for another turn, and only while the buffer is shorter than `most`. Each turn has
+    // a buffer four times as long, so the third has `most` bytes, and is the last.
+    loop {
+        match read_into(text, &mut work, &mut buffer) {
+            Ok(length) => {
+                buffer.truncate(length);
+                return Ok(Record { bytes: buffer });
+            }
+            Err(refusal) if refusal.number == Refusal::NO_ROOM && buffer.len() < most => {
+                buffer = vec![0; most.min(4 * buffer.len())];
+            }
+            Err(refusal) => return Err(refusal),
+        }
+    }
+}
+
+/// No record of a text is longer. A byte of a row gives at most 9 (an `N` of DNA is `u0.1.2.3` and
+/// a blank); each character, which has such a byte in each row, 46 in its own lines; a byte of a
+/// name or label, with its share of that line, 9; and what is left is shorter than 256.
+fn longest_record(text: &[u8]) -> usize {
+    64 * text.len() + 256
+}

@@ -1,0 +1,52 @@
+/*
+ * The proved NEXUS reader, for C and C++.
+ *
+ * Link libnexus_c.a, which `rt staticlib nexus_c` writes to target/staticlib. It is for x86-64.
+ *
+ * A call works in the memory that it is lent and nowhere else, allocates nothing and keeps nothing,
+ * so several threads may call at once, each with memory of its own. Whatever the memory held before
+ * does not matter. Of the caller it asks only that no pointer is NULL, even where its length is 0,
+ * that each is aligned for its type, and that no two stretches overlap.
+ */
+#ifndef NEXUS_H
+#define NEXUS_H
+
+#include <stddef.h>
+#include <stdint.h>
+
+#ifdef __cplusplus
+extern "C" {
+#endif
+
+/* The longest text that is read, in bytes. */
+#define NEXUS_TEXT_LIMIT 1048576
+
+/* How many numbers of work memory a text of so many bytes needs. */
+#define NEXUS_WORK_NEEDED(text_length) (4 * (size_t)(text_length) + 64)
+
+/*
+ * Reads a NEXUS text, and writes its record to the start of the buffer.
+ *
+ * Answers the record's length in bytes, which is never 0, and leaves the rest of the buffer as it
+ * was. Where the text is refused it answers 0 and leaves all of the buffer as it was; then *number
+ * says why and *line and *column where. The numbers are those of document 01: in order 1 for a text
+ * that is too long, 2 for short work memory, 3 for a text that is not UTF-8, 4 to 29 for a fault of
+ * the text (docs/MESSAGES.md), and last 30 for a record that is longer than the buffer.
+ */
+size_t nexus_read(
+    const uint8_t *text,  /* the text, in UTF-8; it need not end with 0 */
+    size_t text_length,   /* how many bytes it has */
+    uint32_t *work,       /* work memory; what it holds afterwards means nothing */
+    size_t work_length,   /* how many numbers it has: NEXUS_WORK_NEEDED(text_length) or more */
+    uint8_t *buffer,      /* the record's buffer */
+    size_t buffer_length, /* how many bytes it has */
+    uint32_t *number,     /* set to the refusal's number, 0 where there is none */
+    size_t *line,         /* set to its line, from 1; 0 where it has no place */
+    size_t *column        /* set to its column, from 1, in characters; 0 where it has no place */
+);
+
+#ifdef __cplusplus
+}
+#endif
+
+#endif
