@@ -1,0 +1,2 @@
+-- The definitions of the calls for programs in other languages.
+pub mod Exports
