@@ -42,7 +42,7 @@ fn prints(input: &[u8], out: &mut [u8]) -> usize
     }
 }
 
-// One byte more than 1,024 is asked for, so that longer input is told from input that is taken.
+// Prints what `prints` puts of standard input. One byte more than 1,024 is asked for, so that longer input is told from input that is taken.
 fn main() {
     let mut input = [0u8; 1025];
     let n = io::read_full(STDIN_FILENO, &mut input);
