@@ -1,8 +1,8 @@
 // Bytes put into a lent buffer, one after another. What has no room is not written, and the place goes on all the same, so that the same calls measure
 // what would be written.
 
-ghost use Prim.Native.Nat.{_<_};
-ghost use Rattle.emit.specs.Puts.{Puts};
+ghost use Prim.Native.Nat.{_+_, _<_, _≤_, min};
+ghost use Rattle.emit.specs.Puts.{Puts, last·place};
 ghost use Rattle.record.specs.Decimal.{digit, decimal};
 ghost use lib.ListN.{length, drop};
 ghost use mathlib.Core.List.{_∷_, _++_};
@@ -22,8 +22,31 @@ pub fn put(buffer: &mut [u8], n: usize, b: u8) -> usize
     n
 }
 
-// Puts bytes, one behind another.
-pub fn put_all(buffer: &mut [u8], n: usize, bytes: &[u8]) -> usize
+// The place that is so many bytes further on; behind the largest place there is none, and it answers that place.
+fn further(n: usize, count: usize) -> usize
+    ensures { λ r. ⌜ (r ≡ min last·place (n + count)) × (n ≤ r) ⌝ }
+{
+    if count <= 18446744073709551615 - n {
+        return n + count;
+    }
+    18446744073709551615
+}
+
+// Puts bytes that all have room.
+fn put_whole(buffer: &mut [u8], n: usize, bytes: &[u8]) -> usize
+    requires { ⌜ n + length (now bytes) ≤ length (now buffer) ⌝ }
+    ensures { λ r. ⌜ Puts (now (buffer .entry)) n (λ behind. now (bytes .entry) ++ behind) (now (buffer .exit)) r ⌝ }
+{
+    let mut i = 0;
+    while i < bytes.len() {
+        buffer[n + i] = bytes[i];
+        i += 1;
+    }
+    n + i
+}
+
+// Puts bytes one by one, of which some may have no room.
+fn put_some(buffer: &mut [u8], n: usize, bytes: &[u8]) -> usize
     ensures { λ r. ⌜ Puts (now (buffer .entry)) n (λ behind. now (bytes .entry) ++ behind) (now (buffer .exit)) r ⌝ }
 {
     let mut at = n;
@@ -33,6 +56,19 @@ pub fn put_all(buffer: &mut [u8], n: usize, bytes: &[u8]) -> usize
         i += 1;
     }
     at
+}
+
+// Puts bytes, one behind another.
+pub fn put_all(buffer: &mut [u8], n: usize, bytes: &[u8]) -> usize
+    ensures { λ r. ⌜ Puts (now (buffer .entry)) n (λ behind. now (bytes .entry) ++ behind) (now (buffer .exit)) r ⌝ }
+{
+    if buffer.len() <= n {
+        return further(n, bytes.len());
+    }
+    if bytes.len() <= buffer.len() - n {
+        return put_whole(buffer, n, bytes);
+    }
+    put_some(buffer, n, bytes)
 }
 
 // The last digit of a number.
