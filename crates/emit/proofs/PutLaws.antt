@@ -9,7 +9,7 @@ use lib.ListN.{length, getD, take, drop, set, length-append, length-drop, length
 use lib.Seq.{append-snoc, set-out, sets, sets-eq, take-all, take-suc}
 use mathlib.Core.List.{List, [], _∷_, _++_}
 use mathlib.Core.Path.{_≡_, refl, sym, ap, _∙_}
-use native.Mathlib.Nat.{zero-add}
+use native.Mathlib.Nat.{add-zero, zero-add}
 use native.Mathlib.Numerals.{add-one}
 use native.Mathlib.Omega.{arith}
 
@@ -94,6 +94,13 @@ puts-stored l i {b = b} {n} f h =
 pub puts-from : (l : List ℕ) (i size : ℕ) {d a b : List ℕ} {n m : ℕ} → length l ≡ size → drop i l ≡ d → Puts a n (λ behind. take (size - i) (drop i l) ++ behind) b m
     → Puts a n (λ behind. d ++ behind) b m
 puts-from l i size s e f = puts-as f (λ behind. ap (λ t. t ++ behind) (take-all (size - i) (drop i l) (omega (arith, length-drop i l)) ∙ e))
+
+-- A list of bytes is put by a run of stores.
+pub puts-run : (buffer : List ℕ) (n : ℕ) (l : List ℕ) → Puts buffer n (λ behind. l ++ behind) (sets buffer n l) (n + length l)
+puts-run buffer n [] = rw add-zero puts-none
+puts-run buffer n (b ∷ l) =
+    let next : n + 1 + length l ≡ n + suc (length l) = omega arith in
+    rw (next, add-one n) at (puts-then (byte-written buffer n b) (puts-run (set buffer n b) (n + 1) l))
 
 -- A piece that has room stands there whole.
 puts-sets : (buffer : List ℕ) (at : ℕ) (l : List ℕ) → puts buffer at l ≡ sets buffer at l
