@@ -7,6 +7,7 @@ use Rattle.lexer.specs.ByteBlocks.{plain?}
 use Rattle.lexer.specs.Classes.{class, symbol, symbol·of, next1, marks}
 use Rattle.lexer.specs.Scanning.{first·symbol, symbol·at}
 use Rattle.lexer.specs.declared.Class.{Class}
+use Rattle.lexer.specs.declared.Symbol.{Symbol}
 use borrow.Author.Tests.{eqb-true, ne-eqb, lt-leb, ltb-true, ltb-false}
 use lib.Dec.{eqb, ltb}
 use lib.ListN.{length, getD, drop, drop-of-length-le}
@@ -58,7 +59,7 @@ plain-all : all-under plain-other 256 ≡ true
 unfolding all-under plain-other other-class class pick among bytes marks plain?
 plain-all = refl
 
-large-not-plain : (b : ℕ) → 256 ≤ b → plain? b ≡ false
+large-not-plain : (b : ℕ) → 128 ≤ b → plain? b ≡ false
 unfolding plain?
 large-not-plain b h =
     let digit = lt-leb b 57 (omega arith) in
@@ -68,12 +69,26 @@ large-not-plain b h =
     let underscore = ne-eqb b 95 (λ e. omega arith) in
     rw (digit, small, capital, question, underscore) (simp and-false)
 
+-- A plain byte is below 128.
+pub plain-small : (b : ℕ) → plain? b ≡ true → b < 128
+plain-small b t = by-test (ltb b 128) (λ h. ltb-true b 128 h) (λ f. not-both (large-not-plain b (ltb-false b 128 f)) t)
+
 pub plain-is-other : (b : ℕ) → plain? b ≡ true → class b ≡ Class.Other
 unfolding plain-other
-plain-is-other b t = by-test (ltb b 256) (λ h. other-known (class b) (implied (plain? b) (other-class (class b)) (under-at plain-other 256 b plain-all (ltb-true b 256 h)) t)) (λ f. not-both (large-not-plain b (ltb-false b 256 f)) t)
+plain-is-other b t = by-test (ltb b 256) (λ h. other-known (class b) (implied (plain? b) (other-class (class b)) (under-at plain-other 256 b plain-all (ltb-true b 256 h)) t)) (λ f. let far = ltb-false b 256 f in not-both (large-not-plain b (omega arith)) t)
 
 -- The symbol of a byte of a text that has this class.
 pub symbol-at-class : (text : List ℕ) (i : ℕ) (k : Class) → i < length text → class (getD text i 0) ≡ k
     → symbol·of k (getD text i 0) (drop (i + 1) text) ≡ symbol·at text i
 unfolding symbol·at first·symbol symbol
 symbol-at-class text i k h e = rw (drop-next text i, e)
+
+-- The same of a byte whose symbol does not depend on what comes next.
+pub symbol-at-byte : (text : List ℕ) (i b : ℕ) (s : Symbol) → i < length text → getD text i 0 ≡ b → ((r : List ℕ) → symbol b r ≡ s) → s ≡ symbol·at text i
+unfolding symbol·at first·symbol
+symbol-at-byte text i b s h e same = sym (rw (drop-next text i h, e) (same (drop (i + 1) text)))
+
+-- That of a plain byte.
+pub plain-symbol : (text : List ℕ) (i : ℕ) → i < length text → plain? (getD text i 0) ≡ true → Symbol.Other ≡ symbol·at text i
+unfolding symbol·of
+plain-symbol text i h t = symbol-at-class text i Class.Other h (plain-is-other (getD text i 0) t)

@@ -5,6 +5,7 @@ pub mod LabelLaws
 pub mod LexedAnswers
 pub mod ListLaws
 pub mod NextBytes
+pub mod PlainRuns
 pub mod RangeLaws
 pub mod SmallBytes
 pub mod StoredLaws
@@ -21,6 +22,7 @@ mod Cases
 mod ClassLaws
 mod CommentBlocks
 mod EndTurns
+mod FirstBytes
 mod HeldText
 mod MarkLaws
 mod PlaceLaws

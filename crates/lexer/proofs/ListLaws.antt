@@ -1,17 +1,24 @@
 -- Laws of lists that the walks over a text rest on: what stands from an index on. Assumes nothing.
-use Prim.Native.Nat.{ℕ, suc, _+_, _<_}
+use Prim.Native.Nat.{ℕ, suc, _+_, _-_, _<_}
 use Rattle.lexer.proofs.Basics.{by-test}
 use borrow.Author.Tests.{ltb-true, ltb-false}
 use lib.Dec.{ltb}
-use lib.ListN.{length, getD, drop, drop-of-length-le, length-map, List·getD-map}
+use lib.ListN.{length, getD, drop, take, drop-of-length-le, length-map, List·getD-map}
 use lib.Seq.{drop-cons, drop-drop}
 use mathlib.Core.List.{List, [], _∷_, map}
 use mathlib.Core.Path.{_≡_, ap, _∙_}
 use native.Mathlib.Numerals.{add-one}
+use native.Mathlib.Omega.{arith}
 
 -- From an index below the length on: the byte there, and what stands from the next index on.
 pub drop-next : (l : List ℕ) (i : ℕ) → i < length l → drop i l ≡ getD l i 0 ∷ drop (i + 1) l
 drop-next l i h = rw add-one (drop-cons l i 0 h)
+
+-- Up to an end behind it: the byte there, and what stands from the next index up to the end.
+pub take-next : (l : List ℕ) (i e : ℕ) → i < e → i < length l → take (e - i) (drop i l) ≡ getD l i 0 ∷ take (e - (i + 1)) (drop (i + 1) l)
+take-next l i e h k =
+    let one : e - i ≡ suc (e - (i + 1)) = omega arith in
+    rw (one, drop-next l i k)
 
 -- What holds of a rest, by whether the text has a byte there.
 pub drop-cases : (P : List ℕ → Type 0) (l : List ℕ) (i : ℕ) → (i < length l → P (getD l i 0 ∷ drop (i + 1) l)) → P [] → P (drop i l)

@@ -1,13 +1,12 @@
 -- Blocks of a word: a plain byte goes on with the word, and so behind blocks of them the word ends as from their first. Assumes nothing.
 use Prim.Native.Nat.{ℕ, _+_, _≤_, _<_}
 use Rattle.lexer.proofs.ByteBlocks.{all-eight, blocks-ahead, blocks-alike}
-use Rattle.lexer.proofs.ClassLaws.{symbol-at-class, plain-is-other}
+use Rattle.lexer.proofs.ClassLaws.{plain-symbol}
 use Rattle.lexer.proofs.SymbolTags.{Continues}
 use Rattle.lexer.proofs.WordEnds.{Wording, resumed, word-goes-on}
 use Rattle.lexer.specs.ByteBlocks.{plain?, all·first, blocks·end}
-use Rattle.lexer.specs.Classes.{symbol·of, rank, open?, other?, part?}
+use Rattle.lexer.specs.Classes.{rank, open?, other?, part?}
 use Rattle.lexer.specs.Scanning.{word·end, goes·on}
-use Rattle.lexer.specs.declared.Class.{Class}
 use Rattle.lexer.specs.declared.Scan.{Scan}
 use Rattle.lexer.specs.declared.Symbol.{Symbol}
 use lib.ListN.{length, getD, drop}
@@ -16,7 +15,7 @@ use mathlib.Core.List.{List}
 use mathlib.Core.Path.{_≡_, refl, sym, ap, _∙_}
 use native.Mathlib.Omega.{arith}
 
-other-continues : Continues Symbol.Other
+pub other-continues : Continues Symbol.Other
 unfolding open? goes·on other? part? rank
 other-continues = record { closed = refl; on = refl }
 
@@ -27,8 +26,7 @@ module _ (text : List ℕ) where
 
   -- from a plain byte and from the one behind it the word ends alike
   pub word-next : (i : ℕ) → i < length text → plain? (getD text i 0) ≡ true → end·from i ≡ end·from (i + 1)
-  unfolding symbol·of
-  word-next i h t = word-goes-on text i h Symbol.Other (symbol-at-class text i Class.Other h (plain-is-other (getD text i 0) t)) other-continues
+  word-next i h t = word-goes-on text i h Symbol.Other (plain-symbol text i h t) other-continues
 
   -- eight bytes, each with its test by another name
   pub word-eight : (i : ℕ) → i + 8 ≤ length text → (a b c d a' b' c' d' : Bool) → a ≡ plain? (getD text i 0) → b ≡ plain? (getD text (i + 1) 0)

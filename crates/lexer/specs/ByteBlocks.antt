@@ -37,6 +37,11 @@ blocks·behind p size (suc n) i r =
 unfoldable pub blocks·end : (ℕ → Bool) → ℕ → ℕ → List ℕ → ℕ
 blocks·end p size i r = blocks·behind p size (length r / size) i r
 
+-- Behind the first bytes of the rest that are plain. `i` is where the rest stands.
+unfoldable pub plain·end : ℕ → List ℕ → ℕ
+plain·end i [] = i
+plain·end i (b ∷ r) = let more = plain·end (i + 1) r in pick (plain? b) more i
+
 -- How many of the first so many bytes are this one.
 unfoldable pub count·in : ℕ → ℕ → List ℕ → ℕ
 count·in b zero r = 0

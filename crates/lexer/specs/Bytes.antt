@@ -4,6 +4,7 @@ use lib.Dec.{eqb}
 use lib.ListN.{drop}
 use mathlib.Core.List.{List, [], _∷_}
 use Rattle.lexer.specs.Base.{pick, byte}
+use Rattle.lexer.specs.ByteBlocks.{plain·end}
 use Rattle.lexer.specs.Classes.{symbol, next1, newline?, single?, double?, open?, other?}
 use Rattle.lexer.specs.Scanning.{symbol·at, goes·on}
 use Rattle.lexer.specs.Tokens.{tail}
@@ -81,6 +82,20 @@ item·of (Mode.WordComment d) i r = Item.End
 -- The next byte behind a cursor.
 unfoldable pub next·item : List ℕ → Cursor → Item
 next·item text c = item·of (c .mode) (c .at) (drop (c .at) text)
+
+-- The cursor behind the plain bytes from a place on, in the mode of a token's kind: only a word is passed over so.
+unfoldable pub run·of : Mode → ℕ → List ℕ → Cursor
+run·of Mode.Between i r = cursor Mode.Between i
+run·of Mode.Word i r = cursor Mode.Word (plain·end i r)
+run·of Mode.Quoted i r = cursor Mode.Quoted i
+run·of Mode.Closing i r = cursor Mode.Closing i
+run·of Mode.String i r = cursor Mode.String i
+run·of (Mode.Comment d) i r = cursor (Mode.Comment d) i
+run·of (Mode.WordComment d) i r = cursor (Mode.WordComment d) i
+
+-- The cursor behind the plain bytes from a cursor on.
+unfoldable pub run·behind : List ℕ → Cursor → Cursor
+run·behind text c = run·of (c .mode) (c .at) (drop (c .at) text)
 
 -- The first byte alone.
 unfoldable pub first : List ℕ → List ℕ

@@ -105,7 +105,7 @@ fn newline_symbol(text: &[u8], i: usize) -> Symbol
 }
 
 // The byte at i, or 0 behind the end.
-fn byte_or_zero(text: &[u8], i: usize) -> u8
+pub fn byte_or_zero(text: &[u8], i: usize) -> u8
     ensures { λ r. ⌜ r ≡ getD (now (text .entry)) i 0 ⌝ }
 {
     if i < text.len() {
@@ -148,8 +148,8 @@ fn part_symbol(text: &[u8], i: usize) -> Symbol
     Symbol::Other
 }
 
-// The symbol of the byte at i.
-pub fn symbol_at(text: &[u8], i: usize) -> Symbol
+// The symbol of the byte at i, by its class.
+fn classed_symbol(text: &[u8], i: usize) -> Symbol
     requires { ⌜ i < length (now text) ⌝ }
     ensures { λ r. ⌜ r ≡ symbol·at (now (text .entry)) i ⌝ }
 {
@@ -170,5 +170,27 @@ pub fn symbol_at(text: &[u8], i: usize) -> Symbol
         },
         Class::Other => Symbol::Other,
         Class::Part => part_symbol(text, i),
+    }
+}
+
+// The symbol of the byte at i. That of the bytes that most texts are made of does not depend on what comes next, so these are told at once.
+pub fn symbol_at(text: &[u8], i: usize) -> Symbol
+    requires { ⌜ i < length (now text) ⌝ }
+    ensures { λ r. ⌜ r ≡ symbol·at (now (text .entry)) i ⌝ }
+{
+    let b = text[i];
+    if plain(b) {
+        return Symbol::Other;
+    }
+    match b {
+        10 => Symbol::Newline,
+        9 | 32 => Symbol::Blank,
+        34 => Symbol::Double,
+        39 => Symbol::Single,
+        91 => Symbol::Open,
+        93 => Symbol::Close,
+        40 | 42 | 44 | 47 | 58 | 61 | 92 | 123 | 125 => Symbol::Punctuation,
+        41 | 59 => Symbol::Punctuation,
+        _ => classed_symbol(text, i),
     }
 }

@@ -15,6 +15,7 @@ use super::Class;
 use super::Cursor;
 use super::Item;
 use super::Kind;
+use super::classes::byte_or_zero;
 use super::classes::class_of;
 use super::classes::wide_bytes;
 use super::token::kind_at;
@@ -65,30 +66,43 @@ fn text_is(text: &[u8], c: Cursor, key: &[u8]) -> bool
     ended(text, d)
 }
 
-// Is the token this keyword?
+// Is the token this keyword? It is none unless its first byte agrees.
 pub fn is_at(text: &[u8], start: usize, key: &[u8]) -> bool
     ensures { λ r. ⌜ r ≡ is (now (key .entry)) (word·at (now (text .entry)) start) ⌝ }
 {
+    if lower(byte_or_zero(key, 0)) != lower(byte_or_zero(text, start)) {
+        return false;
+    }
     match kind_at(text, start) {
         Kind::Word => text_is(text, text_start(text, start), key),
         _ => false,
     }
 }
 
-// Is the token this punctuation mark?
+// Is the token this punctuation mark? It is none unless its byte is the mark.
 pub fn punct_at(text: &[u8], start: usize, b: u8) -> bool
     ensures { λ r. ⌜ r ≡ punct b (word·at (now (text .entry)) start) ⌝ }
 {
+    if byte_or_zero(text, start) != b {
+        return false;
+    }
     match kind_at(text, start) {
         Kind::Punctuation(m) => m == b,
         _ => false,
     }
 }
 
-// Is the token a newline?
+// Is the token a newline? LF is one, and besides it only CR can be.
 pub fn newline_at(text: &[u8], start: usize) -> bool
     ensures { λ r. ⌜ r ≡ line·end? (token·at (now (text .entry)) start .kind) ⌝ }
 {
+    let b = byte_or_zero(text, start);
+    if b == 10 {
+        return true;
+    }
+    if b != 13 {
+        return false;
+    }
     match kind_at(text, start) {
         Kind::Newline => true,
         _ => false,

@@ -24,6 +24,7 @@ pub use refusal::Refusal;
 pub use refusal::refusal_number;
 pub use token::kind_at;
 pub use token::next_byte;
+pub use token::plain_run;
 pub use token::start_of;
 pub use token::text_start;
 

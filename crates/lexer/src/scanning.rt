@@ -2,7 +2,7 @@
 
 ghost use Prim.Native.Nat.{_<_, _≤_, _+_};
 ghost use Rattle.lexer.specs.Base.{pick};
-ghost use Rattle.lexer.specs.ByteBlocks.{all·first, blocks·end, comment·blocks, count·in, plain?};
+ghost use Rattle.lexer.specs.ByteBlocks.{all·first, blocks·end, comment·blocks, count·in, plain?, plain·end};
 ghost use Rattle.lexer.specs.Scanning.{comment·end, quote·end, string·end, word·end};
 ghost use lib.Dec.{eqb};
 ghost use lib.ListN.{length, drop};
@@ -147,6 +147,23 @@ fn word_blocks(text: &[u8], from: usize) -> usize
             return i;
         }
         i += 8;
+    }
+    i
+}
+
+// Behind the plain bytes from `from` on; past the end of the text there are none.
+pub fn plain_end(text: &[u8], from: usize) -> usize
+    ensures { λ r. ⌜ r ≡ plain·end from (drop from (now (text .entry))) ⌝ }
+{
+    if text.len() <= from {
+        return from;
+    }
+    let mut i = word_blocks(text, from);
+    while i < text.len() {
+        if !plain(text[i]) {
+            return i;
+        }
+        i += 1;
     }
     i
 }

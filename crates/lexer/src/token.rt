@@ -1,7 +1,7 @@
 // The kind and the text of the token that begins at a byte. A token is known by its start alone.
 
 ghost use Prim.Native.Nat.{_<_, _+_};
-ghost use Rattle.lexer.specs.Bytes.{front·at, mark·item, next·item, quoted·item, string·item, text·item, word·item};
+ghost use Rattle.lexer.specs.Bytes.{front·at, mark·item, next·item, quoted·item, run·behind, string·item, text·item, word·item};
 ghost use Rattle.lexer.specs.Lexing.{token·at};
 ghost use lib.ListN.{length, getD, drop};
 ghost use mathlib.Core.Path.{_≡_};
@@ -11,8 +11,10 @@ use super::Kind;
 use super::Mode;
 use super::Scan;
 use super::Symbol;
+use super::classes::plain;
 use super::classes::symbol_at;
 use super::scanning::comment_end;
+use super::scanning::plain_end;
 
 // Where the token of this index begins, as work memory has it; 0 past its end.
 pub fn start_of(work: &[u32], i: usize) -> usize
@@ -80,10 +82,20 @@ fn word_byte(text: &[u8], from: usize) -> Item
 {
     let mut i = from;
     while i < text.len() {
+        let b = text[i];
+        if plain(b) {
+            return Item::Byte(
+                b,
+                Cursor {
+                    at: i + 1,
+                    mode: Mode::Word,
+                },
+            );
+        }
         match symbol_at(text, i) {
             Symbol::Other | Symbol::Part => {
                 return Item::Byte(
-                    text[i],
+                    b,
                     Cursor {
                         at: i + 1,
                         mode: Mode::Word,
@@ -190,5 +202,20 @@ pub fn next_byte(text: &[u8], c: Cursor) -> Item
         Mode::String => string_byte(text, at),
         Mode::Between => mark_byte(text, at),
         _ => Item::End,
+    }
+}
+
+// The cursor behind the plain bytes from a cursor on. Only a word is passed over so; any other cursor stays.
+pub fn plain_run(text: &[u8], c: Cursor) -> Cursor
+    ensures { λ r. ⌜ r ≡ run·behind (now (text .entry)) c ⌝ }
+{
+    let at = c.at;
+    let mode = c.mode;
+    match mode {
+        Mode::Word => Cursor {
+            at: plain_end(text, at),
+            mode: Mode::Word,
+        },
+        _ => c,
     }
 }
