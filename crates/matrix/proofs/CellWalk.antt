@@ -1,6 +1,9 @@
 -- The symbols of a token's text by their codes: the walk over them, and which tokens have any. Assumes nothing.
-use Prim.Native.Nat.{ℕ, _+_, _≤_}
+use Prim.Native.Nat.{ℕ, suc, _+_, _-_, _≤_, _<_}
+use Rattle.lexer.proofs.Basics.{by-test}
+use Rattle.lexer.proofs.ListLaws.{take-next}
 use Rattle.lexer.proofs.NextBytes.{front-left}
+use Rattle.lexer.proofs.PlainRuns.{Plain·run}
 use Rattle.lexer.proofs.Yielded.{Yields·byte}
 use Rattle.lexer.specs.Base.{pick}
 use Rattle.lexer.specs.Bytes.{front·at, left}
@@ -12,12 +15,61 @@ use Rattle.lexer.specs.declared.Kind.{Kind}
 use Rattle.matrix.specs.RowShape.{coded, symbols·coded}
 use Rattle.matrix.specs.declared.matrix.Cells.{Cells}
 use borrow.Author.Tests.{eq-eqb, ne-eqb}
-use lib.Dec.{ltb}
-use lib.ListN.{getD}
+use lib.Dec.{eqb, ltb}
+use lib.ListN.{length, getD, take, drop, length-take, length-drop}
 use mathlib.Core.Bool.{Bool, true, false, _&&_}
-use mathlib.Core.List.{List, []}
-use mathlib.Core.Path.{_≡_, sym, _∙_}
+use mathlib.Core.List.{List, [], _∷_, _++_}
+use mathlib.Core.Path.{_≡_, refl, sym, ap, _∙_}
 use native.Mathlib.Omega.{arith}
+
+-- What symbols come to behind others: these come to so many cells, or one of them is wrong.
+module _ (codes : List ℕ) where
+  pub coded-behind : (l r : List ℕ) (n : ℕ) (states : Bool) (k : ℕ) (all : Bool) → coded codes n states l ≡ Cells.Some k all
+      → (coded codes n states (l ++ r) ≡ coded codes k all r) × (k ≡ n + length l)
+  unfolding coded pick
+  coded-behind [] r n states k all e = let p : n ≡ k = cc in let q : states ≡ all = cc in (rw (p, q), omega arith)
+  coded-behind (b ∷ l) r n states k all e = by-test (eqb (getD codes b 0) 255) (λ t. never (rw t at e)) (λ f. more f (coded-behind l r (n + 1) (states && ltb (getD codes b 0) 96) k all (rw f at e)))
+    where
+      never : Cells.Wrong ≡ Cells.Some k all → (coded codes n states (b ∷ l ++ r) ≡ coded codes k all r) × (k ≡ n + suc (length l))
+      never e = let z : _≡_ {A = ℕ} 0 1 = cc in absurd (omega arith)
+
+      more : eqb (getD codes b 0) 255 ≡ false → (coded codes (n + 1) (states && ltb (getD codes b 0) 96) (l ++ r) ≡ coded codes k all r) × (k ≡ n + 1 + length l)
+          → (coded codes n states (b ∷ l ++ r) ≡ coded codes k all r) × (k ≡ n + suc (length l))
+      more f h = (rw f (h .0), omega (arith, h .1))
+
+  pub coded-wrong : (l r : List ℕ) (n : ℕ) (states : Bool) → coded codes n states l ≡ Cells.Wrong → coded codes n states (l ++ r) ≡ Cells.Wrong
+  unfolding coded pick
+  coded-wrong [] r n states e = let z : _≡_ {A = ℕ} 0 1 = cc in absurd (omega arith)
+  coded-wrong (b ∷ l) r n states e = by-test (eqb (getD codes b 0) 255) (λ t. rw t) (λ f. rw f (coded-wrong l r (n + 1) (states && ltb (getD codes b 0) 96) (rw f at e)))
+
+-- What stands from a place up to an end, behind so many cells, comes to what all of it comes to; each cell took a byte of the text.
+pub record Running (text codes : List ℕ) (from end count : ℕ) (all : Bool) (n : ℕ) (states : Bool) (i : ℕ) : Type 0 where
+  pub within : (from ≤ i) × (i ≤ end)
+  pub passed : n ≤ i
+  pub rest : coded codes n states (take (end - i) (drop i text)) ≡ coded codes count all (take (end - from) (drop from text))
+
+module _ (text codes : List ℕ) (from end count : ℕ) (all : Bool) where
+  pub running-start : count ≤ from → from ≤ end → Running text codes from end count all count all from
+  running-start h k = record { within = (omega arith, k); passed = h; rest = refl }
+
+  module _ (n : ℕ) (states : Bool) (i : ℕ) (k : Running text codes from end count all n states i) where
+    module _ (h : i < end) (here : i < length text) where
+      pub running-turn : (getD codes (getD text i 0) 0 ≡ 255 → ⊥) → Running text codes from end count all (n + 1) (states && ltb (getD codes (getD text i 0) 0) 96) (i + 1)
+      unfolding coded pick
+      running-turn ne =
+          record {
+            within = (omega (arith, k .within), omega arith);
+            passed = omega (arith, k .passed);
+            rest = sym (rw (take-next text i end h here, ne-eqb (getD codes (getD text i 0) 0) 255 ne)) ∙ k .rest;
+          }
+
+      pub running-wrong : getD codes (getD text i 0) 0 ≡ 255 → Cells.Wrong ≡ coded codes count all (take (end - from) (drop from text))
+      unfolding coded pick
+      running-wrong e = sym (rw (take-next text i end h here, eq-eqb (getD codes (getD text i 0) 0) 255 e)) ∙ k .rest
+
+    pub running-end : end ≤ i → Cells.Some n states ≡ coded codes count all (take (end - from) (drop from text))
+    unfolding coded
+    running-end h = let none : end - i ≡ 0 = omega arith in sym (rw none) ∙ k .rest
 
 -- So many cells, and what is left of the text behind them, come to what all comes to; each took a byte of the text.
 pub record Coding (text codes : List ℕ) (start n : ℕ) (states : Bool) (c : Cursor) : Type 0 where
@@ -27,6 +79,20 @@ pub record Coding (text codes : List ℕ) (start n : ℕ) (states : Bool) (c : C
 module _ (text codes : List ℕ) (start : ℕ) where
   pub coding-start : (c : Cursor) → c ≡ front·at text start → Coding text codes start 0 true c
   coding-start c e = record { passed = omega arith; rest = rw (front-left text start c e) }
+
+  -- A run of plain bytes from a cursor up to another, and the next byte.
+  module _ (n : ℕ) (states : Bool) (c d : Cursor) (k : Coding text codes start n states c) (p : Plain·run text c d) (r : Cells)
+      (e : r ≡ coded codes n states (take (d .at - c .at) (drop (c .at) text))) where
+    pub run-wrong : r ≡ Cells.Wrong → Cells.Wrong ≡ coded codes 0 true (token·at text start .text)
+    run-wrong w = sym (ap (coded codes n states) (p .rest) ∙ coded-wrong codes _ (left text d) n states (sym e ∙ w)) ∙ k .rest
+
+    pub run-coding : (m : ℕ) (all : Bool) → r ≡ Cells.Some m all → Coding text codes start m all d
+    run-coding m all s =
+        let told = coded-behind codes _ (left text d) n states m all (sym e ∙ s) in
+        record {
+          passed = omega (arith, told .1, k .passed, p .ahead, length-take (d .at - c .at) (drop (c .at) text), length-drop (c .at) text);
+          rest = sym (ap (coded codes n states) (p .rest) ∙ told .0) ∙ k .rest;
+        }
 
   module _ (n : ℕ) (states : Bool) (c : Cursor) (k : Coding text codes start n states c) where
     module _ (b : ℕ) (d : Cursor) (y : Yields·byte text (c .at) (left text c) b d) where

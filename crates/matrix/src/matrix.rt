@@ -1,6 +1,6 @@
 // MATRIX, after matrix.rs.
 
-ghost use Prim.Native.Nat.{_+_, _^_, _≤_};
+ghost use Prim.Native.Nat.{_+_, _-_, _^_, _≤_};
 ghost use Rattle.block.specs.Chunk.{closer};
 ghost use Rattle.block.specs.Names.{known};
 ghost use Rattle.lexer.specs.Lexing.{token·at};
@@ -8,7 +8,7 @@ ghost use Rattle.lexer.specs.Stored.{word·of};
 ghost use Rattle.matrix.specs.Lines.{Rows·room, name·at, names·stored, stored};
 ghost use Rattle.matrix.specs.RowShape.{coded, symbols·coded, chunk·shape, chunked·of, so·far};
 ghost use Rattle.matrix.specs.SequentialShape.{Rows·read, begun·shape, cells·of·row, end·shape, grown·shape, turn·shape};
-ghost use lib.ListN.{length, getD};
+ghost use lib.ListN.{length, getD, take, drop};
 ghost use mathlib.Core.Bool.{true};
 ghost use mathlib.Core.Path.{_≡_};
 use super::order::row_of;
@@ -22,6 +22,7 @@ use lexer::Kind;
 use lexer::Refusal;
 use lexer::kind_at;
 use lexer::next_byte;
+use lexer::plain_run;
 use lexer::start_of;
 use lexer::text_start;
 
@@ -69,7 +70,34 @@ fn code_of(codes: &[u8; 256], b: u8) -> u8
     codes[b as usize]
 }
 
-// What the symbols of a token's text come to, by their codes.
+// What the symbols of a text from a place up to an end come to behind so many cells, by their codes.
+fn run_cells(
+    text: &[u8],
+    from: usize,
+    end: usize,
+    codes: &[u8; 256],
+    count: usize,
+    all: bool,
+) -> Cells
+    requires { ⌜ (count ≤ from) × (from ≤ end) × (end - from ≤ length (now text) - from) ⌝ }
+    ensures { λ r. ⌜ r ≡ coded (now (codes .entry)) count all (take (end - from) (drop from (now (text .entry)))) ⌝ }
+{
+    let mut n = count;
+    let mut states = all;
+    let mut i = from;
+    while i < end {
+        let code = code_of(codes, text[i]);
+        if code == 255 {
+            return Cells::Wrong;
+        }
+        n += 1;
+        states = states & (code < 96);
+        i += 1;
+    }
+    Cells::Some(n, states)
+}
+
+// What the symbols of a token's text come to, by their codes: a run of plain bytes, then the next byte, and so on.
 fn word_cells(text: &[u8], start: usize, codes: &[u8; 256]) -> Cells
     ensures { λ r. ⌜ r ≡ coded (now (codes .entry)) 0 true (token·at (now (text .entry)) start .text) ⌝ }
 {
@@ -77,18 +105,25 @@ fn word_cells(text: &[u8], start: usize, codes: &[u8; 256]) -> Cells
     let mut states = true;
     let mut c = text_start(text, start);
     loop {
-        match next_byte(text, c) {
-            Item::Byte(b, d) => {
-                let code = code_of(codes, b);
-                if code == 255 {
-                    return Cells::Wrong;
+        let from = c.at;
+        let run = plain_run(text, c);
+        match run_cells(text, from, run.at, codes, n, states) {
+            Cells::Some(k, all) => match next_byte(text, run) {
+                Item::Byte(b, d) => {
+                    let code = code_of(codes, b);
+                    if code == 255 {
+                        return Cells::Wrong;
+                    }
+                    n = k + 1;
+                    states = all & (code < 96);
+                    c = d;
                 }
-                n += 1;
-                states = states & (code < 96);
-                c = d;
-            }
-            Item::End => {
-                return Cells::Some(n, states);
+                Item::End => {
+                    return Cells::Some(k, all);
+                }
+            },
+            Cells::Wrong => {
+                return Cells::Wrong;
             }
         }
     }
