@@ -1,0 +1,45 @@
+-- Names that are alike have one number. Assumes nothing.
+use Prim.Native.Nat.{ℕ, _<_}
+use Rattle.lexer.proofs.Basics.{and-left, and-right}
+use Rattle.lexer.proofs.Yielded.{Yields·byte}
+use Rattle.lexer.specs.Base.{pick, alike, lower}
+use Rattle.lexer.specs.Bytes.{left}
+use Rattle.lexer.specs.Words.{spaced}
+use Rattle.lexer.specs.declared.Cursor.{Cursor}
+use Rattle.slots.specs.Hashes.{mixed, hash·from, hash}
+use borrow.Author.Tests.{eqb-true}
+use lib.Dec.{eqb}
+use mathlib.Core.Bool.{true, false, false≢true}
+use mathlib.Core.List.{List, [], _∷_}
+use mathlib.Core.Path.{_≡_, refl, sym, _∙_}
+
+alike-mixed : (h a b : ℕ) → lower a ≡ lower b → mixed h a ≡ mixed h b
+unfolding mixed
+alike-mixed h a b e = rw e
+
+alike-from : (h : ℕ) (l r : List ℕ) → alike l r ≡ true → hash·from h l ≡ hash·from h r
+unfolding alike hash·from
+alike-from h [] [] e = refl
+alike-from h [] (b ∷ r) e = absurd (false≢true e)
+alike-from h (a ∷ l) [] e = absurd (false≢true e)
+alike-from h (a ∷ l) (b ∷ r) e =
+    rw (alike-mixed h a b (eqb-true (lower a) (lower b) (and-left (eqb (lower a) (lower b)) (alike l r) e)))
+    (alike-from (mixed h b) l r (and-right (eqb (lower a) (lower b)) (alike l r) e))
+
+pub alike-hash : (n m : List ℕ) → alike n m ≡ true → hash n ≡ hash m
+unfolding hash
+alike-hash n m e = alike-from 0 n m e
+
+-- The number of what is left of a token's text, behind that of its front, is the number of all of it.
+pub record Hashing (text : List ℕ) (c d : Cursor) (h : ℕ) : Type 0 where
+  pub small : h < 4294967296
+  pub rest : hash·from h (spaced (left text d)) ≡ hash (spaced (left text c))
+
+module _ (text : List ℕ) (c d : Cursor) (h : ℕ) (k : Hashing text c d h) where
+  pub hashing-turn : (b : ℕ) (e : Cursor) → Yields·byte text (d .at) (left text d) b e → (g : ℕ) → (g ≡ mixed h (pick (eqb b 95) 32 b)) × (g < 4294967296) → Hashing text c e g
+  unfolding spaced hash·from
+  hashing-turn b e y g m = record { small = m .1; rest = rw (m .0) (sym (rw (y .here)) ∙ k .rest) }
+
+  pub hashing-end : left text d ≡ [] → h ≡ hash (spaced (left text c))
+  unfolding spaced hash·from
+  hashing-end e = sym (rw e) ∙ k .rest

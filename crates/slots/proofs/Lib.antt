@@ -1,0 +1,4 @@
+-- What the proofs of this crate rest on, and what other crates may cite.
+pub mod HashLaws
+pub mod FillingLaws
+pub mod SeekingLaws
