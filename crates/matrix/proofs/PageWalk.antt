@@ -21,45 +21,47 @@ use Rattle.matrix.proofs.PageShapes.{grown-room}
 use Rattle.matrix.proofs.PageTurns.{Long, Shaped, Comes, turn-comes}
 use Rattle.matrix.proofs.RowNames.{stored-count}
 use Rattle.matrix.proofs.StoredLines.{held-more, named-more, page-kept, pages-kept}
-use Rattle.matrix.proofs.StoredRows.{stored-more, word-kept, range-kept, names-kept}
+use Rattle.matrix.proofs.StoredRows.{cleared-front, word-kept, range-kept, names-kept}
 use Rattle.matrix.proofs.WalkedRows.{refused-rows}
 use Rattle.matrix.specs.Lines.{Rows·room, name·at, stored, names·stored}
 use Rattle.matrix.specs.PagesHeld.{Line·begins, Line·ends, Line·room, Pages·read, page·held, pages·held, paged, count·from, line·name, misfit, page·grown, line·grown, page·short, line·shape, lined·of, pages·end}
+use Rattle.matrix.specs.RowIndex.{Indexed, Row·room, Row·put}
 use Rattle.matrix.specs.declared.interleaved.Lined.{Lined}
 use Rattle.matrix.specs.declared.interleaved.Pages.{Pages}
 use Rattle.matrix.specs.declared.matrix.Chunk.{Chunk}
 use Rattle.matrix.specs.declared.matrix.Rows.{Rows}
 use borrow.Author.Tests.{eqb-true, eqb-false, eq-eqb, ne-eqb}
 use lib.Dec.{eqb}
-use lib.ListN.{length, take, set, length-set, length-map}
-use lib.Seq.{take-set-le}
+use Rattle.slots.specs.Filling.{Cleared, Table·fits, Table·sound}
+use Rattle.slots.specs.declared.Table.{Table}
+use lib.ListN.{length, take, length-map}
 use mathlib.Core.Bool.{Bool, true, false, _&&_, false≢true}
 use mathlib.Core.List.{List, [], _∷_, _++_}
 use mathlib.Core.Path.{_≡_, refl, sym, ap, _∙_}
 use native.Mathlib.Omega.{arith}
 
 -- What a line can do at most to the shape of a page.
-abbrev Bounds : ℕ → ℕ → Outcome Pages → Type 0
-Bounds row characters (done r) = (r .row ≤ row + 1) × (r .earlier ≤ characters)
-Bounds row characters (refused m j) = Unit {0}
+abbrev Bounds : Bool → ℕ → ℕ → Outcome Pages → Type 0
+Bounds first row characters (done r) = (r .row ≤ row + 1) × (r .earlier ≤ characters) × (r .first ≡ true → first ≡ true)
+Bounds first row characters (refused m j) = Unit {0}
 
-then-bounds : {A : Type 0} (row characters : ℕ) (o : Outcome A) (g : A → Outcome Pages) → ((a : A) → Bounds row characters (g a)) → Bounds row characters (then o g)
+then-bounds : {A : Type 0} (first : Bool) (row characters : ℕ) (o : Outcome A) (g : A → Outcome Pages) → ((a : A) → Bounds first row characters (g a)) → Bounds first row characters (then o g)
 unfolding then
-then-bounds row characters (done a) g h = h a
-then-bounds row characters (refused m j) g h = tt
+then-bounds first row characters (done a) g h = h a
+then-bounds first row characters (refused m j) g h = tt
 
 module _ (taxa characters : ℕ) (q : Pages) (within : q .earlier ≤ characters) where
-  grown-bounds : (i n : ℕ) → Bounds (q .row) characters (line·grown taxa characters q i n)
+  grown-bounds : (i n : ℕ) → Bounds (q .first) (q .row) characters (line·grown taxa characters q i n)
   unfolding line·grown page·grown
   grown-bounds i n =
-      chosen (Bounds (q .row) characters) (misfit characters q n) (λ _. tt)
-      (λ e. chosen (λ (r : Pages). (r .row ≤ q .row + 1) × (r .earlier ≤ characters)) (eqb (q .row + 1) taxa) (λ _. (omega arith, grown-room characters q n within e)) (λ _. (omega arith, within)))
+      chosen (Bounds (q .first) (q .row) characters) (misfit characters q n) (λ _. tt)
+      (λ e. chosen (λ (r : Pages). (r .row ≤ q .row + 1) × (r .earlier ≤ characters) × (r .first ≡ true → q .first ≡ true)) (eqb (q .row + 1) taxa) (λ _. (omega arith, grown-room characters q n within e, λ d. absurd (false≢true d))) (λ _. (omega arith, within, λ d. d)))
 
-  shape-bounds : (text work codes : List ℕ) (at rows i to : ℕ) → Bounds (q .row) characters (line·shape text work codes at rows taxa characters q i to)
+  shape-bounds : (text work codes : List ℕ) (at rows i to : ℕ) → Bounds (q .first) (q .row) characters (line·shape text work codes at rows taxa characters q i to)
   unfolding line·shape
   shape-bounds text work codes at rows i to =
-      chosen (Bounds (q .row) characters) (page·short text work taxa q i to) (λ _. tt)
-      (λ _. then-bounds (q .row) characters (judged i (line·name text work at rows q i)) _ (λ s. then-bounds (q .row) characters (count·from codes (Chunk.Plain 0) (to·newline (range text work (s + 1) to))) _ (λ n. grown-bounds s n)))
+      chosen (Bounds (q .first) (q .row) characters) (page·short text work taxa q i to) (λ _. tt)
+      (λ _. then-bounds (q .first) (q .row) characters (judged i (line·name text work at rows q i)) _ (λ s. then-bounds (q .first) (q .row) characters (count·from codes (Chunk.Plain 0) (to·newline (range text work (s + 1) to))) _ (λ n. grown-bounds s n)))
 
 -- Rows of one length are as long as they are to be exactly where that is the length.
 all-long : (n e : ℕ) (l : List Taxon) → All (Long e) l → eqb e n ≡ true → all·long n l ≡ true
@@ -103,22 +105,24 @@ pub record Walked (text before : List ℕ) (from to taxa characters head : ℕ) 
   pub rest : then (pages (matrix·of taxa characters head f) (page·held text before f taxa to first·page starts) (lines·from false (range text before i to))) (interleaved·end (matrix·of taxa characters head f))
       ≡ interleaved (matrix·of taxa characters head f) (range text before from to)
 
--- Work memory is kept in front of the lines. No more of them are stored than there were tokens, each the index of one; with those that begin from here
+-- Work memory is kept in front of the lines. No more of them are stored than there were tokens, each the index of one, and on the first page a table
+-- has them; with those that begin from here
 -- on they are all lines; a line begins here, or nothing is left; and for every format with these codes, what is read from here on is what all of it is read as.
-pub record Paging (text codes before : List ℕ) (at from to taxa characters head : ℕ) (work : List ℕ) (rows : ℕ) (q : Pages) (i : ℕ) : Type 0 where
+pub record Paging (text codes before : List ℕ) (at from to taxa characters head : ℕ) (t : Table) (work : List ℕ) (rows : ℕ) (q : Pages) (i : ℕ) : Type 0 where
   pub size : length work ≡ length before
   pub kept : take at work ≡ take at before
   pub few : rows ≤ i
   pub within : rows ≤ to
   pub starts : All (λ s. s < at) (stored work at rows)
+  pub indexed : q .first ≡ true → Indexed text work at rows t
   pub row : q .row ≤ rows
   pub earlier : q .earlier ≤ characters
   pub here : i < to → newline (word·of text before i) ≡ false
   pub count : rows + length (lines·from false (range text before i to)) ≡ length (lines (range text before from to))
   pub each : (f : Format) → Coded f codes → length (f .symbols) ≤ 74 → Walked text before from to taxa characters head f (stored work at rows) q i
 
-module _ {text codes before : List ℕ} {at from to taxa characters head : ℕ} where
-  pub paging-start : {i : ℕ} → Line·begins text before from to i → Paging text codes before at from to taxa characters head before 0 (record { first = true; row = 0; earlier = 0; width = 0 }) i
+module _ {text codes before : List ℕ} {at from to taxa characters head : ℕ} {t : Table} where
+  pub paging-start : {i : ℕ} → Line·begins text before from to i → Paging text codes before at from to taxa characters head t before 0 (record { first = true; row = 0; earlier = 0; width = 0 }) i
   unfolding stored names·stored page·held first·page names interleaved lines
   paging-start b =
       record {
@@ -127,6 +131,7 @@ module _ {text codes before : List ℕ} {at from to taxa characters head : ℕ} 
         few = omega arith;
         within = omega arith;
         starts = tt;
+        indexed = λ _. record { each = λ k l. absurd (omega arith) };
         row = omega arith;
         earlier = omega arith;
         here = b .here;
@@ -139,7 +144,7 @@ module _ {text codes before : List ℕ} {at from to taxa characters head : ℕ} 
             };
       }
 
-  module _ (room : Rows·room text before at to) {work : List ℕ} {rows : ℕ} {q : Pages} {i : ℕ} (k : Paging text codes before at from to taxa characters head work rows q i) where
+  module _ (room : Rows·room text before at to) {work : List ℕ} {rows : ℕ} {q : Pages} {i : ℕ} (k : Paging text codes before at from to taxa characters head t work rows q i) where
     abbrev matrix : Format → Shape
     matrix f = matrix·of taxa characters head f
 
@@ -194,8 +199,8 @@ module _ {text codes before : List ℕ} {at from to taxa characters head : ℕ} 
         }
 
     -- there is room for a line that begins here
-    pub paging-room : i < to → Line·room text work at rows to characters q i
-    paging-room h =
+    pub paging-room : Table·sound t → i < to → Line·room text work at rows to characters q i t
+    paging-room sound h =
         record {
           stored = omega (arith, k .within, k .size, room .behind);
           row = k .row;
@@ -204,21 +209,24 @@ module _ {text codes before : List ℕ} {at from to taxa characters head : ℕ} 
           lines = omega (arith, k .within, room .tokens);
           tokens = room .tokens;
           bytes = room .bytes;
+          sound = sound;
+          indexed = k .indexed;
         }
 
     pub paging-space : i < to → at + rows < length work
     paging-space h = omega (arith, k .few, k .size, room .behind)
 
 -- The line that begins here was judged.
-pub record Judging (text codes before : List ℕ) (at from to taxa characters head : ℕ) (work : List ℕ) (rows : ℕ) (q : Pages) (i : ℕ) (r : Lined) : Type 0 where
+pub record Judging (text codes before : List ℕ) (at from to taxa characters head : ℕ) (t : Table) (work : List ℕ) (rows : ℕ) (q : Pages) (i : ℕ) (r : Lined) : Type 0 where
   pub room : Rows·room text before at to
-  pub place : Paging text codes before at from to taxa characters head work rows q i
+  pub fits : Table·fits (at + to) (length before) t
+  pub place : Paging text codes before at from to taxa characters head t work rows q i
   pub below : i < to
   pub small : Small text
   pub lined : lined·of r ≡ line·shape text work codes at rows taxa characters q i to
 
-module _ {text codes before : List ℕ} {at from to taxa characters head : ℕ} {work : List ℕ} {rows : ℕ} {q : Pages} {i : ℕ} {r : Lined}
-    (j : Judging text codes before at from to taxa characters head work rows q i r) where
+module _ {text codes before : List ℕ} {at from to taxa characters head : ℕ} {t : Table} {work : List ℕ} {rows : ℕ} {q : Pages} {i : ℕ} {r : Lined}
+    (j : Judging text codes before at from to taxa characters head t work rows q i r) where
   under : i < at
   under = omega (arith, j .below, j .room .apart)
 
@@ -241,10 +249,10 @@ module _ {text codes before : List ℕ} {at from to taxa characters head : ℕ} 
     -- with the lines behind it
     module _ (later : List Line) (one : lines·from false (range text work i to) ≡ line ∷ later) where
       come : (o : Outcome Pages) → lined·of r ≡ o
-          → Comes text work codes f c few (j .small) at rows taxa characters head (paging-room (j .room) (j .place) (j .below) .stored) q page shaped (j .place .earlier) i to o (line·turn (matrix·of taxa characters head f) page line (length later))
+          → Comes text work codes f c few (j .small) at rows taxa characters head (paging-room (j .room) (j .place) (j .fits .sound) (j .below) .stored) q page shaped (j .place .earlier) i to o (line·turn (matrix·of taxa characters head f) page line (length later))
       come o d =
           rw (← d, j .lined)
-          (turn-comes text work codes f c few (j .small) at rows taxa characters head (paging-room (j .room) (j .place) (j .below) .stored) q page shaped (j .place .earlier) i to (length later) (ap length one))
+          (turn-comes text work codes f c few (j .small) at rows taxa characters head (paging-room (j .room) (j .place) (j .fits .sound) (j .below) .stored) q page shaped (j .place .earlier) i to (length later) (ap length one))
 
       walked-refused : (m : Refusal) (n : ℕ) → r ≡ Lined.Refused m n → refused m n ≡ interleaved (matrix·of taxa characters head f) (range text before from to)
       unfolding lined·of pages then
@@ -274,25 +282,55 @@ module _ {text codes before : List ℕ} {at from to taxa characters head : ℕ} 
         read = λ f c few. walked-refused f c few (lines·from true (range text work (i + 1) to)) (lines-line text work i to (j .below) here) m n d;
       }
 
-  pub paging-page : {e next : ℕ} → Line·ends text work (i + 1) to e → Line·begins text work e to next → (x : Pages) → r ≡ Lined.Page x
-      → Paging text codes before at from to taxa characters head (set work (at + rows) i) (rows + 1) x next
+  -- there is room for the line
+  pub paging-put : Row·room work at rows i t
+  paging-put =
+      record {
+        front = omega (arith, j .place .few, j .below, j .fits .begins);
+        space = paging-space (j .room) (j .place) (j .below);
+        table = omega (arith, j .fits .within, j .place .size);
+        sound = j .fits .sound;
+        few = omega (arith, j .place .within, j .room .tokens);
+        word = omega (arith, j .below, j .room .tokens);
+      }
+
+  pub paging-page : {e next : ℕ} → Line·ends text work (i + 1) to e → Line·begins text work e to next → (x : Pages) → r ≡ Lined.Page x → {after : List ℕ} → Row·put text work after at rows i t (q .first)
+      → Paging text codes before at from to taxa characters head t after (rows + 1) x next
   unfolding lined·of
-  paging-page {e} {next} over begins x d =
+  paging-page {e} {next} over begins x d put =
       let k = j .place in
-      let b : Bounds (q .row) characters (done x) = rw (← j .lined, d) at (shape-bounds taxa characters q (k .earlier) text work codes at rows i to) in
-      let more = stored-more work at rows i (paging-space (j .room) k (j .below)) in
+      let b : Bounds (q .first) (q .row) characters (done x) = rw (← j .lined, d) at (shape-bounds taxa characters q (k .earlier) text work codes at rows i to) in
+      let more = put .more in
       let behind = lines·from false (range text before next to) in
       let one : length (lines·from false (range text before i to)) ≡ length behind + 1 =
       rw (← range-kept text work before at (k .kept) i to (j .room .apart), ← range-kept text work before at (k .kept) next to (j .room .apart), line-then text work i to e next (j .below) here over begins) (omega arith) in
       record {
-        size = length-set work (at + rows) i ∙ k .size;
-        kept = take-set-le at work (at + rows) i (omega arith) ∙ k .kept;
+        size = put .size ∙ k .size;
+        kept = put .kept ∙ k .kept;
         few = omega (arith, k .few, next-ahead text work i to e next (j .below) here over begins);
         within = omega (arith, k .few, j .below);
         starts = rw more (all-one (λ s. s < at) (stored work at rows) i (k .starts) under);
+        indexed = λ a. let first = b .2 a in put .indexed first (each-below at (stored work at rows) (k .starts)) under (k .indexed first);
         row = omega (arith, b .0, k .row);
         earlier = b .1;
         here = λ l. rw (← word-kept text work before at (k .kept) next (omega (arith, j .room .apart))) (begins .here l);
         count = omega (arith, k .count, one);
         each = λ f c few. rw more (walked-page f c few (lines·from false (range text work next to)) (line-then text work i to e next (j .below) here over begins) next refl x d);
       }
+
+-- A table was cleared behind the lines before they were read.
+pub read-cleared : {text codes before work after : List ℕ} {at from to taxa characters head : ℕ} {r : Rows} → Rows·room text before at to → Cleared before work (at + to)
+    → Pages·read text codes work after at from to taxa characters head r → Pages·read text codes before after at from to taxa characters head r
+read-cleared {text} {codes} {before} {work} {after} {at} {from} {to} room c k =
+    let front = cleared-front before work at (at + to) c (omega arith) in
+    let same = range-kept text work before at front from to (room .apart) in
+    record {
+      size = k .size ∙ c .size;
+      kept = k .kept ∙ front;
+      few = k .few;
+      count = rw same at (k .count);
+      below = k .below;
+      enough = k .enough;
+      named = k .named;
+      read = rw same at (k .read);
+    }

@@ -7,6 +7,7 @@ use Rattle.block.specs.Sequential.{names}
 use Rattle.lexer.proofs.Basics.{by-test}
 use Rattle.lexer.specs.Stored.{word·of, words·of, range}
 use Rattle.matrix.specs.Lines.{name·at, stored, names·stored, row·at, rows·sequential}
+use Rattle.slots.specs.Filling.{Cleared}
 use borrow.Author.Tests.{ltb-true, ltb-false}
 use lib.Dec.{ltb}
 use lib.ListN.{length, getD, take, drop, set, length-drop}
@@ -43,8 +44,12 @@ pub stored-kept : (work before : List ℕ) (at lines rows : ℕ) → take at wor
 unfolding stored
 stored-kept work before at lines rows e h = sym (front-of lines rows at work h) ∙ ap (λ x. take rows (drop lines x)) e ∙ front-of lines rows at before h
 
+-- What stands in front of a table that was cleared was kept.
+pub cleared-front : (before work : List ℕ) (at base : ℕ) → Cleared before work base → at ≤ base → take at work ≡ take at before
+cleared-front before work at base c h = sym (take-take at base work h) ∙ ap (take at) (c .front) ∙ take-take at base before h
+
 module _ (text work before : List ℕ) (at : ℕ) (kept : take at work ≡ take at before) where
-  start-kept : (i : ℕ) → i < at → getD work i 0 ≡ getD before i 0
+  pub start-kept : (i : ℕ) → i < at → getD work i 0 ≡ getD before i 0
   start-kept i h = sym (getD-take at work i 0 h) ∙ ap (λ l. getD l i 0) kept ∙ getD-take at before i 0 h
 
   pub word-kept : (i : ℕ) → i < at → word·of text work i ≡ word·of text before i

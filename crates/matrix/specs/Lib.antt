@@ -3,6 +3,7 @@ pub mod RowShape
 pub mod Taken
 pub mod Lines
 pub mod OrderHeld
+pub mod RowIndex
 pub mod SequentialShape
 pub mod PagesHeld
 pub mod RowsHeld

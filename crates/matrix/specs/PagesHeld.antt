@@ -18,6 +18,7 @@ use Rattle.lexer.specs.Words.{Numbered, label}
 use Rattle.lexer.specs.declared.refusal.Refusal.{Refusal}
 use Rattle.matrix.specs.Lines.{name·at, stored, names·stored}
 use Rattle.matrix.specs.OrderHeld.{all·below}
+use Rattle.matrix.specs.RowIndex.{Indexed}
 use Rattle.matrix.specs.RowShape.{chunk·shape}
 use Rattle.matrix.specs.Taken.{line·taken}
 use Rattle.matrix.specs.declared.interleaved.LineCells.{LineCells}
@@ -25,6 +26,8 @@ use Rattle.matrix.specs.declared.interleaved.Lined.{Lined}
 use Rattle.matrix.specs.declared.interleaved.Pages.{Pages}
 use Rattle.matrix.specs.declared.matrix.Chunk.{Chunk}
 use Rattle.matrix.specs.declared.matrix.Rows.{Rows}
+use Rattle.slots.specs.Filling.{Table·sound}
+use Rattle.slots.specs.declared.Table.{Table}
 use lib.Dec.{ltb, eqb}
 use lib.ListN.{length, take, getD}
 use mathlib.Core.Bool.{Bool, true, false, _&&_, _||_, not}
@@ -119,8 +122,8 @@ line·grown taxa characters p i n = pick (misfit characters p n) (refused Refusa
 unfoldable pub page·short : List ℕ → List ℕ → ℕ → Pages → ℕ → ℕ → Bool
 page·short text work taxa p i to = eqb (p .row) 0 && ltb (length (lines·from false (range text work i to))) taxa
 
--- What is asked for a line to be judged behind so many stored lines, those of its page among them.
-pub record Line·room (text work : List ℕ) (at rows to characters : ℕ) (p : Pages) (i : ℕ) : Type 0 where
+-- What is asked for a line to be judged behind so many stored lines, those of its page among them: on the first page a table has them.
+pub record Line·room (text work : List ℕ) (at rows to characters : ℕ) (p : Pages) (i : ℕ) (t : Table) : Type 0 where
   pub stored : at + rows ≤ length work
   pub row : p .row ≤ rows
   pub earlier : p .earlier ≤ characters
@@ -128,6 +131,8 @@ pub record Line·room (text work : List ℕ) (at rows to characters : ℕ) (p : 
   pub lines : rows ≤ 1048576
   pub tokens : to ≤ 1048576
   pub bytes : length text ≤ 1048576
+  pub sound : Table·sound t
+  pub indexed : p .first ≡ true → Indexed text work at rows t
 
 -- The line that begins with the token of an index, behind so many stored lines.
 unfoldable pub line·shape : List ℕ → List ℕ → List ℕ → ℕ → ℕ → ℕ → ℕ → Pages → ℕ → ℕ → Outcome Pages

@@ -5,13 +5,17 @@ ghost use Rattle.block.specs.Interleaved.{lines·from, to·newline};
 ghost use Rattle.lexer.specs.Stored.{range};
 ghost use Rattle.matrix.specs.Lines.{Rows·room};
 ghost use Rattle.matrix.specs.PagesHeld.{Line·begins, Line·ends, Line·room, Pages·read, cells·counted, count·from, end·count, line·grown, line·name, line·shape, lined·of, page·short, pages·end};
+ghost use Rattle.matrix.specs.RowIndex.{Indexed};
+ghost use Rattle.slots.specs.Filling.{Table·fits, Table·sound};
 ghost use lib.Dec.{ltb};
 ghost use lib.ListN.{length};
-ghost use mathlib.Core.Bool.{false};
+ghost use mathlib.Core.Bool.{true, false};
 ghost use mathlib.Core.Path.{_≡_};
+use super::index::put_row;
 use super::matrix::Chunk;
 use super::matrix::Chunked;
 use super::matrix::Rows;
+use super::matrix::at_most;
 use super::matrix::chunk_at;
 use super::matrix::known_row;
 use block::Judged;
@@ -20,6 +24,8 @@ use block::named;
 use block::newline;
 use lexer::Refusal;
 use lexer::start_of;
+use slots::Table;
+use slots::free_table;
 
 // A page so far, by its shape: is it the first; how many rows it has; how many cells each row has from earlier pages; and its width, 0 before its
 // first line.
@@ -131,16 +137,24 @@ fn row_count(row: Chunk) -> LineCells
 }
 
 // Is the first token of a line the name that it must be, behind so many stored lines: on the first page a new one, later that of the row that
-// stands there?
-fn line_name(text: &[u8], work: &[u32], at: usize, rows: usize, page: Pages, i: usize) -> Judged
-    requires { ⌜ (at + rows ≤ length (now work)) × (page .row ≤ rows) ⌝ }
+// stands there? Lines of the first page are in a table.
+fn line_name(
+    text: &[u8],
+    work: &[u32],
+    at: usize,
+    rows: usize,
+    page: Pages,
+    i: usize,
+    table: Table,
+) -> Judged
+    requires { ⌜ (at + rows ≤ length (now work)) × (page .row ≤ rows) × Table·sound table × (page .first ≡ true → Indexed (now text) (now work) at rows table) ⌝ }
     ensures { λ r. ⌜ r ≡ line·name (now (text .entry)) (now (work .entry)) at rows page i ⌝ }
 {
     if !named(text, work, i) {
         return Judged::Refused(Refusal::NotName, i);
     }
     if page.first {
-        if known_row(text, work, at, rows, i) {
+        if known_row(text, work, at, rows, i, table) {
             return Judged::Refused(Refusal::TaxonTwice, i);
         }
         return Judged::Good;
@@ -189,14 +203,15 @@ fn line_turn(
     taxa: u64,
     characters: u64,
     codes: &[u8; 256],
+    table: Table,
 ) -> Lined
-    requires { ⌜ Line·room (now text) (now work) at rows to characters page i ⌝ }
+    requires { ⌜ Line·room (now text) (now work) at rows to characters page i table ⌝ }
     ensures { λ r. ⌜ lined·of r ≡ line·shape (now (text .entry)) (now (work .entry)) (now (codes .entry)) at rows taxa characters page i to ⌝ }
 {
     if short_page(text, work, page, i, to, taxa) {
         return Lined::Refused(Refusal::Count, i);
     }
-    match line_name(text, work, at, rows, page, i) {
+    match line_name(text, work, at, rows, page, i, table) {
         Judged::Good => match line_cells(text, work, i + 1, to, codes) {
             LineCells::Count(n) => line_grown(page, taxa, characters, i, n),
             LineCells::Refused(n, j) => Lined::Refused(n, j),
@@ -221,7 +236,61 @@ fn interleaved_end(page: Pages, taxa: u64, characters: u64, head: usize, rows: u
     Rows::Refused(Refusal::Count, head)
 }
 
-// The rows of an interleaved matrix, from the tokens of two indices. The index of each line's name is stored, one after the other from `at` on.
+// The rows of an interleaved matrix, from the tokens of two indices. The index of each line's name is stored, one after the other from `at` on, and
+// those of the first page are put into a table of the names.
+fn interleaved_rows(
+    text: &[u8],
+    work: &mut [u32],
+    at: usize,
+    from: usize,
+    to: usize,
+    taxa: u64,
+    characters: u64,
+    head: usize,
+    codes: &[u8; 256],
+    table: Table,
+) -> Rows
+    requires { ⌜ Rows·room (now text) (now work) at to × Table·fits (at + to) (length (now work)) table ⌝ }
+    ensures { λ r. ⌜ Pages·read (now (text .entry)) (now (codes .entry)) (now (work .entry)) (now (work .exit)) at from to taxa characters head r ⌝ }
+{
+    let mut page = Pages {
+        first: true,
+        row: 0,
+        earlier: 0,
+        width: 0,
+    };
+    let mut rows = 0;
+    let mut i = next_line(text, work, from, to);
+    while i < to {
+        match line_turn(
+            text,
+            work,
+            at,
+            rows,
+            page,
+            i,
+            to,
+            taxa,
+            characters,
+            codes,
+            table,
+        ) {
+            Lined::Page(grown) => {
+                let next = next_line(text, work, line_end(text, work, i + 1, to), to);
+                put_row(text, work, at, rows, i, table, page.first);
+                rows += 1;
+                page = grown;
+                i = next;
+            }
+            Lined::Refused(n, j) => {
+                return Rows::Refused(n, j);
+            }
+        }
+    }
+    interleaved_end(page, taxa, characters, head, rows)
+}
+
+// The same, with the table behind the lines, for which there is room for one a token.
 pub fn interleaved(
     text: &[u8],
     work: &mut [u32],
@@ -236,28 +305,17 @@ pub fn interleaved(
     requires { ⌜ Rows·room (now text) (now work) at to ⌝ }
     ensures { λ r. ⌜ Pages·read (now (text .entry)) (now (codes .entry)) (now (work .entry)) (now (work .exit)) at from to taxa characters head r ⌝ }
 {
-    let mut page = Pages {
-        first: true,
-        row: 0,
-        earlier: 0,
-        width: 0,
-    };
-    let mut rows = 0;
-    let mut i = next_line(text, work, from, to);
-    while i < to {
-        match line_turn(text, work, at, rows, page, i, to, taxa, characters, codes) {
-            Lined::Page(grown) => {
-                let next = next_line(text, work, line_end(text, work, i + 1, to), to);
-                let end = at + rows;
-                work[end] = i as u32;
-                rows += 1;
-                page = grown;
-                i = next;
-            }
-            Lined::Refused(n, j) => {
-                return Rows::Refused(n, j);
-            }
-        }
-    }
-    interleaved_end(page, taxa, characters, head, rows)
+    let table = free_table(work, at + to, at_most(taxa, to));
+    interleaved_rows(
+        text,
+        work,
+        at,
+        from,
+        to,
+        taxa,
+        characters,
+        head,
+        codes,
+        table,
+    )
 }

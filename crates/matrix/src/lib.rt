@@ -1,5 +1,6 @@
 // MATRIX, after matrix.rs: its rows, sequential or interleaved, and their declared order. What each function means stands in specs/.
 
+pub mod index;
 pub mod interleaved;
 pub mod matrix;
 pub mod order;

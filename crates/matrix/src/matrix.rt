@@ -6,12 +6,15 @@ ghost use Rattle.block.specs.Names.{known};
 ghost use Rattle.lexer.specs.Lexing.{token·at};
 ghost use Rattle.lexer.specs.Stored.{word·of};
 ghost use Rattle.matrix.specs.Lines.{Rows·room, name·at, names·stored, stored};
+ghost use Rattle.matrix.specs.RowIndex.{Rows·tabled};
 ghost use Rattle.matrix.specs.RowShape.{coded, symbols·coded, chunk·shape, chunked·of, so·far};
 ghost use Rattle.matrix.specs.SequentialShape.{Rows·read, begun·shape, cells·of·row, end·shape, grown·shape, turn·shape};
+ghost use Rattle.slots.specs.Filling.{Table·fits};
 ghost use lib.ListN.{length, getD, take, drop};
 ghost use mathlib.Core.Bool.{true};
 ghost use mathlib.Core.Path.{_≡_};
-use super::order::row_of;
+use super::index::put_row;
+use super::index::row_found;
 use block::Bracket;
 use block::Index;
 use block::named;
@@ -25,6 +28,8 @@ use lexer::next_byte;
 use lexer::plain_run;
 use lexer::start_of;
 use lexer::text_start;
+use slots::Table;
+use slots::free_table;
 
 // What the symbols of a word come to: how many cells, and whether all are states; or one of them is no symbol.
 pub enum Cells {
@@ -215,20 +220,28 @@ pub fn chunk_at(text: &[u8], work: &[u32], i: usize, codes: &[u8; 256], row: Chu
     }
 }
 
-// Is the name of a word one of those that the words have whose indices are stored, so many from an index of work memory on?
-pub fn known_row(text: &[u8], work: &[u32], at: usize, rows: usize, i: usize) -> bool
-    requires { ⌜ at + rows ≤ length (now work) ⌝ }
+// Is the name of a word one of those that the words have whose indices are stored, so many from an index of work memory on? A table has them.
+pub fn known_row(text: &[u8], work: &[u32], at: usize, rows: usize, i: usize, table: Table) -> bool
+    requires { ⌜ Rows·tabled (now text) (now work) at rows table ⌝ }
     ensures { λ r. ⌜ r ≡ known (name·at (now (text .entry)) (now (work .entry)) i) (names·stored (now (text .entry)) (now (work .entry)) (stored (now (work .entry)) at rows)) ⌝ }
 {
-    match row_of(text, work, at, rows, i) {
+    match row_found(text, work, at, rows, i, table) {
         Index::At(_) => true,
         Index::None => false,
     }
 }
 
 // A row begins with its name, if there are to be more than so many.
-fn row_begins(text: &[u8], work: &[u32], at: usize, rows: usize, i: usize, taxa: u64) -> Turned
-    requires { ⌜ at + rows ≤ length (now work) ⌝ }
+fn row_begins(
+    text: &[u8],
+    work: &[u32],
+    at: usize,
+    rows: usize,
+    i: usize,
+    taxa: u64,
+    table: Table,
+) -> Turned
+    requires { ⌜ Rows·tabled (now text) (now work) at rows table ⌝ }
     ensures { λ r. ⌜ r ≡ begun·shape taxa (names·stored (now (text .entry)) (now (work .entry)) (stored (now (work .entry)) at rows)) (word·of (now (text .entry)) (now (work .entry)) i) ⌝ }
 {
     if rows as u64 == taxa {
@@ -237,7 +250,7 @@ fn row_begins(text: &[u8], work: &[u32], at: usize, rows: usize, i: usize, taxa:
     if !named(text, work, i) {
         return Turned::Refused(Refusal::NotName, i);
     }
-    if known_row(text, work, at, rows, i) {
+    if known_row(text, work, at, rows, i, table) {
         return Turned::Refused(Refusal::TaxonTwice, i);
     }
     Turned::On(Sequence::Inside(i, Chunk::Plain(0)))
@@ -294,12 +307,13 @@ fn sequential_turn(
     characters: u64,
     codes: &[u8; 256],
     line: Sequence,
+    table: Table,
 ) -> Turned
-    requires { ⌜ (at + rows ≤ length (now work)) × (cells·of·row line ≤ 2 ^ 41) ⌝ }
+    requires { ⌜ Rows·tabled (now text) (now work) at rows table × (cells·of·row line ≤ 2 ^ 41) ⌝ }
     ensures { λ r. ⌜ r ≡ turn·shape (now (codes .entry)) taxa characters (names·stored (now (text .entry)) (now (work .entry)) (stored (now (work .entry)) at rows)) line (word·of (now (text .entry)) (now (work .entry)) i) ⌝ }
 {
     match line {
-        Sequence::Between => row_begins(text, work, at, rows, i, taxa),
+        Sequence::Between => row_begins(text, work, at, rows, i, taxa, table),
         Sequence::Inside(s, row) => row_grown(
             chunk_at(text, work, i, codes, row),
             characters,
@@ -309,7 +323,70 @@ fn sequential_turn(
     }
 }
 
-// The rows of a sequential matrix, from the tokens of two indices. The index of each row's name is stored, one after the other from `at` on.
+// A number, or another that is less.
+pub fn at_most(n: u64, most: usize) -> usize
+    ensures { λ r. ⌜ r ≤ most ⌝ }
+{
+    if n < most as u64 {
+        return n as usize;
+    }
+    most
+}
+
+// The rows of a sequential matrix, from the tokens of two indices. The index of each row's name is stored, one after the other from `at` on, and put
+// into a table of the names.
+fn sequential_rows(
+    text: &[u8],
+    work: &mut [u32],
+    at: usize,
+    from: usize,
+    to: usize,
+    taxa: u64,
+    characters: u64,
+    head: usize,
+    codes: &[u8; 256],
+    table: Table,
+) -> Rows
+    requires { ⌜ Rows·room (now text) (now work) at to × Table·fits (at + to) (length (now work)) table ⌝ }
+    ensures { λ r. ⌜ Rows·read (now (text .entry)) (now (codes .entry)) (now (work .entry)) (now (work .exit)) at from to taxa characters head r ⌝ }
+{
+    let mut rows = 0;
+    let mut line = Sequence::Between;
+    let mut i = from;
+    while i < to {
+        let k = i;
+        i += 1;
+        if !newline(text, work, k) {
+            match sequential_turn(
+                text,
+                work,
+                at,
+                rows,
+                k,
+                taxa,
+                characters,
+                codes,
+                line,
+                table,
+            ) {
+                Turned::On(next) => {
+                    line = next;
+                }
+                Turned::Full(s) => {
+                    put_row(text, work, at, rows, s, table, true);
+                    rows += 1;
+                    line = Sequence::Between;
+                }
+                Turned::Refused(n, j) => {
+                    return Rows::Refused(n, j);
+                }
+            }
+        }
+    }
+    sequential_end(line, taxa, head, rows)
+}
+
+// The same, with the table behind the rows, for which there is room for one a token.
 pub fn sequential(
     text: &[u8],
     work: &mut [u32],
@@ -324,28 +401,17 @@ pub fn sequential(
     requires { ⌜ Rows·room (now text) (now work) at to ⌝ }
     ensures { λ r. ⌜ Rows·read (now (text .entry)) (now (codes .entry)) (now (work .entry)) (now (work .exit)) at from to taxa characters head r ⌝ }
 {
-    let mut rows = 0;
-    let mut line = Sequence::Between;
-    let mut i = from;
-    while i < to {
-        let k = i;
-        i += 1;
-        if !newline(text, work, k) {
-            match sequential_turn(text, work, at, rows, k, taxa, characters, codes, line) {
-                Turned::On(next) => {
-                    line = next;
-                }
-                Turned::Full(s) => {
-                    let end = at + rows;
-                    work[end] = s as u32;
-                    rows += 1;
-                    line = Sequence::Between;
-                }
-                Turned::Refused(n, j) => {
-                    return Rows::Refused(n, j);
-                }
-            }
-        }
-    }
-    sequential_end(line, taxa, head, rows)
+    let table = free_table(work, at + to, at_most(taxa, to));
+    sequential_rows(
+        text,
+        work,
+        at,
+        from,
+        to,
+        taxa,
+        characters,
+        head,
+        codes,
+        table,
+    )
 }

@@ -8,7 +8,7 @@ use super::Table;
 use lexer::start_of;
 
 // A table for so many names, from an index of work memory on, as far as there is room: four slots for each, and some behind them.
-pub fn table_for(base: usize, count: usize, length: usize) -> Table
+fn table_for(base: usize, count: usize, length: usize) -> Table
     requires { ⌜ (base ≤ 2 ^ 62) × (count ≤ 1048576) ⌝ }
     ensures { λ r. ⌜ Table·fits base length r ⌝ }
 {
@@ -35,7 +35,7 @@ pub fn slot_of(table: Table, h: u64) -> usize
 }
 
 // All slots are free.
-pub fn clear_slots(work: &mut [u32], base: usize, end: usize)
+fn clear_slots(work: &mut [u32], base: usize, end: usize)
     requires { ⌜ end ≤ length (now work) ⌝ }
     ensures { λ r. ⌜ Cleared (now (work .entry)) (now (work .exit)) base ⌝ }
 {
@@ -44,6 +44,16 @@ pub fn clear_slots(work: &mut [u32], base: usize, end: usize)
         work[p] = 0;
         p += 1;
     }
+}
+
+// A table for so many names, from an index of work memory on, with all slots free.
+pub fn free_table(work: &mut [u32], base: usize, count: usize) -> Table
+    requires { ⌜ (base ≤ length (now work)) × (count ≤ 1048576) ⌝ }
+    ensures { λ r. ⌜ Cleared (now (work .entry)) (now (work .exit)) base × Table·fits base (length (now (work .entry))) r ⌝ }
+{
+    let table = table_for(base, count, work.len());
+    clear_slots(work, base, table.end);
+    table
 }
 
 // The first free slot from one on.

@@ -4,10 +4,9 @@
 pub mod filling;
 pub mod hashes;
 
-pub use filling::clear_slots;
 pub use filling::fill_slot;
+pub use filling::free_table;
 pub use filling::slot_of;
-pub use filling::table_for;
 pub use hashes::hash_at;
 
 // A table: where it begins, at how many slots a search can begin, and where it ends.

@@ -14,7 +14,9 @@ returns : tie.Need-returns
 returns c = name-none _ _ _ _ _ _ (sym (c .before .named .ensures) ∙ not-true _ (c .if1 .taken))
 
 known-row-requires : tie.Need-known-row-requires
-known-row-requires c κs = search needs
+known-row-requires c κs =
+    let p = c .before .before .before .before .before .pre in
+    record { room = p .0; sound = p .2; indexed = p .3 (c .if2 .taken) }
 
 returns-2 : tie.Need-returns-2
 returns-2 c =

@@ -1,0 +1,42 @@
+-- Stored rows by a table of their names.
+use Prim.Native.Nat.{ℕ, _+_, _≤_, _<_}
+use Rattle.lexer.specs.Base.{alike}
+use Rattle.matrix.specs.Lines.{name·at, stored}
+use Rattle.matrix.specs.OrderHeld.{all·below}
+use Rattle.slots.specs.Filling.{Kept, Table·sound, slot·of}
+use Rattle.slots.specs.Hashes.{hash}
+use Rattle.slots.specs.declared.Table.{Table}
+use lib.ListN.{length, getD, take}
+use mathlib.Core.Bool.{Bool, true}
+use mathlib.Core.List.{List, [], _∷_, _++_}
+use mathlib.Core.Path.{_≡_}
+
+-- Has the stored row of a number the name of a word?
+unfoldable pub row·alike : List ℕ → List ℕ → ℕ → ℕ → ℕ → Bool
+row·alike text work at i k = alike (name·at text work i) (name·at text work (getD work (at + k) 0))
+
+-- The table has each of so many stored rows: its number, with 1 added, is kept from the slot of its name on.
+pub record Indexed (text work : List ℕ) (at rows : ℕ) (t : Table) : Type 0 where
+  pub each : (k : ℕ) → k < rows → Kept work (slot·of t (hash (name·at text work (getD work (at + k) 0)))) (t .end) (k + 1)
+
+-- So many rows are stored, and a sound table has them.
+pub record Rows·tabled (text work : List ℕ) (at rows : ℕ) (t : Table) : Type 0 where
+  pub room : at + rows ≤ length work
+  pub sound : Table·sound t
+  pub indexed : Indexed text work at rows t
+
+-- There is room for one row more, in front of the table.
+pub record Row·room (work : List ℕ) (at rows s : ℕ) (t : Table) : Type 0 where
+  pub front : at + rows < t .base
+  pub space : at + rows < length work
+  pub table : t .end ≤ length work
+  pub sound : Table·sound t
+  pub few : rows ≤ 1048576
+  pub word : s ≤ 1048576
+
+-- One row more was stored, and put into the table if its name is to be new.
+pub record Row·put (text before after : List ℕ) (at rows s : ℕ) (t : Table) (new : Bool) : Type 0 where
+  pub size : length after ≡ length before
+  pub kept : take at after ≡ take at before
+  pub more : stored after at (rows + 1) ≡ stored before at rows ++ (s ∷ [])
+  pub indexed : new ≡ true → all·below at (stored before at rows) → s < at → Indexed text before at rows t → Indexed text after at (rows + 1) t

@@ -1,0 +1,109 @@
+// Stored rows by a table of their names, so that the row of a name is found without a walk over all of them.
+
+ghost use Prim.Native.Nat.{_+_, _≤_, _<_};
+ghost use Rattle.block.specs.Cells.{index·of};
+ghost use Rattle.lexer.specs.Base.{pick};
+ghost use Rattle.matrix.specs.Lines.{name·at, names·stored, stored};
+ghost use Rattle.matrix.specs.OrderHeld.{Index·below, place·of};
+ghost use Rattle.matrix.specs.RowIndex.{Indexed, Row·put, Row·room, row·alike};
+ghost use Rattle.slots.specs.Filling.{Filled, Table·sound, slot·of};
+ghost use Rattle.slots.specs.Hashes.{hash};
+ghost use Rattle.slots.specs.Seeking.{Nearer};
+ghost use lib.Dec.{ltb};
+ghost use lib.ListN.{length};
+ghost use mathlib.Core.Option.{none, some};
+ghost use mathlib.Core.Path.{_≡_};
+use super::order::row_name;
+use super::order::row_of;
+use block::Index;
+use block::TaxonNumber;
+use block::alike;
+use lexer::start_of;
+use slots::Table;
+use slots::fill_slot;
+use slots::hash_at;
+use slots::slot_of;
+
+// The slot at which the search for the name of a word begins.
+fn name_slot(text: &[u8], work: &[u32], i: usize, table: Table) -> usize
+    requires { ⌜ Table·sound table ⌝ }
+    ensures { λ r. ⌜ r ≡ slot·of table (hash (name·at (now (text .entry)) (now (work .entry)) i)) ⌝ }
+{
+    slot_of(table, hash_at(text, start_of(work, i)))
+}
+
+// The row that a slot holds, with 1 added, if it is before the one that was found and its name is that of a word; else the one that was found.
+fn nearer(text: &[u8], work: &[u32], at: usize, i: usize, found: usize, value: usize) -> usize
+    requires { ⌜ (0 < value) × (at + found ≤ length (now work)) ⌝ }
+    ensures { λ r. ⌜ Nearer (row·alike (now (text .entry)) (now (work .entry)) at i) found value r ⌝ }
+{
+    if found < value {
+        return found;
+    }
+    if alike(text, work, i, row_name(work, at, TaxonNumber(value))) {
+        return value - 1;
+    }
+    found
+}
+
+// A row that was found, if it is one of so many.
+fn row_index(found: usize, rows: usize) -> Index
+    ensures { λ r. ⌜ index·of r ≡ pick (ltb found rows) (some found) none ⌝ }
+    ensures { λ r. ⌜ Index·below rows r ⌝ }
+{
+    if found < rows {
+        return Index::At(found);
+    }
+    Index::None
+}
+
+// The first stored row, of so many from an index of work memory on, whose name is that of a word, by a table of their names. Where the search comes to
+// the end of the table, all rows are looked at.
+pub fn row_found(text: &[u8], work: &[u32], at: usize, rows: usize, i: usize, table: Table) -> Index
+    requires { ⌜ (at + rows ≤ length (now work)) × Table·sound table ⌝ }
+    ensures { λ r. ⌜ (Indexed (now (text .entry)) (now (work .entry)) at rows table → index·of r ≡ place·of (name·at (now (text .entry)) (now (work .entry)) i) (names·stored (now (text .entry)) (now (work .entry)) (stored (now (work .entry)) at rows))) ⌝ }
+    ensures { λ r. ⌜ Index·below rows r ⌝ }
+{
+    let end = table.end;
+    let mut found = rows;
+    let mut p = name_slot(text, work, i, table);
+    while p < end {
+        let value = start_of(work, p);
+        if value == 0 {
+            return row_index(found, rows);
+        }
+        found = nearer(text, work, at, i, found, value);
+        p += 1;
+    }
+    row_of(text, work, at, rows, i)
+}
+
+// The row of a number, whose name is a word, is put into the table.
+fn insert_row(text: &[u8], work: &mut [u32], row: usize, s: usize, table: Table)
+    requires { ⌜ Table·sound table × (table .end ≤ length (now work)) × (row ≤ 1048576) ⌝ }
+    ensures { λ r. ⌜ Filled (now (work .entry)) (now (work .exit)) (slot·of table (hash (name·at (now (text .entry)) (now (work .entry)) s))) (table .end) (row + 1) ⌝ }
+{
+    let end = table.end;
+    let from = name_slot(text, work, s, table);
+    fill_slot(work, from, end, (row + 1) as u32);
+}
+
+// One row more, whose name is a word: it is stored behind the others, and where its name is to be new, put into the table of their names.
+pub fn put_row(
+    text: &[u8],
+    work: &mut [u32],
+    at: usize,
+    rows: usize,
+    s: usize,
+    table: Table,
+    new: bool,
+)
+    requires { ⌜ Row·room (now work) at rows s table ⌝ }
+    ensures { λ r. ⌜ Row·put (now (text .entry)) (now (work .entry)) (now (work .exit)) at rows s table new ⌝ }
+{
+    let end = at + rows;
+    work[end] = s as u32;
+    if new {
+        insert_row(text, work, rows, s, table);
+    }
+}
