@@ -8,18 +8,23 @@ use Rattle.block.specs.NamesHeld.{name·of, names·of}
 use Rattle.block.specs.Outcome.{Outcome, done, refused, then, need}
 use Rattle.block.specs.Reading.{Taxon}
 use Rattle.block.specs.Sequential.{names}
+use Rattle.block.specs.declared.Judged.{Judged}
 use Rattle.lexer.proofs.Basics.{by-test}
 use Rattle.lexer.specs.Base.{pick, alike}
 use Rattle.lexer.specs.Stored.{word·of, range}
 use Rattle.lexer.specs.declared.refusal.Refusal.{Refusal}
-use Rattle.matrix.proofs.BelowLaws.{below-each}
-use Rattle.matrix.proofs.StoredRows.{stored-kept, word-kept, names-kept}
+use Rattle.matrix.proofs.BelowLaws.{below-each, below-further, stored-below}
+use Rattle.matrix.proofs.IndexLaws.{name-same, indexed-kept}
+use Rattle.matrix.proofs.StoredRows.{stored-kept, cleared-front, word-kept, range-kept, names-kept}
 use Rattle.matrix.specs.Lines.{name·at, names·stored, stored}
-use Rattle.matrix.specs.OrderHeld.{place·from, place·of, cells·at, ordered, all·below}
+use Rattle.matrix.specs.OrderHeld.{Arranged, place·from, place·of, cells·at, ordered, all·below}
+use Rattle.matrix.specs.RowIndex.{Indexed, Rows·put}
+use Rattle.slots.specs.Filling.{Cleared, Table·fits}
+use Rattle.slots.specs.declared.Table.{Table}
 use borrow.Author.Tests.{ltb-true, ltb-false}
 use lib.Dec.{ltb}
 use lib.ListN.{length, getD, take, set, length-set, length-append}
-use lib.Seq.{getD-set-same, getD-set-other, take-set-le}
+use lib.Seq.{getD-set-same, getD-set-other, take-set-le, take-take}
 use mathlib.Core.Bool.{true, false}
 use mathlib.Core.List.{List, [], _∷_, _++_, map-append, append-nil, append-assoc}
 use mathlib.Core.Option.{Option, none, some}
@@ -60,11 +65,11 @@ ordered-append rows work (m ∷ ns) n at =
     rw (next, ordered-append rows work ns n (suc at)) refl
 
 -- The words of TAXLABELS stand in front of the stored rows, and these in front of what is stored here.
-module _ (text before : List ℕ) (lines rows from to at head : ℕ) where
+module _ (text before : List ℕ) (lines rows from to at head : ℕ) (t : Table) where
   declared : ℕ → ℕ → List (List ℕ)
   declared i end = names·of (words (range text before i end))
 
-  -- What a turn keeps: work memory in front, how many names have passed; and what the rest comes to behind them.
+  -- What a turn keeps: work memory in front, how many names have passed, and that a table has the rows; and what the rest comes to behind them.
   pub record Arranging (work : List ℕ) (i k : ℕ) : Type 0 where
     pub size : length work ≡ length before
     pub kept : take at work ≡ take at before
@@ -72,6 +77,7 @@ module _ (text before : List ℕ) (lines rows from to at head : ℕ) where
     pub within : to < i → i ≤ from
     pub count : k ≡ at + length (names·of (words (range text before from i)))
     pub few : length (names·of (words (range text before from i))) ≤ i
+    pub indexed : all·below at (stored before lines rows) → Indexed text work lines rows t
     pub rest : (taken : List Taxon) → names taken ≡ names·stored text before (stored before lines rows) → all·below at (stored before lines rows)
         → then (arranged head taken (names·of (words (range text before i to)))) (λ ts. done (ordered taken work at (names·of (words (range text before from i))) ++ ts)) ≡ arranged head taken (names·of (words (range text before from to)))
 
@@ -80,9 +86,9 @@ module _ (text before : List ℕ) (lines rows from to at head : ℕ) where
   then-same (done ts) = refl
   then-same (refused n i) = refl
 
-  pub arranging-start : Arranging before from at
+  pub arranging-start : (all·below at (stored before lines rows) → Indexed text before lines rows t) → Arranging before from at
   unfolding names·of ordered
-  arranging-start =
+  arranging-start indexed =
       record {
         size = refl;
         kept = refl;
@@ -90,6 +96,7 @@ module _ (text before : List ℕ) (lines rows from to at head : ℕ) where
         within = λ l. omega arith;
         count = rw (words-end text before from from (omega arith)) (omega arith);
         few = rw (words-end text before from from (omega arith)) (omega arith);
+        indexed = indexed;
         rest = λ taken same below. rw (words-end text before from from (omega arith)) (then-same _);
       }
 
@@ -105,11 +112,11 @@ module _ (text before : List ℕ) (lines rows from to at head : ℕ) where
     names-here below = rw (stored-kept work before at lines rows (a .kept) (room .1)) (names-kept text work before at (a .kept) (stored before lines rows) (below-each at (stored before lines rows) below))
 
     -- what was found among the names of stored rows is the place among those of any rows that have them
-    pub found-place : (o : Option ℕ) → i < to → o ≡ place·of (name·at text work i) (names·stored text work (stored work lines rows))
+    pub found-place : (o : Option ℕ) → i < to → (Indexed text work lines rows t → o ≡ place·of (name·at text work i) (names·stored text work (stored work lines rows)))
         → (taken : List Taxon) → names taken ≡ names·stored text before (stored before lines rows) → all·below at (stored before lines rows)
         → place·of (name·of (word·of text before i)) (names taken) ≡ o
     unfolding name·at name·of
-    found-place o h e taken same below = sym (e ∙ rw (word-here h, names-here below, ← same) refl)
+    found-place o h e taken same below = sym (e (a .indexed below) ∙ rw (word-here h, names-here below, ← same) refl)
 
     pub arranging-newline : i < to → newline (word·of text before i) ≡ true → Arranging work (i + 1) k
     unfolding names·of
@@ -121,6 +128,7 @@ module _ (text before : List ℕ) (lines rows from to at head : ℕ) where
           within = λ l. omega arith;
           count = rw (words-last-newline text before from i (a .since) e) (a .count);
           few = rw (words-last-newline text before from i (a .since) e) (omega (arith, a .few));
+          indexed = a .indexed;
           rest = λ taken same below. rw (words-last-newline text before from i (a .since) e) (rw (words-newline text before i to h e) at (a .rest taken same below));
         }
 
@@ -168,10 +176,18 @@ module _ (text before : List ℕ) (lines rows from to at head : ℕ) where
         unfolding need then
         rest-more same below = sym (joined (arranged head taken (names·of (words (range text before (i + 1) to))))) ∙ rw (split taken, row-here) at (a .rest taken same below)
 
+      -- the number that is stored stands behind the rows and in front of the table
+      store-indexed : (j : ℕ) → at + to ≤ t .base → all·below at (stored before lines rows) → Indexed text (set work k j) lines rows t
+      store-indexed j front below =
+          indexed-kept text work (set work k j) lines t rows
+          (λ m l. name-same text work (set work k j) at lines m (take-set-le at work k j (omega (arith, a .count))) (omega (arith, room .1, l)) (stored-below at work lines rows (rw (stored-kept work before at lines rows (a .kept) (room .1)) below) m l (omega (arith, room .1, room .2, a .size))))
+          (λ q m. getD-set-other work k q j 0 (λ e. omega (arith, a .count, a .few, front, h)))
+          (a .indexed below)
+
       pub arranging-turn : (j : ℕ)
           → ((taken : List Taxon) → names taken ≡ names·stored text before (stored before lines rows) → all·below at (stored before lines rows) → place·of (name·of (word·of text before i)) (names taken) ≡ some j)
-          → Arranging (set work k j) (i + 1) (k + 1)
-      arranging-turn j found =
+          → at + to ≤ t .base → Arranging (set work k j) (i + 1) (k + 1)
+      arranging-turn j found front =
           let more : length (names·of (words (range text before from (i + 1)))) ≡ length (names·of (words (range text before from i))) + 1 = rw (names-more, length-append) refl in
           record {
             size = length-set work k j ∙ a .size;
@@ -180,6 +196,7 @@ module _ (text before : List ℕ) (lines rows from to at head : ℕ) where
             within = λ l. omega arith;
             count = omega (arith, a .count);
             few = omega (arith, a .few);
+            indexed = λ below. store-indexed j front below;
             rest = λ taken same below. rest-more taken j (found taken same below) same below;
           }
 
@@ -197,3 +214,33 @@ module _ (text before : List ℕ) (lines rows from to at head : ℕ) where
 
         all : done (ordered taken work at (names·of (words (range text before from i)))) ≡ arranged head taken (names·of (words (range text before from to)))
         all = sym (rw (words-end text before i to l, append-nil) refl) ∙ a .rest taken same below
+
+-- A table was cleared, and the stored rows were put into it, before the names are arranged.
+module _ {text before clear work : List ℕ} {lines rows to at : ℕ} {t : Table} (room : (to ≤ lines) × (lines + rows ≤ at) × (at + to ≤ length before) × (rows ≤ 1048576))
+    (c : Cleared before clear (at + to)) (fits : Table·fits (at + to) (length before) t) (p : Rows·put text clear work lines rows t) where
+  pub filled-size : length work ≡ length before
+  filled-size = p .size ∙ c .size
+
+  filled-kept : take at work ≡ take at before
+  filled-kept =
+      let l : at ≤ t .base = omega (arith, fits .begins) in
+      sym (take-take at (t .base) work l) ∙ ap (take at) (p .front) ∙ take-take at (t .base) clear l ∙ cleared-front before clear at (at + to) c (omega arith)
+
+  pub filled-fits : Table·fits (at + to) (length work) t
+  filled-fits = record { begins = fits .begins; within = omega (arith, fits .within, filled-size); sound = fits .sound }
+
+  pub filled-indexed : all·below at (stored work lines rows) → Indexed text work lines rows t
+  filled-indexed below =
+      let same : stored work lines rows ≡ stored clear lines rows = stored-kept work clear (t .base) lines rows (p .front) (omega (arith, fits .begins, room .1)) in
+      p .indexed (below-further at (t .base) (omega (arith, fits .begins)) (stored clear lines rows) (rw same at below))
+
+  pub arranged-filled : {after : List ℕ} {from head : ℕ} {r : Judged} → Arranged text work after lines rows from to at head r → Arranged text before after lines rows from to at head r
+  arranged-filled {after} {from} k =
+      let starts = stored-kept work before at lines rows filled-kept (room .1) in
+      record {
+        size = k .size ∙ filled-size;
+        kept = k .kept ∙ filled-kept;
+        each = λ taken same below.
+            let names = names-kept text work before at filled-kept (stored before lines rows) (below-each at (stored before lines rows) below) in
+            rw (range-kept text work before at filled-kept from to (omega (arith, room .0, room .1))) at (k .each taken (rw (starts, names) same) (rw starts below));
+      }

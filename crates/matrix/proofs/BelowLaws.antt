@@ -1,4 +1,4 @@
--- Numbers that are all below a bound: one by one, those in front, and those that are stored. Assumes nothing.
+-- Numbers that are all below a bound: below a greater one too, one by one, those in front, and those that are stored. Assumes nothing.
 use Prim.Native.Nat.{ℕ, zero, suc, _+_, _≤_, _<_}
 use Rattle.block.proofs.OutcomeLaws.{All}
 use Rattle.matrix.proofs.RowNames.{stored-count}
@@ -9,6 +9,11 @@ use lib.Seq.{getD-take, getD-drop}
 use mathlib.Core.List.{List, [], _∷_}
 use mathlib.Core.Path.{_≡_, _∙_}
 use native.Mathlib.Omega.{arith}
+
+pub below-further : (m n : ℕ) → m ≤ n → (l : List ℕ) → all·below m l → all·below n l
+unfolding all·below
+below-further m n h [] b = tt
+below-further m n h (s ∷ r) b = (omega (arith, b .0), below-further m n h r (b .1))
 
 module _ (bound : ℕ) where
   pub below-each : (l : List ℕ) → all·below bound l → All (λ s. s < bound) l

@@ -1,13 +1,14 @@
 -- Stored rows by a table of their names: what a search finds, and one row more. Assumes nothing.
 use Prim.Native.Nat.{ℕ, zero, suc, _+_, _≤_, _<_}
+use Rattle.block.proofs.OutcomeLaws.{all-one}
 use Rattle.lexer.proofs.Basics.{by-test, not-both}
 use Rattle.lexer.specs.Base.{pick, alike}
-use Rattle.matrix.proofs.BelowLaws.{stored-below}
+use Rattle.matrix.proofs.BelowLaws.{below-each, each-below, stored-below}
 use Rattle.matrix.proofs.PlaceWalk.{Placing, placing-start, placing-turn, placing-found, placing-end}
 use Rattle.matrix.proofs.StoredRows.{stored-more, stored-kept, word-kept, start-kept}
 use Rattle.matrix.specs.Lines.{name·at, stored, names·stored}
 use Rattle.matrix.specs.OrderHeld.{all·below, place·of}
-use Rattle.matrix.specs.RowIndex.{row·alike, Indexed, Row·room, Row·put}
+use Rattle.matrix.specs.RowIndex.{row·alike, Indexed, Row·room, Row·put, Rows·behind, Rows·put}
 use Rattle.slots.proofs.FillingLaws.{kept-same}
 use Rattle.slots.proofs.HashLaws.{alike-hash}
 use Rattle.slots.proofs.SeekingLaws.{First, Seeking, seeking-start, seeking-turn, seeking-end}
@@ -30,6 +31,11 @@ use native.Mathlib.Omega.{arith}
 pub slot-behind : (t : Table) (h : ℕ) → t .base ≤ slot·of t h
 unfolding slot·of
 slot-behind t h = omega arith
+
+-- In front of a table that was filled all was kept.
+pub filled-front : (before after : List ℕ) (t : Table) (h v : ℕ) → Filled before after (slot·of t h) (t .end) v → take (t .base) after ≡ take (t .base) before
+filled-front before after t h v f =
+    sym (take-take (t .base) (slot·of t h) after (slot-behind t h)) ∙ ap (take (t .base)) (f .front) ∙ take-take (t .base) (slot·of t h) before (slot-behind t h)
 
 module _ (text work : List ℕ) (at rows i : ℕ) where
   -- The rows that have the name of a word are kept from the slot of that name on.
@@ -69,10 +75,56 @@ module _ (text work : List ℕ) (at rows i from end : ℕ) where
         let all : (k : ℕ) → k < rows → row·alike text work at i k ≡ true → Kept work from end (k + 1) = λ k l a. rw (e, ← same) (alike-kept text work at rows i t x k l a) in
         seeking-end work end (row·alike text work at i) rows (s .rest all) h is z
 
--- A row more is stored in front of the table, and put into it.
+-- The name of a stored row is the same where work memory was kept up to an index, in front of which it and its word stand.
+pub name-same : (text work other : List ℕ) (base at k : ℕ) → take base other ≡ take base work → at + k < base → getD work (at + k) 0 < base → name·at text other (getD other (at + k) 0) ≡ name·at text work (getD work (at + k) 0)
+unfolding name·at
+name-same text work other base at k kept here word = rw (start-kept text other work base kept (at + k) here, word-kept text other work base kept (getD work (at + k) 0) word)
+
+module _ (text work other : List ℕ) (at : ℕ) (t : Table) where
+  -- A table has the rows still where their names are the same, and so is all from the table on.
+  pub indexed-kept : (rows : ℕ) → ((k : ℕ) → k < rows → name·at text other (getD other (at + k) 0) ≡ name·at text work (getD work (at + k) 0))
+      → ((q : ℕ) → t .base ≤ q → getD other q 0 ≡ getD work q 0) → Indexed text work at rows t → Indexed text other at rows t
+  indexed-kept rows names same x =
+      record {
+        each = λ k l.
+            let h = hash (name·at text work (getD work (at + k) 0)) in
+            rw (names k l) (kept-same work other (t .base) (slot·of t h) (t .end) (k + 1) (slot-behind t h) same (x .each k l));
+      }
+
+  -- A row more is put into the table.
+  module _ (rows : ℕ) (x : Indexed text work at rows t) (f : Filled work other (slot·of t (hash (name·at text work (getD work (at + rows) 0)))) (t .end) (rows + 1)) where
+    pub indexed-more : ((k : ℕ) → k < rows + 1 → name·at text other (getD other (at + k) 0) ≡ name·at text work (getD work (at + k) 0)) → Indexed text other at (rows + 1) t
+    indexed-more names =
+        record {
+          each = λ k l.
+              rw (names k l)
+              (by-test (eqb k rows)
+              (λ e. let last = eqb-true k rows e in rw last (f .new))
+              (λ e. f .old _ (k + 1) (omega arith) (x .each k (short k l (eqb-false k rows e)))));
+        }
+      where
+        short : (k : ℕ) → k < rows + 1 → (k ≡ rows → ⊥) → k < rows
+        short k l o = by-test (ltb k rows) (λ e. ltb-true k rows e) (λ e. let m = ltb-false k rows e in absurd (o (omega arith)))
+
+-- A row more is stored in front of the table.
 module _ (text before : List ℕ) (at rows s : ℕ) (t : Table) (room : Row·room before at rows s t) where
   abbrev mid : List ℕ
   mid = set before (at + rows) s
+
+  start-last : getD mid (at + rows) 0 ≡ s
+  start-last = getD-set-same before (at + rows) s 0 (room .space)
+
+  mid-below : all·below at (stored before at rows) → s < at → (k : ℕ) → k < rows + 1 → getD mid (at + k) 0 < at
+  mid-below below word k l =
+      let all : all·below at (stored mid at (rows + 1)) = rw (stored-more before at rows s (room .space)) (each-below at _ (all-one (λ s. s < at) (stored before at rows) s (below-each at (stored before at rows) below) word)) in
+      stored-below at mid at (rows + 1) all k l (omega (arith, length-set before (at + rows) s, room .space))
+
+  mid-indexed : all·below at (stored before at rows) → Indexed text before at rows t → Indexed text mid at rows t
+  mid-indexed below x =
+      indexed-kept text before mid at t rows
+      (λ k l. name-same text before mid (at + rows) at k (take-set-le (at + rows) before (at + rows) s (omega arith)) (omega arith) (omega (arith, stored-below at before at rows below k l (omega (arith, room .space)))))
+      (λ q m. getD-set-other before (at + rows) q s 0 (λ e. omega (arith, room .front)))
+      x
 
   -- where its name need not be new it is only stored
   pub row-stored : (new : Bool) → new ≡ false → Row·put text before mid at rows s t new
@@ -84,47 +136,50 @@ module _ (text before : List ℕ) (at rows s : ℕ) (t : Table) (room : Row·roo
         indexed = λ d. not-both e d;
       }
 
+  -- else it is put into the table
   module _ (after : List ℕ) (f : Filled mid after (slot·of t (hash (name·at text mid s))) (t .end) (rows + 1)) where
     front : take (t .base) after ≡ take (t .base) mid
-    front =
-        let from = slot·of t (hash (name·at text mid s)) in
-        let behind : t .base ≤ from = slot-behind t (hash (name·at text mid s)) in
-        sym (take-take (t .base) from after behind) ∙ ap (take (t .base)) (f .front) ∙ take-take (t .base) from mid behind
+    front = filled-front mid after t (hash (name·at text mid s)) (rows + 1) f
 
-    kept : take at after ≡ take at before
-    kept =
-        let l : at ≤ t .base = omega (arith, room .front) in
-        sym (take-take at (t .base) after l) ∙ ap (take at) front ∙ take-take at (t .base) mid l ∙ take-set-le at before (at + rows) s (omega arith)
-
-    front-name : (x : ℕ) → x < t .base → name·at text after x ≡ name·at text mid x
-    unfolding name·at
-    front-name x l = rw (word-kept text after mid (t .base) front x l)
-
-    name-same : (x : ℕ) → x < at → name·at text after x ≡ name·at text before x
-    unfolding name·at
-    name-same x l = rw (word-kept text after before at kept x l)
-
-    put-before : all·below at (stored before at rows) → Indexed text before at rows t → (k : ℕ) → k < rows → Kept after (slot·of t (hash (name·at text after (getD after (at + k) 0)))) (t .end) (k + 1)
-    put-before below x k l =
-        let start : getD after (at + k) 0 ≡ getD before (at + k) 0 = start-kept text after mid (t .base) front (at + k) (omega (arith, room .front)) ∙ getD-set-other before (at + rows) (at + k) s 0 (λ e. omega arith) in
-        let name : name·at text after (getD before (at + k) 0) ≡ name·at text before (getD before (at + k) 0) = name-same (getD before (at + k) 0) (stored-below at before at rows below k l (omega (arith, room .space))) in
-        let h = hash (name·at text before (getD before (at + k) 0)) in
-        rw (start, name) (f .old (slot·of t h) (k + 1) (omega arith) (kept-same before mid (t .base) (slot·of t h) (t .end) (k + 1) (slot-behind t h) (λ q m. getD-set-other before (at + rows) q s 0 (λ e. omega (arith, room .front))) (x .each k l)))
-
-    put-last : s < at → Kept after (slot·of t (hash (name·at text after (getD after (at + rows) 0)))) (t .end) (rows + 1)
-    put-last l =
-        let start : getD after (at + rows) 0 ≡ s = start-kept text after mid (t .base) front (at + rows) (room .front) ∙ getD-set-same before (at + rows) s 0 (room .space) in
-        let name : name·at text after s ≡ name·at text mid s = front-name s (omega (arith, room .front)) in
-        rw (start, name) (f .new)
+    filled : Filled mid after (slot·of t (hash (name·at text mid (getD mid (at + rows) 0)))) (t .end) (rows + 1)
+    filled = rw start-last f
 
     pub row-put : (new : Bool) → Row·put text before after at rows s t new
     row-put new =
+        let l : at ≤ t .base = omega (arith, room .front) in
         record {
           size = f .size ∙ length-set before (at + rows) s;
-          kept = kept;
+          kept = sym (take-take at (t .base) after l) ∙ ap (take at) front ∙ take-take at (t .base) mid l ∙ take-set-le at before (at + rows) s (omega arith);
           more = stored-kept after mid (t .base) at (rows + 1) front (omega (arith, room .front)) ∙ stored-more before at rows s (room .space);
-          indexed = λ _ below word x. record { each = λ k l. by-test (eqb k rows) (λ e. let same = eqb-true k rows e in rw same (put-last word)) (λ e. put-before below x k (short k l (eqb-false k rows e))) };
+          indexed = λ _ below word x. indexed-more text mid after at t rows (mid-indexed below x) filled (λ k m. name-same text mid after (t .base) at k front (omega (arith, room .front)) (omega (arith, mid-below below word k m, room .front)));
+        }
+
+-- Stored rows are put into the table behind them, one after the other.
+module _ (text before : List ℕ) (lines rows : ℕ) (t : Table) where
+  pub record Indexing (work : List ℕ) (k : ℕ) : Type 0 where
+    pub size : length work ≡ length before
+    pub front : take (t .base) work ≡ take (t .base) before
+    pub few : k ≤ rows
+    pub indexed : all·below (t .base) (stored before lines rows) → Indexed text work lines k t
+
+  pub indexing-start : Indexing before 0
+  indexing-start = record { size = refl; front = refl; few = omega arith; indexed = λ _. record { each = λ k l. absurd (omega arith) } }
+
+  module _ (room : Rows·behind before lines rows t) {work : List ℕ} {k : ℕ} (x : Indexing work k) where
+    pub indexing-turn : k < rows → {s : ℕ} → s ≡ getD work (lines + k) 0 → {after : List ℕ} → Filled work after (slot·of t (hash (name·at text work s))) (t .end) (k + 1) → Indexing after (k + 1)
+    indexing-turn h {s} is {after} f =
+        let front = filled-front work after t (hash (name·at text work s)) (k + 1) f in
+        record {
+          size = f .size ∙ x .size;
+          front = front ∙ x .front;
+          few = omega arith;
+          indexed = λ below.
+              indexed-more text work after lines t k (x .indexed below) (rw is at f)
+              (λ j m. name-same text work after (t .base) lines j front (omega (arith, room .front, h)) (start-below below j (omega (arith, h, m))));
         }
       where
-        short : (k : ℕ) → k < rows + 1 → (k ≡ rows → ⊥) → k < rows
-        short k l o = by-test (ltb k rows) (λ e. ltb-true k rows e) (λ e. let m = ltb-false k rows e in absurd (o (omega arith)))
+        start-below : all·below (t .base) (stored before lines rows) → (j : ℕ) → j < rows → getD work (lines + j) 0 < t .base
+        start-below below j l = rw (start-kept text work before (t .base) (x .front) (lines + j) (omega (arith, room .front))) (stored-below (t .base) before lines rows below j l (room .space))
+
+    pub indexing-end : rows ≤ k → Rows·put text before work lines rows t
+    indexing-end h = let all : k ≡ rows = omega (arith, x .few) in record { size = x .size; front = x .front; indexed = rw all at (x .indexed) }

@@ -40,3 +40,17 @@ pub record Row·put (text before after : List ℕ) (at rows s : ℕ) (t : Table)
   pub kept : take at after ≡ take at before
   pub more : stored after at (rows + 1) ≡ stored before at rows ++ (s ∷ [])
   pub indexed : new ≡ true → all·below at (stored before at rows) → s < at → Indexed text before at rows t → Indexed text after at (rows + 1) t
+
+-- A sound table stands behind so many stored rows.
+pub record Rows·behind (work : List ℕ) (lines rows : ℕ) (t : Table) : Type 0 where
+  pub front : lines + rows ≤ t .base
+  pub space : lines + rows ≤ length work
+  pub table : t .end ≤ length work
+  pub sound : Table·sound t
+  pub few : rows ≤ 1048576
+
+-- Stored rows were put into a table behind them, and with it behind their words.
+pub record Rows·put (text before after : List ℕ) (lines rows : ℕ) (t : Table) : Type 0 where
+  pub size : length after ≡ length before
+  pub front : take (t .base) after ≡ take (t .base) before
+  pub indexed : all·below (t .base) (stored before lines rows) → Indexed text after lines rows t

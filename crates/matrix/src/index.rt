@@ -5,7 +5,7 @@ ghost use Rattle.block.specs.Cells.{index·of};
 ghost use Rattle.lexer.specs.Base.{pick};
 ghost use Rattle.matrix.specs.Lines.{name·at, names·stored, stored};
 ghost use Rattle.matrix.specs.OrderHeld.{Index·below, place·of};
-ghost use Rattle.matrix.specs.RowIndex.{Indexed, Row·put, Row·room, row·alike};
+ghost use Rattle.matrix.specs.RowIndex.{Indexed, Row·put, Row·room, Rows·behind, Rows·put, row·alike};
 ghost use Rattle.slots.specs.Filling.{Filled, Table·sound, slot·of};
 ghost use Rattle.slots.specs.Hashes.{hash};
 ghost use Rattle.slots.specs.Seeking.{Nearer};
@@ -105,5 +105,18 @@ pub fn put_row(
     work[end] = s as u32;
     if new {
         insert_row(text, work, rows, s, table);
+    }
+}
+
+// So many stored rows, from an index of work memory on, are put into a table behind them.
+pub fn index_rows(text: &[u8], work: &mut [u32], lines: usize, rows: usize, table: Table)
+    requires { ⌜ Rows·behind (now work) lines rows table ⌝ }
+    ensures { λ r. ⌜ Rows·put (now (text .entry)) (now (work .entry)) (now (work .exit)) lines rows table ⌝ }
+{
+    let mut k = 0;
+    while k < rows {
+        let s = row_name(work, lines, TaxonNumber(k + 1));
+        insert_row(text, work, k, s, table);
+        k += 1;
     }
 }

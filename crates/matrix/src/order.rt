@@ -3,9 +3,13 @@
 ghost use Prim.Native.Nat.{ℕ, _+_, _≤_, _<_};
 ghost use Rattle.block.specs.Cells.{index·of};
 ghost use Rattle.matrix.specs.Lines.{name·at, names·stored, stored};
-ghost use Rattle.matrix.specs.OrderHeld.{Arranged, Index·below, place·of};
+ghost use Rattle.matrix.specs.OrderHeld.{Arranged, Index·below, all·below, place·of};
+ghost use Rattle.matrix.specs.RowIndex.{Indexed};
+ghost use Rattle.slots.specs.Filling.{Table·fits};
 ghost use lib.ListN.{getD, length};
 ghost use mathlib.Core.Path.{_≡_};
+use super::index::index_rows;
+use super::index::row_found;
 use block::Index;
 use block::Judged;
 use block::TaxonNumber;
@@ -13,6 +17,8 @@ use block::alike;
 use block::newline;
 use lexer::Refusal;
 use lexer::start_of;
+use slots::Table;
+use slots::free_table;
 
 // The index of the name of a row by its number, counted from 1 on, where rows are stored from an index of work memory on.
 pub fn row_name(work: &[u32], at: usize, row: TaxonNumber) -> usize
@@ -38,7 +44,44 @@ pub fn row_of(text: &[u8], work: &[u32], at: usize, rows: usize, i: usize) -> In
     Index::None
 }
 
-// For each declared name, the words from an index up to another, its row is stored from `at` on. A name that no row has is refused at MATRIX.
+// For each declared name, the words from an index up to another, its row is stored from `at` on. A name that no row has is refused at MATRIX. A table
+// behind has the rows.
+fn arrange_names(
+    text: &[u8],
+    work: &mut [u32],
+    lines: usize,
+    rows: usize,
+    from: usize,
+    to: usize,
+    at: usize,
+    head: usize,
+    table: Table,
+) -> Judged
+    requires { ⌜ ((to ≤ lines) × (lines + rows ≤ at) × (at + to ≤ length (now work)) × (rows ≤ 1048576)) × Table·fits (at + to) (length (now work)) table × (all·below at (stored (now work) lines rows) → Indexed (now text) (now work) lines rows table) ⌝ }
+    ensures { λ r. ⌜ Arranged (now (text .entry)) (now (work .entry)) (now (work .exit)) lines rows from to at head r ⌝ }
+{
+    let mut i = from;
+    let mut k = at;
+    while i < to {
+        if newline(text, work, i) {
+            i += 1;
+            continue;
+        }
+        match row_found(text, work, lines, rows, i, table) {
+            Index::At(j) => {
+                work[k] = j as u32;
+                k += 1;
+                i += 1;
+            }
+            Index::None => {
+                return Judged::Refused(Refusal::TaxonAbsent, head);
+            }
+        }
+    }
+    Judged::Good
+}
+
+// The same, with the table behind the rows of the declared names.
 pub fn arrange(
     text: &[u8],
     work: &mut [u32],
@@ -52,23 +95,7 @@ pub fn arrange(
     requires { ⌜ (to ≤ lines) × (lines + rows ≤ at) × (at + to ≤ length (now work)) × (rows ≤ 1048576) ⌝ }
     ensures { λ r. ⌜ Arranged (now (text .entry)) (now (work .entry)) (now (work .exit)) lines rows from to at head r ⌝ }
 {
-    let mut i = from;
-    let mut k = at;
-    while i < to {
-        if newline(text, work, i) {
-            i += 1;
-            continue;
-        }
-        match row_of(text, work, lines, rows, i) {
-            Index::At(j) => {
-                work[k] = j as u32;
-                k += 1;
-                i += 1;
-            }
-            Index::None => {
-                return Judged::Refused(Refusal::TaxonAbsent, head);
-            }
-        }
-    }
-    Judged::Good
+    let table = free_table(work, at + to, rows);
+    index_rows(text, work, lines, rows, table);
+    arrange_names(text, work, lines, rows, from, to, at, head, table)
 }
