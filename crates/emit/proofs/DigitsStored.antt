@@ -151,7 +151,7 @@ module _ (before : List ℕ) (n value : ℕ) (buffer : List ℕ) (rest at : ℕ)
       ap (λ i. set (set buffer (at - 1) (digit rest)) i (digit (rest / 10))) (sym place)
       ∙ storing-end before n value (set buffer (at - 1) (digit rest)) (rest / 10) (at - 1) first (omega arith)
 
--- The digits of a number are put once they are stored.
-pub digits-put : (before : List ℕ) (n value : ℕ) (after : List ℕ) (count : ℕ) → after ≡ sets before n (decimal value) → count ≡ length (decimal value)
-    → Puts before n (λ behind. decimal value ++ behind) after (n + count)
-digits-put before n value after count e k = rw (e, k) (puts-run before n (decimal value))
+-- The digits of a number are put once they are stored, and are twenty at most.
+pub digits-put : (before : List ℕ) (n value : ℕ) (after : List ℕ) (count : ℕ) → value < 2 ^ 64 → after ≡ sets before n (decimal value) → count ≡ length (decimal value)
+    → Puts before n (λ behind. decimal value ++ behind) after (n + count) × (n + count ≤ n + 20)
+digits-put before n value after count fits e k = (rw (e, k) (puts-run before n (decimal value)), omega (arith, digits-most 19 value (omega arith)))

@@ -5,6 +5,7 @@ ghost use Prim.Native.Nat.{_+_, _-_, _/_, _<_, _≤_, min};
 ghost use Rattle.emit.specs.Puts.{Puts, last·place};
 ghost use Rattle.record.specs.Decimal.{digit, decimal};
 ghost use lib.ListN.{length, drop, set};
+ghost use mathlib.Core.Bool.{true};
 ghost use mathlib.Core.List.{_∷_, _++_};
 ghost use mathlib.Core.Path.{_≡_};
 
@@ -23,7 +24,7 @@ pub fn put(buffer: &mut [u8], n: usize, b: u8) -> usize
 }
 
 // The place that is so many bytes further on; behind the largest place there is none, and it answers that place.
-fn further(n: usize, count: usize) -> usize
+pub fn further(n: usize, count: usize) -> usize
     ensures { λ r. ⌜ (r ≡ min last·place (n + count)) × (n ≤ r) ⌝ }
 {
     if count <= 18446744073709551615 - n {
@@ -32,10 +33,21 @@ fn further(n: usize, count: usize) -> usize
     18446744073709551615
 }
 
+// Is there room for so many bytes from a place on?
+pub fn has_room(length: usize, n: usize, count: usize) -> bool
+    ensures { λ r. ⌜ (r ≡ true → n + count ≤ length) ⌝ }
+{
+    if length < n {
+        return false;
+    }
+    count <= length - n
+}
+
 // Puts bytes that all have room.
-fn put_whole(buffer: &mut [u8], n: usize, bytes: &[u8]) -> usize
+pub fn put_whole(buffer: &mut [u8], n: usize, bytes: &[u8]) -> usize
     requires { ⌜ n + length (now bytes) ≤ length (now buffer) ⌝ }
     ensures { λ r. ⌜ Puts (now (buffer .entry)) n (λ behind. now (bytes .entry) ++ behind) (now (buffer .exit)) r ⌝ }
+    ensures { λ r. ⌜ r ≡ n + length (now (bytes .entry)) ⌝ }
 {
     let mut i = 0;
     while i < bytes.len() {
@@ -109,7 +121,7 @@ fn count_digits(value: u64) -> usize
 }
 
 // Counts the digits of a number, of which most are small.
-fn digits_of(value: u64) -> usize
+pub fn digits_of(value: u64) -> usize
     ensures { λ r. ⌜ r ≡ length (decimal value) ⌝ }
 {
     if value < 1000 {
@@ -141,9 +153,10 @@ fn store_pair(buffer: &mut [u8], at: usize, value: u64)
 }
 
 // Puts the digits of a number where any number has room, from the last two on.
-fn put_digits(buffer: &mut [u8], n: usize, value: u64) -> usize
+pub fn put_digits(buffer: &mut [u8], n: usize, value: u64) -> usize
     requires { ⌜ n + 20 ≤ length (now buffer) ⌝ }
     ensures { λ r. ⌜ Puts (now (buffer .entry)) n (λ behind. decimal value ++ behind) (now (buffer .exit)) r ⌝ }
+    ensures { λ r. ⌜ r ≤ n + 20 ⌝ }
 {
     let end = n + digits_of(value);
     let mut rest = value;

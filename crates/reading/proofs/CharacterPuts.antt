@@ -1,21 +1,23 @@
 -- The lines of a character, by the numbers that work memory holds for its label and its state labels, and by its type. Assumes nothing.
-use Prim.Native.Nat.{ℕ, suc, _-_, _/_, _%_}
+use Prim.Native.Nat.{ℕ, suc, _+_, _-_, _/_, _%_, _≤_, min}
 use Rattle.assumptions.specs.TypesHeld.{type·of}
 use Rattle.block.specs.declared.model.CharacterOrdering.{CharacterOrdering}
+use Rattle.emit.proofs.PutLaws.{puts-as, puts-past}
+use Rattle.emit.specs.Puts.{Puts, last·place}
 use Rattle.labels.specs.LabelSlots.{label·slot, states·slot}
 use Rattle.lexer.proofs.Basics.{and-left, and-right}
 use Rattle.lexer.specs.Base.{bytes, pick}
 use Rattle.reading.proofs.FewNames.{few·names}
-use Rattle.reading.specs.CharactersHeld.{bare·piece, slot·character, slot·label, slot·states, slot·type, states·piece}
+use Rattle.reading.specs.CharactersHeld.{bare·piece, plain·bytes, slot·character, slot·label, slot·states, slot·type, states·piece}
 use Rattle.reading.specs.Pieces.{name·piece}
 use Rattle.record.specs.Decimal.{decimal, decimal·from, digit}
 use Rattle.record.specs.Spell.{escaped, line, order·word, spell·character, spell·states}
-use borrow.Author.Tests.{eqb-true}
-use lib.Dec.{eqb}
-use lib.ListN.{getD, length}
+use borrow.Author.Tests.{eqb-true, leb-true}
+use lib.Dec.{eqb, leb}
+use lib.ListN.{getD, length, length-append}
 use mathlib.Core.Bool.{Bool, false, true, _&&_}
-use mathlib.Core.List.{List, _∷_, _++_}
-use mathlib.Core.Path.{_≡_, refl}
+use mathlib.Core.List.{List, [], _∷_, _++_, append-assoc}
+use mathlib.Core.Path.{_≡_, refl, _∙_}
 use native.Mathlib.Omega.{arith}
 
 module _ (text front : List ℕ) where
@@ -83,6 +85,45 @@ bare-unordered o behind e = rw e
 pub bare-ordered : (o : CharacterOrdering) (behind : List ℕ) → o ≡ CharacterOrdering.Ordered → bytes "\nlabel=\norder=ORD\nstates=0\n" ++ behind ≡ bare·piece o behind
 unfolding bytes line order·word bare·piece states·piece decimal decimal·from digit spell·states
 bare-ordered o behind e = rw e
+
+-- All bytes of such a character: how many they are, and what stands behind them.
+bare-length : (o : CharacterOrdering) (k : ℕ) → length (bare·piece o []) ≡ k → (number : ℕ) → length (plain·bytes number o) ≡ length (decimal number) + (10 + k)
+unfolding plain·bytes bytes
+bare-length o k e number = omega (arith, e, length-append (decimal number) (bare·piece o []))
+
+pub plain-unordered : (number : ℕ) (o : CharacterOrdering) → o ≡ CharacterOrdering.Unordered → length (plain·bytes number o) ≡ length (decimal number) + 39
+unfolding bytes line order·word bare·piece states·piece decimal decimal·from digit spell·states
+plain-unordered number o e = bare-length o 29 (rw e) number
+
+pub plain-ordered : (number : ℕ) (o : CharacterOrdering) → o ≡ CharacterOrdering.Ordered → length (plain·bytes number o) ≡ length (decimal number) + 37
+unfolding bytes line order·word bare·piece states·piece decimal decimal·from digit spell·states
+plain-ordered number o e = bare-length o 27 (rw e) number
+
+bare-behind : (o : CharacterOrdering) (behind : List ℕ) → bare·piece o [] ++ behind ≡ bare·piece o behind
+unfolding bytes line order·word bare·piece states·piece decimal decimal·from digit spell·states
+bare-behind CharacterOrdering.Ordered behind = refl
+bare-behind CharacterOrdering.Unordered behind = refl
+
+pub plain-behind : (number : ℕ) (o : CharacterOrdering) (behind : List ℕ) → plain·bytes number o ++ behind ≡ bytes "character=" ++ (decimal number ++ bare·piece o behind)
+unfolding plain·bytes
+plain-behind number o behind = simp append-assoc (rw (bare-behind o behind))
+
+-- Such a character, by the test for it: it was put whole, or nothing of it has room.
+module _ (text front : List ℕ) (k l s : ℕ) (o : CharacterOrdering) where
+  plain-lines : (test : Bool) → (eqb l 0 && eqb s 0) && test ≡ true → (behind : List ℕ)
+      → bytes "character=" ++ (decimal k ++ bare·piece o behind) ≡ spell·character k (slot·character text front l s o) behind
+  plain-lines test both = character-plain text front k l s o (and-left (eqb l 0 && eqb s 0) test both)
+
+  pub plain-put : (test : Bool) {a b : List ℕ} {n m : ℕ} → (eqb l 0 && eqb s 0) && test ≡ true
+      → Puts a n (λ behind. bytes "character=" ++ (decimal k ++ bare·piece o behind)) b m → Puts a n (spell·character k (slot·character text front l s o)) b m
+  plain-put test both p = puts-as p (plain-lines test both)
+
+  pub plain-past : (buffer : List ℕ) (n next : ℕ) → (eqb l 0 && eqb s 0) && leb (length buffer) n ≡ true
+      → (next ≡ min last·place (n + length (plain·bytes k o))) × (n ≤ next) → Puts buffer n (spell·character k (slot·character text front l s o)) buffer next
+  plain-past buffer n next both e =
+      let test = leb (length buffer) n in
+      let h = leb-true (length buffer) n (and-right (eqb l 0 && eqb s 0) test both) in
+      puts-as (puts-past buffer n (plain·bytes k o) next h e) (λ behind. plain-behind k o behind ∙ plain-lines test both behind)
 
 -- The type at a place: there is no set, it gives none, or one of two.
 module _ (work : List ℕ) (o : CharacterOrdering) (typed : Bool) (t : ℕ) where

@@ -1,18 +1,18 @@
 // Names and characters of a record, put into a lent buffer.
 
-ghost use Prim.Native.Nat.{_*_, _+_, _≤_};
+ghost use Prim.Native.Nat.{_*_, _+_, _≤_, min};
 ghost use Rattle.assumptions.specs.TypesHeld.{type·word};
 ghost use Rattle.block.specs.Commands.{words};
 ghost use Rattle.block.specs.NamesHeld.{names·of};
 ghost use Rattle.block.specs.declared.model.CharacterOrdering.{CharacterOrdering};
 ghost use Rattle.commands.specs.MatrixHeld.{reading·held};
 ghost use Rattle.commands.specs.WorkMap.{map·fits};
-ghost use Rattle.emit.specs.Puts.{Puts};
+ghost use Rattle.emit.specs.Puts.{Puts, last·place};
 ghost use Rattle.lexer.specs.Base.{bytes, pick};
 ghost use Rattle.lexer.specs.Bytes.{left};
 ghost use Rattle.lexer.specs.Stored.{range};
 ghost use Rattle.lexer.specs.Words.{spaced};
-ghost use Rattle.reading.specs.CharactersHeld.{bare·piece, characters·from, slot·character, slot·label, slot·states, slot·type, states·piece};
+ghost use Rattle.reading.specs.CharactersHeld.{bare·piece, characters·from, plain·bytes, slot·character, slot·label, slot·states, slot·type, states·piece};
 ghost use Rattle.reading.specs.Pieces.{name·piece};
 ghost use Rattle.record.specs.Decimal.{decimal};
 ghost use Rattle.record.specs.Spell.{escape, escaped, line, order·word, spell·character, spell·characters, spell·states};
@@ -27,9 +27,14 @@ use block::CharacterOrdering;
 use block::newline;
 use commands::Held;
 use commands::labels_place;
+use emit::digits_of;
+use emit::further;
+use emit::has_room;
 use emit::put;
 use emit::put_all;
 use emit::put_decimal;
+use emit::put_digits;
+use emit::put_whole;
 use lexer::Cursor;
 use lexer::Item;
 use lexer::next_byte;
@@ -186,22 +191,35 @@ fn put_state_labels(text: &[u8], starts: &[u32], buffer: &mut [u8], n: usize, sl
     put_states(text, starts, buffer, m, i, most)
 }
 
-// Puts what stands behind the number of a character that has neither a label nor state labels.
-fn put_bare(buffer: &mut [u8], n: usize, ordering: CharacterOrdering) -> usize
-    ensures { λ r. ⌜ Puts (now (buffer .entry)) n (bare·piece ordering) (now (buffer .exit)) r ⌝ }
+// The place behind a character that has neither a label nor state labels, of which nothing has room.
+fn behind_plain(n: usize, number: usize, ordering: CharacterOrdering) -> usize
+    ensures { λ r. ⌜ (r ≡ min last·place (n + length (plain·bytes number ordering))) × (n ≤ r) ⌝ }
 {
+    let m = further(n, digits_of(number as u64));
     match ordering {
-        CharacterOrdering::Unordered => put_all(buffer, n, b"\nlabel=\norder=UNORD\nstates=0\n"),
-        CharacterOrdering::Ordered => put_all(buffer, n, b"\nlabel=\norder=ORD\nstates=0\n"),
+        CharacterOrdering::Unordered => further(m, 39),
+        CharacterOrdering::Ordered => further(m, 37),
     }
 }
 
-// Puts a character that has neither a label nor state labels: its number, and its type.
+// Puts what stands behind the number of a character that has neither a label nor state labels, where it has room.
+fn put_bare(buffer: &mut [u8], n: usize, ordering: CharacterOrdering) -> usize
+    requires { ⌜ n + 29 ≤ length (now buffer) ⌝ }
+    ensures { λ r. ⌜ Puts (now (buffer .entry)) n (bare·piece ordering) (now (buffer .exit)) r ⌝ }
+{
+    match ordering {
+        CharacterOrdering::Unordered => put_whole(buffer, n, b"\nlabel=\norder=UNORD\nstates=0\n"),
+        CharacterOrdering::Ordered => put_whole(buffer, n, b"\nlabel=\norder=ORD\nstates=0\n"),
+    }
+}
+
+// Puts a character that has neither a label nor state labels, its number and its type, where it has room.
 fn put_plain(buffer: &mut [u8], n: usize, number: usize, ordering: CharacterOrdering) -> usize
+    requires { ⌜ n + 64 ≤ length (now buffer) ⌝ }
     ensures { λ r. ⌜ Puts (now (buffer .entry)) n (λ behind. bytes "character=" ++ (decimal number ++ bare·piece ordering behind)) (now (buffer .exit)) r ⌝ }
 {
-    let m = put_all(buffer, n, b"character=");
-    let m = put_decimal(buffer, m, number as u64);
+    let m = put_whole(buffer, n, b"character=");
+    let m = put_digits(buffer, m, number as u64);
     put_bare(buffer, m, ordering)
 }
 
@@ -218,7 +236,11 @@ fn put_character(
 ) -> usize
     ensures { λ r. ⌜ Puts (now (buffer .entry)) n (spell·character number (slot·character (now (text .entry)) (now (starts .entry)) label states ordering)) (now (buffer .exit)) r ⌝ }
 {
-    if (label == 0) & (states == 0) {
+    let plain = (label == 0) & (states == 0);
+    if plain & (buffer.len() <= n) {
+        return behind_plain(n, number, ordering);
+    }
+    if plain & has_room(buffer.len(), n, 64) {
         return put_plain(buffer, n, number, ordering);
     }
     let m = put_number(buffer, n, b"character=", number);

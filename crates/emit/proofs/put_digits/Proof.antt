@@ -46,10 +46,10 @@ slice-write-buffer c =
 returns : tie.Need-returns Inv-loop μ-loop
 returns c =
     let l = c .before .before .before in
-    rw (c .last-digit .ensures) (digits-put _ _ _ _ _ (storing-end _ _ _ _ _ _ (l .loop .inv) (c .before .if1 .taken)) (l .before .digits-of .ensures))
+    rw (c .last-digit .ensures) (digits-put _ _ _ _ _ (omega arith) (storing-end _ _ _ _ _ _ (l .loop .inv) (c .before .if1 .taken)) (l .before .digits-of .ensures))
 
 same-length : tie.Need-same-length Inv-loop μ-loop
-same-length c = returns c .kept
+same-length c = returns c .0 .kept
 
 store-pair-requires-2 : tie.Need-store-pair-requires-2 Inv-loop μ-loop
 store-pair-requires-2 c κs =
@@ -59,10 +59,10 @@ store-pair-requires-2 c κs =
 returns-2 : tie.Need-returns-2 Inv-loop μ-loop
 returns-2 c =
     let l = c .before .before .before .before .before .before in
-    digits-put _ _ _ _ _ (c .before .before .store-pair2 .ensures ∙ storing-last _ _ _ _ _ _ (l .loop .inv) (c .before .before .before .before .if1 .left) (omega arith)) (l .before .digits-of .ensures)
+    digits-put _ _ _ _ _ (omega arith) (c .before .before .store-pair2 .ensures ∙ storing-last _ _ _ _ _ _ (l .loop .inv) (c .before .before .before .before .if1 .left) (omega arith)) (l .before .digits-of .ensures)
 
 same-length-2 : tie.Need-same-length-2 Inv-loop μ-loop
-same-length-2 c = returns-2 c .kept
+same-length-2 c = returns-2 c .0 .kept
 
 pub put-digits-spec : {M : Type 1} → statement M
 put-digits-spec =

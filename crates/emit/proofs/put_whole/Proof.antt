@@ -44,7 +44,7 @@ same-length : tie.Need-same-length Inv-loop μ-loop
 same-length c = search needs
 
 returns : tie.Need-returns Inv-loop μ-loop
-returns c = puts-all _ _ (c .before .loop .inv .1) (c .loop-test .left)
+returns c = (puts-all _ _ (c .before .loop .inv .1) (c .loop-test .left), omega arith)
 
 pub put-whole-spec : {M : Type 1} → statement M
 put-whole-spec =

@@ -1,20 +1,33 @@
--- The function `put_character` meets its contract: its lines, one behind another, of which one that has neither a label nor state labels has most in one piece. Assumes nothing.
+-- The function `put_character` meets its contract: with neither a label nor state labels nothing has room, or all has; else its lines, one behind another. Assumes nothing.
 use Rattle.emit.proofs.PutLaws.{puts-as, puts-then}
+use Rattle.lexer.proofs.Basics.{and-right}
 use Rattle.lexer.specs.Base.{bytes}
-use Rattle.reading.proofs.CharacterPuts.{character-lines, character-plain}
+use Rattle.reading.proofs.CharacterPuts.{character-lines, plain-past, plain-put}
 use Rattle.reading.proofs.characters.put_character.Statement.{statement}
 use Rattle.reading.proofs.characters.put_character.Tie as tie
 use borrow.Author.Needs.{needs}
+use lib.Dec.{eqb}
+use mathlib.Core.Bool.{_&&_}
+
+behind-plain-requires : tie.Need-behind-plain-requires
+behind-plain-requires c κs = search needs
+
+returns : tie.Need-returns
+returns c = plain-past _ _ _ _ _ _ _ _ _ (c .before .if1 .taken) (c .behind-plain .ensures)
+
+has-room-requires : tie.Need-has-room-requires
+has-room-requires c κs = search needs
 
 put-plain-requires : tie.Need-put-plain-requires
-put-plain-requires c κs = search needs
+put-plain-requires c κs =
+    let a = c .before .before .before .before .before .before .before .args in
+    c .before .before .has-room .ensures (and-right (eqb (a .label) 0 && eqb (a .states) 0) (c .before .before .has-room .result) (c .before .if2 .taken))
 
 same-length : tie.Need-same-length
 same-length c = search needs
 
-returns : tie.Need-returns
-returns c =
-    puts-as (c .before .before .put-plain .ensures) (λ behind. character-plain _ _ _ _ _ _ (c .before .before .before .before .if1 .taken) behind)
+returns-2 : tie.Need-returns-2
+returns-2 c = plain-put _ _ _ _ _ _ _ (c .before .before .before .before .if2 .taken) (c .before .before .put-plain .ensures)
 
 slice-aggregate-put-number : tie.Need-slice-aggregate-put-number
 slice-aggregate-put-number c = search needs
@@ -34,9 +47,9 @@ put-state-labels-requires c κs = search needs
 same-length-2 : tie.Need-same-length-2
 same-length-2 c = search needs
 
-returns-2 : tie.Need-returns-2
+returns-3 : tie.Need-returns-3
 unfolding bytes
-returns-2 c =
+returns-3 c =
     let order = c .before .before .before .before .before .before in
     let label = order .before .before .before .before in
     let number = label .before .before .before .before in
@@ -47,13 +60,16 @@ pub put-character-spec : {M : Type 1} → statement M
 put-character-spec =
     tie.close
     (tie.spec
+    behind-plain-requires
+    returns
+    has-room-requires
     put-plain-requires
     same-length
-    returns
+    returns-2
     slice-aggregate-put-number
     put-number-requires
     put-label-requires
     put-order-requires
     put-state-labels-requires
     same-length-2
-    returns-2)
+    returns-3)

@@ -5,14 +5,14 @@ use Rattle.reading.proofs.characters.put_plain.Statement.{statement}
 use Rattle.reading.proofs.characters.put_plain.Tie as tie
 use borrow.Author.Needs.{needs}
 
-slice-aggregate-put-all : tie.Need-slice-aggregate-put-all
-slice-aggregate-put-all c = search needs
+slice-aggregate-put-whole : tie.Need-slice-aggregate-put-whole
+slice-aggregate-put-whole c = search needs
 
-put-all-requires : tie.Need-put-all-requires
-put-all-requires c κs = search needs
+put-whole-requires : tie.Need-put-whole-requires
+put-whole-requires c κs = search needs
 
-put-decimal-requires : tie.Need-put-decimal-requires
-put-decimal-requires c κs = search needs
+put-digits-requires : tie.Need-put-digits-requires
+put-digits-requires c κs = search needs
 
 put-bare-requires : tie.Need-put-bare-requires
 put-bare-requires c κs = search needs
@@ -24,15 +24,15 @@ returns : tie.Need-returns
 unfolding bytes
 returns c =
     let number = c .before .before .before .before .before .before in
-    puts-then (number .before .before .before .before .put-all .ensures) (puts-then (number .put-decimal .ensures) (c .before .before .put-bare .ensures))
+    puts-then (number .before .before .before .before .put-whole .ensures .0) (puts-then (number .put-digits .ensures .0) (c .before .before .put-bare .ensures))
 
 pub put-plain-spec : {M : Type 1} → statement M
 put-plain-spec =
     tie.close
     (tie.spec
-    slice-aggregate-put-all
-    put-all-requires
-    put-decimal-requires
+    slice-aggregate-put-whole
+    put-whole-requires
+    put-digits-requires
     put-bare-requires
     same-length
     returns)
