@@ -1,5 +1,4 @@
-//! The fixed texts of crates/tokens: the traps of lexing. The program `traps` writes them to the
-//! crate's data/texts, and what the oracle says of them to its stdout.
+//! The traps of lexing.
 
 /// The texts, by what they try.
 pub const TRAPS: &[(&str, &[&[u8]])] = &[
@@ -144,19 +143,3 @@ pub const TRAPS: &[(&str, &[&[u8]])] = &[
     ),
     ("no byte, and as many as may be", &[b"", &[b'a'; 4_096]]),
 ];
-
-/// The file of the texts, in frames, and what the program is to write of them.
-pub fn files() -> (Vec<u8>, Vec<u8>) {
-    let texts = || TRAPS.iter().flat_map(|(_, texts)| *texts);
-    let mut file = Vec::new();
-    for text in texts() {
-        oracle::frames::write_frame(&mut file, text).expect("a frame");
-    }
-    (file, printed(texts().copied()))
-}
-
-/// What the program crates/tokens is to write of some texts.
-pub fn printed<'a>(texts: impl Iterator<Item = &'a [u8]>) -> Vec<u8> {
-    let answers = texts.map(|text| oracle::answer::tokens(text).into_bytes());
-    answers.collect::<Vec<_>>().join(&b"--\n"[..])
-}
