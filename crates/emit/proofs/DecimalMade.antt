@@ -14,12 +14,12 @@ use native.Mathlib.Numerals.{add-one}
 use native.Mathlib.Omega.{arith}
 
 -- A number of one digit; and one of more, whose last digit stands behind the others.
-from-small : (k n : ℕ) (behind : List ℕ) → n < 10 → decimal·from k n behind ≡ digit n ∷ behind
+pub from-small : (k n : ℕ) (behind : List ℕ) → n < 10 → decimal·from k n behind ≡ digit n ∷ behind
 unfolding decimal·from pick
 from-small zero n behind h = refl
 from-small (suc k) n behind h = rw (lt-ltb n 10 h)
 
-from-large : (k n : ℕ) (behind : List ℕ) → 10 ≤ n → decimal·from (suc k) n behind ≡ decimal·from k (n / 10) (digit n ∷ behind)
+pub from-large : (k n : ℕ) (behind : List ℕ) → 10 ≤ n → decimal·from (suc k) n behind ≡ decimal·from k (n / 10) (digit n ∷ behind)
 unfolding decimal·from pick
 from-large k n behind h = rw (le-ltb n 10 h)
 
@@ -32,7 +32,7 @@ from-bound (suc k) (suc m) n behind h l =
     (λ t. let s = ltb-true n 10 t in from-small (suc k) n behind s ∙ sym (from-small (suc m) n behind s))
     (λ f. let g = ltb-false n 10 f in from-large k n behind g ∙ from-bound k m (n / 10) (digit n ∷ behind) (omega arith) (omega arith) ∙ sym (from-large m n behind g))
 
-from-next : (n : ℕ) (behind : List ℕ) → 10 ≤ n → decimal·from n n behind ≡ decimal·from (n / 10) (n / 10) (digit n ∷ behind)
+pub from-next : (n : ℕ) (behind : List ℕ) → 10 ≤ n → decimal·from n n behind ≡ decimal·from (n / 10) (n / 10) (digit n ∷ behind)
 from-next zero behind h = absurd (omega arith)
 from-next (suc k) behind h = from-large k (suc k) behind h ∙ from-bound k (suc k / 10) (suc k / 10) (digit (suc k) ∷ behind) (omega arith) (omega arith)
 

@@ -1,3 +1,4 @@
 -- What the proofs of this crate rest on, and what other crates may cite.
 pub mod DecimalMade
+pub mod DigitsStored
 pub mod PutLaws

@@ -5,11 +5,11 @@ use Rattle.emit.specs.Puts.{Puts, last·place, puts}
 use Rattle.lexer.proofs.Basics.{by-test}
 use borrow.Author.Tests.{le-leb, leb-false, leb-true, lt-leb}
 use lib.Dec.{leb}
-use lib.ListN.{length, getD, take, drop, set, length-drop, length-set}
+use lib.ListN.{length, getD, take, drop, set, length-append, length-drop, length-set}
 use lib.Seq.{append-snoc, set-out, sets, sets-eq, take-all, take-suc}
 use mathlib.Core.List.{List, [], _∷_, _++_}
 use mathlib.Core.Path.{_≡_, refl, sym, ap, _∙_}
-use native.Mathlib.Nat.{zero-add}
+use native.Mathlib.Nat.{add-zero, zero-add}
 use native.Mathlib.Numerals.{add-one}
 use native.Mathlib.Omega.{arith}
 
@@ -40,6 +40,17 @@ pub puts-out : (buffer : List ℕ) (at : ℕ) (l : List ℕ) → length buffer �
 unfolding puts
 puts-out buffer at [] h = refl
 puts-out buffer at (b ∷ l) h = rw (set-out buffer at b h) (puts-out buffer (suc at) l (omega arith))
+
+-- Bytes from behind the buffer's end on: nothing is written, and the place goes on by how many they are.
+pub puts-past : (buffer : List ℕ) (n : ℕ) (l : List ℕ) (next : ℕ) → length buffer ≤ n → (next ≡ min last·place (n + length l)) × (n ≤ next)
+    → Puts buffer n (λ behind. l ++ behind) buffer next
+unfolding last·place
+puts-past buffer n l next h e =
+    record {
+      written = λ behind. puts-out buffer n (l ++ behind) h ∙ sym (puts-out buffer next behind (omega arith));
+      reached = λ behind. omega (arith, length-append l behind, e .0);
+      kept = refl;
+    }
 
 -- A byte: where there is room for it, where there is none, and behind the last place.
 module _ (buffer : List ℕ) (n b : ℕ) where
@@ -72,10 +83,24 @@ module _ (l : List ℕ) (i : ℕ) {a b : List ℕ} {n m : ℕ} (f : Puts a n (λ
   pub puts-all : length l ≤ i → Puts a n (λ behind. l ++ behind) b m
   puts-all h = rw (take-all i l h) at f
 
+-- So many bytes of a list are stored from a place on, then one more.
+pub puts-stored : (l : List ℕ) (i : ℕ) {a b : List ℕ} {n : ℕ} → Puts a n (λ behind. take i l ++ behind) b (n + i) → i < length l
+    → Puts a n (λ behind. take (i + 1) l ++ behind) (set b (n + i) (getD l i 0)) (n + (i + 1))
+puts-stored l i {b = b} {n} f h =
+    let next : n + i + 1 ≡ n + (i + 1) = omega arith in
+    rw next at (puts-more l i f h (byte-written b (n + i) (getD l i 0)))
+
 -- The part of a list from a place on is put.
 pub puts-from : (l : List ℕ) (i size : ℕ) {d a b : List ℕ} {n m : ℕ} → length l ≡ size → drop i l ≡ d → Puts a n (λ behind. take (size - i) (drop i l) ++ behind) b m
     → Puts a n (λ behind. d ++ behind) b m
 puts-from l i size s e f = puts-as f (λ behind. ap (λ t. t ++ behind) (take-all (size - i) (drop i l) (omega (arith, length-drop i l)) ∙ e))
+
+-- A list of bytes is put by a run of stores.
+pub puts-run : (buffer : List ℕ) (n : ℕ) (l : List ℕ) → Puts buffer n (λ behind. l ++ behind) (sets buffer n l) (n + length l)
+puts-run buffer n [] = rw add-zero puts-none
+puts-run buffer n (b ∷ l) =
+    let next : n + 1 + length l ≡ n + suc (length l) = omega arith in
+    rw (next, add-one n) at (puts-then (byte-written buffer n b) (puts-run (set buffer n b) (n + 1) l))
 
 -- A piece that has room stands there whole.
 puts-sets : (buffer : List ℕ) (at : ℕ) (l : List ℕ) → puts buffer at l ≡ sets buffer at l

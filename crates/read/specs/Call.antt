@@ -13,7 +13,7 @@ use lib.ListN.{length, take}
 use mathlib.Core.List.{List}
 use mathlib.Core.Path.{_≡_}
 
--- Work memory, of this length before, holds where the tokens begin of a text that lexing answers with their count.
+-- Lexing a text answers so many tokens, and work memory holds where they begin.
 pub record Lexed·so (text work : List ℕ) (count : ℕ) : Type 0 where
   pub told : Lexed.Tokens count ≡ lexed text (length work)
   pub held : Stored text work count

@@ -3,14 +3,17 @@ use Prim.Native.Nat.{ℕ, suc, _-_, _/_, _%_}
 use Rattle.assumptions.specs.TypesHeld.{type·of}
 use Rattle.block.specs.declared.model.CharacterOrdering.{CharacterOrdering}
 use Rattle.labels.specs.LabelSlots.{label·slot, states·slot}
+use Rattle.lexer.proofs.Basics.{and-left, and-right}
 use Rattle.lexer.specs.Base.{bytes, pick}
 use Rattle.reading.proofs.FewNames.{few·names}
-use Rattle.reading.specs.CharactersHeld.{slot·character, slot·label, slot·states, slot·type, states·piece}
+use Rattle.reading.specs.CharactersHeld.{bare·piece, slot·character, slot·label, slot·states, slot·type, states·piece}
 use Rattle.reading.specs.Pieces.{name·piece}
 use Rattle.record.specs.Decimal.{decimal, decimal·from, digit}
 use Rattle.record.specs.Spell.{escaped, line, order·word, spell·character, spell·states}
+use borrow.Author.Tests.{eqb-true}
+use lib.Dec.{eqb}
 use lib.ListN.{getD, length}
-use mathlib.Core.Bool.{Bool, false, true}
+use mathlib.Core.Bool.{Bool, false, true, _&&_}
 use mathlib.Core.List.{List, _∷_, _++_}
 use mathlib.Core.Path.{_≡_, refl}
 use native.Mathlib.Omega.{arith}
@@ -54,6 +57,15 @@ module _ (text front : List ℕ) where
   unfolding line states·piece spell·character slot·character
   character-lines k l s o behind = refl
 
+  -- The same of one that has neither a label nor state labels.
+  pub character-plain : (k l s : ℕ) (o : CharacterOrdering) → eqb l 0 && eqb s 0 ≡ true → (behind : List ℕ)
+      → bytes "character=" ++ (decimal k ++ bare·piece o behind) ≡ spell·character k (slot·character text front l s o) behind
+  unfolding bare·piece slot·label label·slot slot·states states·slot escaped
+  character-plain k l s o none behind =
+      let no-label = eqb-true l 0 (and-left (eqb l 0) (eqb s 0) none) in
+      let no-states = eqb-true s 0 (and-right (eqb l 0) (eqb s 0) none) in
+      rw (no-label, no-states) (character-lines k 0 0 o behind)
+
 -- The line of a type.
 pub order-unordered : (o : CharacterOrdering) (behind : List ℕ) → o ≡ CharacterOrdering.Unordered → bytes "order=UNORD\n" ++ behind ≡ line "order=" (order·word o) behind
 unfolding bytes line order·word
@@ -62,6 +74,15 @@ order-unordered o behind e = rw e
 pub order-ordered : (o : CharacterOrdering) (behind : List ℕ) → o ≡ CharacterOrdering.Ordered → bytes "order=ORD\n" ++ behind ≡ line "order=" (order·word o) behind
 unfolding bytes line order·word
 order-ordered o behind e = rw e
+
+-- The constant pieces behind the number of a character that has neither a label nor state labels.
+pub bare-unordered : (o : CharacterOrdering) (behind : List ℕ) → o ≡ CharacterOrdering.Unordered → bytes "\nlabel=\norder=UNORD\nstates=0\n" ++ behind ≡ bare·piece o behind
+unfolding bytes line order·word bare·piece states·piece decimal decimal·from digit spell·states
+bare-unordered o behind e = rw e
+
+pub bare-ordered : (o : CharacterOrdering) (behind : List ℕ) → o ≡ CharacterOrdering.Ordered → bytes "\nlabel=\norder=ORD\nstates=0\n" ++ behind ≡ bare·piece o behind
+unfolding bytes line order·word bare·piece states·piece decimal decimal·from digit spell·states
+bare-ordered o behind e = rw e
 
 -- The type at a place: there is no set, it gives none, or one of two.
 module _ (work : List ℕ) (o : CharacterOrdering) (typed : Bool) (t : ℕ) where

@@ -7,10 +7,10 @@ use Rattle.block.specs.declared.model.CharacterOrdering.{CharacterOrdering}
 use Rattle.labels.specs.LabelSlots.{label·slot, labels·of, states·slot}
 use Rattle.lexer.specs.Base.{pick}
 use Rattle.record.specs.Decimal.{decimal}
-use Rattle.record.specs.Spell.{line, spell·states}
+use Rattle.record.specs.Spell.{line, order·word, spell·states}
 use lib.ListN.{getD, length}
 use mathlib.Core.Bool.{Bool}
-use mathlib.Core.List.{List, []}
+use mathlib.Core.List.{List, [], _∷_}
 use mathlib.Core.Option.{none, some, Option·getD}
 
 -- The label and the state labels that two numbers stand for, empty if none were given.
@@ -23,6 +23,10 @@ slot·states text front slot = Option·getD (states·slot text front slot) []
 -- State labels: their count, and a line for each.
 unfoldable pub states·piece : List (List ℕ) → List ℕ → List ℕ
 states·piece states behind = line "states=" (decimal (length states)) (spell·states states behind)
+
+-- What stands behind the number of a character that has neither a label nor state labels.
+unfoldable pub bare·piece : CharacterOrdering → List ℕ → List ℕ
+bare·piece o behind = 10 ∷ line "label=" [] (line "order=" (order·word o) (states·piece [] behind))
 
 -- The type at a place of work memory, if a set was read and gave one; else this one.
 unfoldable pub slot·type : List ℕ → CharacterOrdering → Bool → ℕ → CharacterOrdering

@@ -8,11 +8,11 @@ ghost use Rattle.block.specs.declared.model.CharacterOrdering.{CharacterOrderin
 ghost use Rattle.commands.specs.MatrixHeld.{reading·held};
 ghost use Rattle.commands.specs.WorkMap.{map·fits};
 ghost use Rattle.emit.specs.Puts.{Puts};
-ghost use Rattle.lexer.specs.Base.{pick};
+ghost use Rattle.lexer.specs.Base.{bytes, pick};
 ghost use Rattle.lexer.specs.Bytes.{left};
 ghost use Rattle.lexer.specs.Stored.{range};
 ghost use Rattle.lexer.specs.Words.{spaced};
-ghost use Rattle.reading.specs.CharactersHeld.{characters·from, slot·character, slot·label, slot·states, slot·type, states·piece};
+ghost use Rattle.reading.specs.CharactersHeld.{bare·piece, characters·from, slot·character, slot·label, slot·states, slot·type, states·piece};
 ghost use Rattle.reading.specs.Pieces.{name·piece};
 ghost use Rattle.record.specs.Decimal.{decimal};
 ghost use Rattle.record.specs.Spell.{escape, escaped, line, order·word, spell·character, spell·characters, spell·states};
@@ -186,6 +186,25 @@ fn put_state_labels(text: &[u8], starts: &[u32], buffer: &mut [u8], n: usize, sl
     put_states(text, starts, buffer, m, i, most)
 }
 
+// Puts what stands behind the number of a character that has neither a label nor state labels.
+fn put_bare(buffer: &mut [u8], n: usize, ordering: CharacterOrdering) -> usize
+    ensures { λ r. ⌜ Puts (now (buffer .entry)) n (bare·piece ordering) (now (buffer .exit)) r ⌝ }
+{
+    match ordering {
+        CharacterOrdering::Unordered => put_all(buffer, n, b"\nlabel=\norder=UNORD\nstates=0\n"),
+        CharacterOrdering::Ordered => put_all(buffer, n, b"\nlabel=\norder=ORD\nstates=0\n"),
+    }
+}
+
+// Puts a character that has neither a label nor state labels: its number, and its type.
+fn put_plain(buffer: &mut [u8], n: usize, number: usize, ordering: CharacterOrdering) -> usize
+    ensures { λ r. ⌜ Puts (now (buffer .entry)) n (λ behind. bytes "character=" ++ (decimal number ++ bare·piece ordering behind)) (now (buffer .exit)) r ⌝ }
+{
+    let m = put_all(buffer, n, b"character=");
+    let m = put_decimal(buffer, m, number as u64);
+    put_bare(buffer, m, ordering)
+}
+
 // Puts a character: its number, its label and its state labels by the numbers that work memory holds, and its type.
 fn put_character(
     text: &[u8],
@@ -199,6 +218,9 @@ fn put_character(
 ) -> usize
     ensures { λ r. ⌜ Puts (now (buffer .entry)) n (spell·character number (slot·character (now (text .entry)) (now (starts .entry)) label states ordering)) (now (buffer .exit)) r ⌝ }
 {
+    if (label == 0) & (states == 0) {
+        return put_plain(buffer, n, number, ordering);
+    }
     let m = put_number(buffer, n, b"character=", number);
     let m = put_label(text, starts, buffer, m, label);
     let m = put_order(buffer, m, ordering);

@@ -1,57 +1,46 @@
--- The function `put_all` meets its contract. A turn puts one byte more of the list. The measure is how many are left. Assumes nothing.
-use Prim.Native.Nat.{_-_, _≤_}
-use Rattle.emit.proofs.PutLaws.{puts-all, puts-more, puts-none}
+-- The function `put_all` meets its contract: no byte has room, all have, or some. Assumes nothing.
+use Rattle.emit.proofs.PutLaws.{puts-past}
 use Rattle.emit.proofs.put_all.Statement.{statement}
 use Rattle.emit.proofs.put_all.Tie as tie
-use Rattle.emit.specs.Puts.{Puts}
 use borrow.Author.Needs.{needs}
-use lib.ListN.{length, take}
-use mathlib.Core.List.{_++_}
-use native.Mathlib.Omega.{arith}
 
-abbrev Inv-loop : tie.InvT-loop
-Inv-loop buffer₀ n bytes at₀ i₀ buffer at i = (i ≤ length bytes) × Puts buffer₀ n (λ behind. take i bytes ++ behind) buffer at
+further-requires : tie.Need-further-requires
+further-requires c κs = search needs
 
-abbrev μ-loop : tie.MeasureT-loop
-μ-loop buffer₀ n bytes at₀ i₀ buffer at i = length bytes - i
+returns : tie.Need-returns
+returns c = puts-past _ _ (c .before .before .before .before .args .bytes .now) _ (c .before .if1 .taken) (c .further .ensures)
 
-loop-holds : tie.Need-loop-holds Inv-loop μ-loop
-loop-holds c = (omega arith, puts-none)
+sub-if2 : tie.Need-sub-if2
+sub-if2 c = search needs
 
-shared-slice-read-put : tie.Need-shared-slice-read-put Inv-loop μ-loop
-shared-slice-read-put c = search needs
+put-whole-requires : tie.Need-put-whole-requires
+put-whole-requires c κs = search needs
 
-put-requires : tie.Need-put-requires Inv-loop μ-loop
-put-requires c κs = search needs
-
-add-i : tie.Need-add-i Inv-loop μ-loop
-add-i c = search needs
-
-loop-less : tie.Need-loop-less Inv-loop μ-loop
-loop-less c = search needs
-
-loop-again : tie.Need-loop-again Inv-loop μ-loop
-loop-again c =
-    let l = c .before .before .before .before .before .before in
-    (omega arith, puts-more _ _ (l .loop .inv .1) (c .before .before .before .before .before .loop-test .taken) (c .before .before .put .ensures))
-
-same-length : tie.Need-same-length Inv-loop μ-loop
+same-length : tie.Need-same-length
 same-length c = search needs
 
-returns : tie.Need-returns Inv-loop μ-loop
-returns c = puts-all _ _ (c .before .loop .inv .1) (c .loop-test .left)
+returns-2 : tie.Need-returns-2
+returns-2 c = search needs
+
+put-some-requires : tie.Need-put-some-requires
+put-some-requires c κs = search needs
+
+same-length-2 : tie.Need-same-length-2
+same-length-2 c = search needs
+
+returns-3 : tie.Need-returns-3
+returns-3 c = search needs
 
 pub put-all-spec : {M : Type 1} → statement M
 put-all-spec =
     tie.close
     (tie.spec
-    Inv-loop
-    μ-loop
-    loop-holds
-    shared-slice-read-put
-    put-requires
-    add-i
-    loop-less
-    loop-again
+    further-requires
+    returns
+    sub-if2
+    put-whole-requires
     same-length
-    returns)
+    returns-2
+    put-some-requires
+    same-length-2
+    returns-3)

@@ -1,0 +1,3 @@
+-- What the proofs of this crate rest on.
+mod PrintLaws
+mod RefusalLines
