@@ -125,7 +125,7 @@ fn names_beyond_ascii() {
 #[test]
 #[cfg_attr(not(program_nexus), ignore = "no program; `rt check nexus` makes it")]
 fn pages_with_labels_and_types() {
-    let text = b"\xef\xbb\xbf#NEXUS
+    let text = "\u{feff}#NEXUS
 [A comment [in a comment].]
 BEGIN TAXA;
   DIMENSIONS NTAX=3;
@@ -146,12 +146,23 @@ BEGIN CHARACTERS;
   ;
 END;
 BEGIN ASSUMPTIONS;
-  OPTIONS DEFTYPE=ORD;
-  TYPESET * mine = UNORD: 1-3, ORD: 7;
+  OPTIONS DEFTYPE=UNORD;
+  TYPESET * mine = UNORD: 1-3 7;
 END;
 ";
-    let record = checked(text);
+    let record = checked(text.as_bytes());
     assert!(record.starts_with(b"datatype=DNA\ntaxa=3\ncharacters=7\n"));
+    // DNA is never ordered; other data may be.
+    let ordered = text.replace("=UNORD;", "=ORD;");
+    assert_eq!(
+        checked(ordered.as_bytes()),
+        b"refused=29\nline=1\ncolumn=2\n"
+    );
+    let standard = ordered.replace("DATATYPE=DNA", "SYMBOLS=\"ACGTRYN\"");
+    let record = checked(standard.as_bytes());
+    assert!(record.starts_with(b"datatype=STANDARD\ntaxa=3\ncharacters=7\n"));
+    let count = |line: &str| String::from_utf8_lossy(&record).matches(line).count();
+    assert_eq!((count("order=ORD\n"), count("order=UNORD\n")), (3, 4));
 }
 
 #[test]
