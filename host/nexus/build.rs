@@ -1,6 +1,7 @@
 //! Links the archive of the proved calls, target/staticlib/libnexus_c.a of the repository, where
 //! it is there: the condition `archive` then holds, and crates above get `DEP_NEXUS_C_ARCHIVE`.
-//! Where it is not, everything is built all the same, and a warning says how to make it.
+//! Where it is not, everything is built all the same, and a warning says how to make it; with
+//! NEXUS_BUILT=required that is an error, so that a gate ignores no test.
 
 use std::path::Path;
 
@@ -9,15 +10,18 @@ fn main() {
     let archive = folder.join("libnexus_c.a");
     println!("cargo::rustc-check-cfg=cfg(archive)");
     println!("cargo::rerun-if-changed={}", archive.display());
+    println!("cargo::rerun-if-env-changed=NEXUS_BUILT");
     if archive.is_file() {
         println!("cargo::rustc-cfg=archive");
         println!("cargo::rustc-link-search=native={}", folder.display());
         println!("cargo::rustc-link-lib=static=nexus_c");
         println!("cargo::metadata=ARCHIVE=1");
-    } else {
-        println!(
-            "cargo::warning=target/staticlib/libnexus_c.a is not there, so no call can be made and \
-            its tests are ignored; `rt staticlib nexus_c` in the repository writes it"
-        );
+        return;
     }
+    let required = std::env::var("NEXUS_BUILT").is_ok_and(|value| value == "required");
+    let said = if required { "error" } else { "warning" };
+    println!(
+        "cargo::{said}=target/staticlib/libnexus_c.a is not there, so no call can be made and its \
+        tests are ignored; `rt staticlib nexus_c` in the repository writes it"
+    );
 }

@@ -1,10 +1,11 @@
 //! include/nexus.h is a header of C and of C++, and what it declares is in the archive.
 
-use std::fs;
-use std::io::Write;
-use std::path::{Path, PathBuf};
-use std::process::{Command, Stdio};
+mod common;
 
+use std::path::Path;
+use std::process::Command;
+
+use common::{Folder, repository};
 use inputs::example;
 use oracle::answer::{self, ENOUGH};
 
@@ -14,36 +15,15 @@ const LANGUAGES: &[(&str, &str, &[&str])] = &[
     ("c++", "c++", &["c++11", "c++17"]),
 ];
 
-/// A folder that is removed in the end.
-struct Folder(PathBuf);
-
-impl Folder {
-    fn new(name: &str) -> Self {
-        let folder = std::env::temp_dir().join(format!("nexus-{}-{name}", std::process::id()));
-        fs::create_dir_all(&folder).expect("a folder");
-        Self(folder)
-    }
-}
-
-impl Drop for Folder {
-    fn drop(&mut self) {
-        let _ = fs::remove_dir_all(&self.0);
-    }
-}
-
-fn here() -> &'static Path {
-    Path::new(env!("CARGO_MANIFEST_DIR"))
-}
-
 /// Runs a compiler on tests/read.c; every warning is an error.
 #[track_caller]
 fn compile(compiler: &str, language: &str, standard: &str, more: &[&str], to: &Path) {
     let mut command = Command::new(compiler);
     command.args(["-Wall", "-Wextra", "-Wpedantic", "-Wconversion", "-Werror"]);
     command.args(["-x", language, &format!("-std={standard}"), "-I"]);
-    command.arg(here().join("../../include"));
+    command.arg(repository().join("include"));
     command
-        .arg(here().join("tests/read.c"))
+        .arg(repository().join("host/calls/tests/read.c"))
         .args(["-x", "none"]);
     command.args(more).arg("-o").arg(to);
     let output = command.output();
@@ -55,13 +35,7 @@ fn compile(compiler: &str, language: &str, standard: &str, more: &[&str], to: &P
 /// What the program prints of a text.
 fn printed(program: &Path, words: &[&str], text: &[u8]) -> Vec<u8> {
     let mut command = Command::new(program);
-    command.args(words);
-    command.stdin(Stdio::piped()).stdout(Stdio::piped());
-    let mut child = command.spawn().expect("the program starts");
-    let mut input = child.stdin.take().expect("a pipe");
-    input.write_all(text).expect("the program reads");
-    drop(input);
-    child.wait_with_output().expect("the program ends").stdout
+    common::run(command.args(words), [text].into_iter()).stdout
 }
 
 #[test]
@@ -84,7 +58,7 @@ fn the_header_compiles() {
 #[cfg_attr(not(archive), ignore = "no archive; tools/test-calls makes it")]
 fn a_program_of_c_reads() {
     let folder = Folder::new("linked");
-    let archive = here().join("../../target/staticlib/libnexus_c.a");
+    let archive = repository().join("target/staticlib/libnexus_c.a");
     let archive = archive.to_str().expect("a path in UTF-8");
     for (compiler, language, standards) in LANGUAGES {
         let program = folder.0.join(language);

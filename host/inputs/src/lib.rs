@@ -167,8 +167,3 @@ pub fn nested(length: usize) -> Vec<u8> {
     text.resize(length, b']');
     text
 }
-
-/// A piece over and over, at most a megabyte.
-pub fn repeated(piece: &[u8]) -> Vec<u8> {
-    piece.repeat(MEGABYTE / piece.len())
-}

@@ -70,18 +70,6 @@ pub fn lookup(name: &[u8], record: &[u8]) -> Vec<u8> {
     format!("refused={number}\nstart={start}\nlength={length}\n").into_bytes()
 }
 
-/// The count of a text's tokens, or the refusal.
-pub fn count(text: &[u8]) -> Result<usize, Refusal> {
-    if text.len() > TEXT_LIMIT {
-        return Err(nowhere(1));
-    }
-    let text = std::str::from_utf8(text).map_err(|_| nowhere(3))?;
-    match lex(text) {
-        Ok(tokens) => Ok(tokens.len()),
-        Err(error) => Err(refusal(&error)),
-    }
-}
-
 /// The tokens of a text, one to a line: kind, line, column and the text's bytes in hexadecimal.
 pub fn tokens(text: &[u8]) -> Answer {
     if text.len() > TEXT_LIMIT {

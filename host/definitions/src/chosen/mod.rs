@@ -1,7 +1,6 @@
-//! Chosen questions: texts, records and names written down by hand, each with a comment that says
-//! what it shows. The oracle answers them, and each is a theorem of crates/vectors.
+//! The chosen questions as theorems: the oracle answers them, and each is a theorem of
+//! crates/vectors.
 
-mod file;
 mod modules;
 mod spelled;
 mod theorem;

@@ -4,7 +4,8 @@
 use std::fs;
 use std::path::Path;
 
-use super::file::{self, File};
+use definitions::questions::{File, files};
+
 use super::theorem::{Theorem, theorem};
 
 /// A module's name and text.
@@ -34,23 +35,6 @@ fn modules(chosen: &Path) -> Result<Vec<Module>, String> {
     }
     modules.push(("Lib".to_string(), listed));
     Ok(modules)
-}
-
-/// The files of a folder in the order of their names.
-pub fn files(chosen: &Path) -> Result<Vec<(String, File)>, String> {
-    let told = |error| format!("{}: {error}", chosen.display());
-    let mut paths = Vec::new();
-    for entry in fs::read_dir(chosen).map_err(told)? {
-        paths.push(entry.map_err(told)?.path());
-    }
-    paths.sort();
-    let read = |path: &Path| {
-        let name = path.file_name().unwrap_or_default().to_string_lossy();
-        let text = fs::read_to_string(path).map_err(|error| format!("{name}: {error}"))?;
-        let file = file::parse(&text).map_err(|error| format!("{name}, {error}"))?;
-        Ok((name.into_owned(), file))
-    };
-    paths.iter().map(|path| read(path)).collect()
 }
 
 /// `12-character-lists.txt` as `CharacterLists`.
@@ -100,17 +84,13 @@ fn imports(theorems: &[Theorem]) -> String {
 #[cfg(test)]
 mod tests {
     use super::*;
-    use crate::chosen::file::Call;
+    use definitions::questions::{Call, folder};
     use oracle::messages::TABLE;
     use oracle::tally::Tally;
     use std::collections::BTreeSet;
 
     fn repository() -> &'static Path {
         Path::new(concat!(env!("CARGO_MANIFEST_DIR"), "/../.."))
-    }
-
-    fn chosen() -> std::path::PathBuf {
-        repository().join("host/definitions/chosen")
     }
 
     #[test]
@@ -123,7 +103,7 @@ mod tests {
     fn the_modules_are_those_of_the_files() {
         let specs = repository().join("crates/vectors/specs");
         let mut names: BTreeSet<String> = [format!("{WORDS}.antt")].into();
-        for (name, text) in modules(&chosen()).expect("modules") {
+        for (name, text) in modules(&folder()).expect("modules") {
             let path = specs.join(format!("{name}.antt"));
             let written = fs::read_to_string(&path).unwrap_or_default();
             assert!(written == text, "{name} is not what the tool writes");
@@ -140,7 +120,7 @@ mod tests {
     #[test]
     fn every_row_of_the_table_is_met() {
         let mut tally = Tally::default();
-        for (_, file) in files(&chosen()).expect("files") {
+        for (_, file) in files(&folder()).expect("files") {
             for asked in file.asked {
                 if let Call::Read { text, .. } = asked.call {
                     tally.add(&text);
@@ -158,7 +138,7 @@ mod tests {
     #[test]
     fn every_refusal_is_met() {
         let mut met = BTreeSet::new();
-        for (_, text) in modules(&chosen()).expect("modules") {
+        for (_, text) in modules(&folder()).expect("modules") {
             let answers = text.lines().filter_map(|line| line.strip_prefix("    ≡ "));
             let numbers = answers.filter_map(|answer| {
                 let answer = answer.trim_start_matches("refused ");
@@ -173,7 +153,7 @@ mod tests {
     #[test]
     fn no_question_is_asked_twice() {
         let mut seen = BTreeSet::new();
-        for (name, file) in files(&chosen()).expect("files") {
+        for (name, file) in files(&folder()).expect("files") {
             for asked in file.asked {
                 let question = format!("{:?}", asked.call);
                 assert!(seen.insert(question), "{name}: {}", asked.shows);

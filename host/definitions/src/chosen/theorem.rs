@@ -1,8 +1,8 @@
 //! A chosen question with the oracle's answer, as a theorem.
 
+use definitions::questions::{Asked, Call, Lent};
 use oracle::answer::{self, Answer};
 
-use super::file::{Asked, Call, Lent};
 use super::spelled::antt;
 use crate::question::{numbers, work_needed};
 

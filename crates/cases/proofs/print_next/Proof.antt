@@ -1,0 +1,120 @@
+-- The function print_next meets its contract: a text that was read lies within the space. Assumes nothing.
+use Rattle.cases.proofs.FramedTexts.{framed-text}
+use Rattle.cases.proofs.print_next.Statement.{statement}
+use Rattle.cases.proofs.print_next.Tie as tie
+use borrow.Author.Needs.{needs}
+use borrow.Table.Elements.{length-take-le}
+use mathlib.Core.Path.{sym}
+
+read-frame-requires : tie.Need-read-frame-requires
+read-frame-requires c κs = search needs
+
+enum-known-k : tie.Need-enum-known-k
+enum-known-k c = search needs
+
+put-all-requires : tie.Need-put-all-requires
+put-all-requires c κs = search needs
+
+slice-reshare-prefix-print-text : tie.Need-slice-reshare-prefix-print-text
+slice-reshare-prefix-print-text c =
+    let k = c .before .before .before .before .before in
+    framed-text _ _ _ (k .before .before .before .before .read-frame .ensures) (k .k .given .1)
+
+slice-aggregate-print-text : tie.Need-slice-aggregate-print-text
+slice-aggregate-print-text c =
+    let k = c .before .before .before .before .before .before in
+    sym (length-take-le _ _ (framed-text _ _ _ (k .before .before .before .before .read-frame .ensures) (k .k .given .1)))
+
+print-text-requires : tie.Need-print-text-requires
+print-text-requires c κs = search needs
+
+enum-told : tie.Need-enum-told
+enum-told c = search needs
+
+slice-aggregate-stop : tie.Need-slice-aggregate-stop
+slice-aggregate-stop c = search needs
+
+stop-requires : tie.Need-stop-requires
+stop-requires c κs = search needs
+
+enum-told-2 : tie.Need-enum-told-2
+enum-told-2 c = search needs
+
+slice-aggregate-stop-2 : tie.Need-slice-aggregate-stop-2
+slice-aggregate-stop-2 c = search needs
+
+stop-requires-2 : tie.Need-stop-requires-2
+stop-requires-2 c κs = search needs
+
+enum-told-3 : tie.Need-enum-told-3
+enum-told-3 c = search needs
+
+slice-aggregate-stop-3 : tie.Need-slice-aggregate-stop-3
+slice-aggregate-stop-3 c = search needs
+
+stop-requires-3 : tie.Need-stop-requires-3
+stop-requires-3 c κs = search needs
+
+same-length : tie.Need-same-length
+same-length c = search needs
+
+same-length-2 : tie.Need-same-length-2
+same-length-2 c = search needs
+
+same-length-3 : tie.Need-same-length-3
+same-length-3 c = search needs
+
+same-length-4 : tie.Need-same-length-4
+same-length-4 c = search needs
+
+returns : tie.Need-returns
+returns c = search needs
+
+same-length-5 : tie.Need-same-length-5
+same-length-5 c = search needs
+
+returns-2 : tie.Need-returns-2
+returns-2 c = search needs
+
+same-length-6 : tie.Need-same-length-6
+same-length-6 c = search needs
+
+returns-3 : tie.Need-returns-3
+returns-3 c = search needs
+
+same-length-7 : tie.Need-same-length-7
+same-length-7 c = search needs
+
+returns-4 : tie.Need-returns-4
+returns-4 c = search needs
+
+pub print-next-spec : {M : Type 1} → statement M
+print-next-spec =
+    tie.close
+    (tie.spec
+    read-frame-requires
+    enum-known-k
+    put-all-requires
+    slice-reshare-prefix-print-text
+    slice-aggregate-print-text
+    print-text-requires
+    enum-told
+    slice-aggregate-stop
+    stop-requires
+    enum-told-2
+    slice-aggregate-stop-2
+    stop-requires-2
+    enum-told-3
+    slice-aggregate-stop-3
+    stop-requires-3
+    same-length
+    same-length-2
+    same-length-3
+    same-length-4
+    returns
+    same-length-5
+    returns-2
+    same-length-6
+    returns-3
+    same-length-7
+    returns-4)

@@ -1,2 +1,0 @@
--- The definitions of the lexer for programs in other languages.
-pub mod Code

@@ -1,2 +1,0 @@
--- The definitions of the program that prints tokens.
-pub mod Framed

@@ -1,0 +1,3 @@
+//! The chosen questions, for all who ask them.
+
+pub mod questions;
