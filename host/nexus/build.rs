@@ -18,10 +18,13 @@ fn main() {
         println!("cargo::metadata=ARCHIVE=1");
         return;
     }
-    let required = std::env::var("NEXUS_BUILT").is_ok_and(|value| value == "required");
-    let said = if required { "error" } else { "warning" };
-    println!(
-        "cargo::{said}=target/staticlib/libnexus_c.a is not there, so no call can be made and its \
-        tests are ignored; `rt staticlib nexus_c` in the repository writes it"
-    );
+    let missing = "target/staticlib/libnexus_c.a is not there; `rt staticlib nexus_c` in the \
+        repository writes it";
+    if std::env::var("NEXUS_BUILT").is_ok_and(|value| value == "required") {
+        println!("cargo::error={missing}");
+    } else {
+        println!(
+            "cargo::warning={missing}; until then no call can be made, and its tests are ignored"
+        );
+    }
 }

@@ -53,7 +53,13 @@ fn print_next(
 }
 
 // A proved loop has to end, and nothing says that a file does. So the loop counts its turns down, from a number that no run uses up.
-fn print_texts(fd: i32, space: &mut [u8], work: &mut [u32], buffer: &mut [u8], out: &mut [u8]) -> usize {
+fn print_texts(
+    fd: i32,
+    space: &mut [u8],
+    work: &mut [u32],
+    buffer: &mut [u8],
+    out: &mut [u8],
+) -> usize {
     let mut turn = print_next(fd, space, work, buffer, out, 0, b"");
     let mut turns = u64::MAX;
     while turn.more & (turns > 0) {
