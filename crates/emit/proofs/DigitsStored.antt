@@ -1,16 +1,16 @@
 -- How many digits a number has; and its digits, stored from the last one on into a buffer where they all have room. Assumes nothing.
 use Prim.Native.Nat.{ℕ, zero, suc, _+_, _*_, _-_, _/_, _%_, _^_, _≤_, _<_}
 use Rattle.emit.proofs.DecimalMade.{from-next, from-small}
-use Rattle.emit.proofs.PutLaws.{puts-run}
+use Rattle.emit.proofs.PutLaws.{puts-run, puts-whole}
 use Rattle.emit.specs.Puts.{Puts}
 use Rattle.lexer.proofs.Basics.{by-test}
 use Rattle.lexer.specs.Base.{pick}
 use Rattle.record.specs.Decimal.{digit, decimal·from, decimal}
 use borrow.Author.Tests.{ltb-false, ltb-true}
 use lib.Dec.{ltb}
-use lib.ListN.{length, set, length-set}
-use lib.Seq.{length-sets, set-comm, sets}
-use mathlib.Core.List.{List, [], _∷_, _++_}
+use lib.ListN.{length, take, drop, set}
+use lib.Seq.{length-sets, set-comm, sets, take-append-seam}
+use mathlib.Core.List.{List, [], _∷_, _++_, append-nil}
 use mathlib.Core.Path.{_≡_, refl, sym, ap, _∙_}
 use native.Mathlib.Nat.{one-le-pow, pow-suc}
 use native.Mathlib.Omega.{arith}
@@ -155,3 +155,14 @@ module _ (before : List ℕ) (n value : ℕ) (buffer : List ℕ) (rest at : ℕ)
 pub digits-put : (before : List ℕ) (n value : ℕ) (after : List ℕ) (count : ℕ) → value < 2 ^ 64 → after ≡ sets before n (decimal value) → count ≡ length (decimal value)
     → Puts before n (λ behind. decimal value ++ behind) after (n + count) × (n + count ≤ n + 20)
 digits-put before n value after count fits e k = (rw (e, k) (puts-run before n (decimal value)), omega (arith, digits-most 19 value (omega arith)))
+
+-- Digits that were put into a scratch of twenty bytes stand at its front.
+pub digits-front : (scratch after : List ℕ) (value end : ℕ) → value < 2 ^ 64 → length scratch ≡ 20 → Puts scratch 0 (λ behind. decimal value ++ behind) after end
+    → take end after ≡ decimal value
+digits-front scratch after value end fits size p =
+    let all : decimal value ++ [] ≡ decimal value = append-nil (decimal value) in
+    let few : length (decimal value ++ []) ≤ length scratch = rw all (omega (arith, digits-most 19 value (omega arith))) in
+    let whole = puts-whole scratch after (λ behind. decimal value ++ behind) end p few (omega arith) in
+    let front = whole .0 in
+    let count = whole .1 in
+    rw (front, count, all) (take-append-seam (decimal value) (drop (length (decimal value)) scratch))

@@ -5,7 +5,7 @@ use Rattle.emit.specs.Puts.{Puts, last·place, puts}
 use Rattle.lexer.proofs.Basics.{by-test}
 use borrow.Author.Tests.{le-leb, leb-false, leb-true, lt-leb}
 use lib.Dec.{leb}
-use lib.ListN.{length, getD, take, drop, set, length-append, length-drop, length-set}
+use lib.ListN.{length, getD, take, drop, set, length-append, length-set}
 use lib.Seq.{append-snoc, set-out, sets, sets-eq, take-all, take-suc}
 use mathlib.Core.List.{List, [], _∷_, _++_}
 use mathlib.Core.Path.{_≡_, refl, sym, ap, _∙_}
@@ -95,11 +95,6 @@ pub puts-stored : (l : List ℕ) (i : ℕ) {a b : List ℕ} {n : ℕ} → Puts a
 puts-stored l i {b = b} {n} f h =
     let next : n + i + 1 ≡ n + (i + 1) = omega arith in
     rw next at (puts-more l i f h (byte-written b (n + i) (getD l i 0)))
-
--- The part of a list from a place on is put.
-pub puts-from : (l : List ℕ) (i size : ℕ) {d a b : List ℕ} {n m : ℕ} → length l ≡ size → drop i l ≡ d → Puts a n (λ behind. take (size - i) (drop i l) ++ behind) b m
-    → Puts a n (λ behind. d ++ behind) b m
-puts-from l i size s e f = puts-as f (λ behind. ap (λ t. t ++ behind) (take-all (size - i) (drop i l) (omega (arith, length-drop i l)) ∙ e))
 
 -- A list of bytes is put by a run of stores.
 pub puts-run : (buffer : List ℕ) (n : ℕ) (l : List ℕ) → Puts buffer n (λ behind. l ++ behind) (sets buffer n l) (n + length l)

@@ -4,7 +4,7 @@
 ghost use Prim.Native.Nat.{_+_, _-_, _/_, _<_, _≤_, min};
 ghost use Rattle.emit.specs.Puts.{Puts, last·place};
 ghost use Rattle.record.specs.Decimal.{digit, decimal};
-ghost use lib.ListN.{length, drop, set};
+ghost use lib.ListN.{length, set};
 ghost use mathlib.Core.Bool.{true};
 ghost use mathlib.Core.List.{_∷_, _++_};
 ghost use mathlib.Core.Path.{_≡_};
@@ -90,23 +90,6 @@ fn last_digit(value: u64) -> u8
     48 + (value % 10) as u8
 }
 
-// Fills the back of a scratch of twenty bytes with the digits of a number, from the last one on, and answers where they begin.
-fn fill_digits(scratch: &mut [u8], value: u64) -> usize
-    requires { ⌜ length (now scratch) ≡ 20 ⌝ }
-    ensures within { λ r. ⌜ (r < 20) × (length (now (scratch .exit)) ≡ 20) ⌝ }
-    ensures made { λ r. ⌜ drop r (now (scratch .exit)) ≡ decimal value ⌝ }
-{
-    let mut rest = value;
-    let mut i = 19;
-    while 10 <= rest {
-        scratch[i] = last_digit(rest);
-        rest = rest / 10;
-        i -= 1;
-    }
-    scratch[i] = last_digit(rest);
-    i
-}
-
 // Counts the digits of any number.
 fn count_digits(value: u64) -> usize
     ensures { λ r. ⌜ r ≡ length (decimal value) ⌝ }
@@ -179,8 +162,8 @@ fn put_filled(buffer: &mut [u8], n: usize, value: u64) -> usize
     ensures { λ r. ⌜ Puts (now (buffer .entry)) n (λ behind. decimal value ++ behind) (now (buffer .exit)) r ⌝ }
 {
     let mut scratch = [0u8; 20];
-    let i = fill_digits(&mut scratch, value);
-    put_all(buffer, n, &scratch[i..])
+    let end = put_digits(&mut scratch, 0, value);
+    put_all(buffer, n, &scratch[..end])
 }
 
 // Puts the digits of a number.

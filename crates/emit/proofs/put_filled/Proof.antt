@@ -1,23 +1,27 @@
--- The function `put_filled` meets its contract: what is put is the part of the scratch that holds the digits. Assumes nothing.
-use Rattle.emit.proofs.PutLaws.{puts-from}
+-- The function `put_filled` meets its contract: what is put is the front of the scratch, which holds the digits. Assumes nothing.
+use Rattle.emit.proofs.DigitsStored.{digits-front}
+use Rattle.emit.proofs.PutLaws.{puts-as}
 use Rattle.emit.proofs.put_filled.Statement.{statement}
 use Rattle.emit.proofs.put_filled.Tie as tie
 use borrow.Author.Needs.{needs}
+use lib.Seq.{length-take-le}
+use mathlib.Core.List.{_++_}
+use mathlib.Core.Path.{refl, sym, ap}
+use native.Mathlib.Omega.{arith}
 
-slice-aggregate-fill-digits : tie.Need-slice-aggregate-fill-digits
-slice-aggregate-fill-digits c = search needs
+slice-aggregate-put-digits : tie.Need-slice-aggregate-put-digits
+slice-aggregate-put-digits c = search needs
 
-fill-digits-requires : tie.Need-fill-digits-requires
-fill-digits-requires c κs = search needs
+put-digits-requires : tie.Need-put-digits-requires
+put-digits-requires c κs = search needs
 
-sub-put-all : tie.Need-sub-put-all
-sub-put-all c = search needs
+array-share-prefix-scratch : tie.Need-array-share-prefix-scratch
+array-share-prefix-scratch c = search needs
 
-part-put-all-start : tie.Need-part-put-all-start
-part-put-all-start c = search needs
-
-part-put-all-end : tie.Need-part-put-all-end
-part-put-all-end c = search needs
+slice-aggregate-put-all : tie.Need-slice-aggregate-put-all
+slice-aggregate-put-all c =
+    let d = c .before .before .before .put-digits in
+    sym (length-take-le (d .result) (d .last .0) (omega (arith, d .ensures .0 .kept, d .ensures .1)))
 
 put-all-requires : tie.Need-put-all-requires
 put-all-requires c κs = search needs
@@ -27,18 +31,17 @@ same-length c = search needs
 
 returns : tie.Need-returns
 returns c =
-    let f = c .before .before .before .before .before .before .before .fill-digits in
-    puts-from (f .last .0) (f .result) 20 (f .ensures .0 .1) (f .ensures .1) (c .before .before .put-all .ensures)
+    let d = c .before .before .before .before .before .before .put-digits in
+    puts-as (c .before .before .put-all .ensures) (λ behind. ap (λ l. l ++ behind) (digits-front _ _ _ _ (omega arith) refl (d .ensures .0)))
 
 pub put-filled-spec : {M : Type 1} → statement M
 put-filled-spec =
     tie.close
     (tie.spec
-    slice-aggregate-fill-digits
-    fill-digits-requires
-    sub-put-all
-    part-put-all-start
-    part-put-all-end
+    slice-aggregate-put-digits
+    put-digits-requires
+    array-share-prefix-scratch
+    slice-aggregate-put-all
     put-all-requires
     same-length
     returns)
