@@ -10,13 +10,14 @@ use Rattle.lexer.specs.declared.refusal.Refusal.{Refusal}
 use Rattle.nexus.specs.Printing.{In·front}
 use Rattle.read.specs.Call.{Read·call}
 use Rattle.record.proofs.CallLaws.{kept}
+use Rattle.record.proofs.ProgramLaws.{buffer-room}
 use Rattle.record.specs.Calls.{Result, bytes·of, refusal, answer, leaves, read·result, read·answer, read·leaves, printed}
 use Rattle.record.specs.Demands.{refusal·lines}
 use Rattle.record.specs.Program.{most·input, program·work, program·buffer, program·prints}
 use Rattle.record.specs.declared.Answer.{Answer}
 use borrow.Author.Tests.{le-leb, lt-leb}
 use lib.Dec.{leb}
-use lib.ListN.{length, drop, length-replicate}
+use lib.ListN.{length, drop}
 use lib.Seq.{take-at}
 use mathlib.Core.List.{List}
 use mathlib.Core.Path.{_≡_, refl, sym, ap, _∙_, subst}
@@ -30,10 +31,6 @@ printed-alike (bytes·of s) a b e =
     by-test (leb (length s) (length b))
     (λ t. rw (e, t) (take-at s (drop (length s) a) (length s) refl ∙ sym (take-at s (drop (length s) b) (length s) refl)))
     (λ f. rw (e, f))
-
-buffer-room : length program·buffer ≡ 65536
-unfolding program·buffer
-buffer-room = length-replicate {A = ℕ} 65536 0
 
 module _ (input : List ℕ) where
   -- Input that is too long

@@ -50,7 +50,7 @@ set-spelled : (t s : List ℕ) → numbers t ≡ some s → dotted s ≡ t
 unfolding numbers
 set-spelled t s h = rw dotted-joined (list-spelled undecimal decimal 46 decimal-undecimal [] t s h)
 
-dotted-free : (b : ℕ) → digit? b ≡ false → eqb b 46 ≡ false → (s : List ℕ) → among b (dotted s) ≡ false
+pub dotted-free : (b : ℕ) → digit? b ≡ false → eqb b 46 ≡ false → (s : List ℕ) → among b (dotted s) ≡ false
 dotted-free b o d s = rw dotted-joined (joined-free decimal b 46 d s (every (decimal-free b o) s))
 
 -- One cell
@@ -73,7 +73,7 @@ low-digit : (b : ℕ) → b ≤ 45 → digit? b ≡ false
 unfolding digit?
 low-digit b l = rw (lt-leb 48 b (omega arith))
 
-cell-free : (b : ℕ) → b ≤ 45 → (c : Cell) → among b (spell·cell c) ≡ false
+pub cell-free : (b : ℕ) → b ≤ 45 → (c : Cell) → among b (spell·cell c) ≡ false
 unfolding spell·cell among
 cell-free b l (state i) = decimal-free b (low-digit b l) i
 cell-free b l (uncertain s) = or-both (low-other b 117 l (omega arith)) (dotted-free b (low-digit b l) (low-other b 46 l (omega arith)) s)

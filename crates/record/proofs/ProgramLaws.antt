@@ -16,7 +16,7 @@ use mathlib.Core.List.{List}
 use mathlib.Core.Path.{_≡_, refl, _∙_}
 use native.Mathlib.Omega.{arith}
 
-buffer-room : length program·buffer ≡ 65536
+pub buffer-room : length program·buffer ≡ 65536
 unfolding program·buffer
 buffer-room = length-replicate {A = ℕ} 65536 0
 

@@ -1,0 +1,16 @@
+-- What other crates may cite: laws of judging parts of a record, one behind another.
+pub mod JudgeLaws
+-- What the proofs of this crate alone rest on.
+mod CellCounts
+mod CellModeLaws
+mod CellsFit
+mod CellsJudged
+mod CellsRun
+mod DecimalEnds
+mod EscapedLines
+mod HollowTexts
+mod KeyLaws
+mod NameJudged
+mod NameRests
+mod Utf8Bytes
+mod WideBlanks

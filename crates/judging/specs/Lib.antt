@@ -1,0 +1,5 @@
+-- What judging the parts of a record answers.
+pub mod Judges
+pub mod NameRest
+pub mod CellModes
+pub mod CellsJudged
