@@ -17,8 +17,10 @@ mod RowLaws
 mod RowPieces
 mod RowSteps
 mod RowWalks
+mod RunPieces
 mod SetMarks
 mod SetPieces
+mod ShortLaws
 mod TaxaCounts
 mod TaxonPieces
 mod WordCells

@@ -35,6 +35,10 @@ decoded code =
     (pick (eqb code 127) (some gap)
     none)))
 
+-- The byte that the cell of a code is, or 0 where it takes more or there is none: a state below 10 is a digit, missing is `m` and a gap `g`.
+unfoldable pub cell·byte : ℕ → ℕ
+cell·byte code = pick (ltb code 10) (byte "0" + code) (pick (eqb code 126) (byte "m") (pick (eqb code 127) (byte "g") 0))
+
 -- A cell, if there is one, in front of what stands behind it.
 unfoldable pub spell·maybe : Option Cell → List ℕ → List ℕ
 spell·maybe none behind = behind

@@ -2,6 +2,7 @@
 pub mod CharactersHeld
 pub mod Pieces
 pub mod CodedCells
+pub mod ShortCells
 pub mod RowLines
 pub mod RowWalk
 pub mod RecordPut

@@ -1,17 +1,18 @@
 // The cells of a row, put from the words of work memory.
 
-ghost use Prim.Native.Nat.{_-_, _≤_};
+ghost use Prim.Native.Nat.{_+_, _*_, _-_, _≤_, min};
 ghost use Rattle.block.specs.Chunk.{set·cell};
 ghost use Rattle.block.specs.declared.kinds.Bracket.{Bracket};
-ghost use Rattle.emit.specs.Puts.{Puts};
+ghost use Rattle.emit.specs.Puts.{Puts, last·place};
 ghost use Rattle.lexer.specs.Base.{given, pick};
 ghost use Rattle.lexer.specs.Lexing.{token·at};
 ghost use Rattle.lexer.specs.Stored.{word·of};
 ghost use Rattle.matrix.specs.Taken.{also, states·taken};
-ghost use Rattle.reading.specs.CodedCells.{Cleared, Row·put, cells·coded, decoded, dotted·on, has·cells, marked, marks, members, spell·maybe, topped, word·coded};
+ghost use Rattle.reading.specs.CodedCells.{Cleared, Row·put, cell·byte, cells·coded, decoded, dotted·on, has·cells, marked, marks, members, spell·maybe, topped, word·coded};
+ghost use Rattle.reading.specs.ShortCells.{Ran·put, Short·room, Short·run, Short·written};
 ghost use Rattle.record.specs.Spell.{spell·cell};
-ghost use lib.ListN.{getD};
-ghost use mathlib.Core.Bool.{false};
+ghost use lib.ListN.{length, getD, take, drop};
+ghost use mathlib.Core.Bool.{false, true};
 ghost use mathlib.Core.List.{[], _∷_, _++_};
 ghost use mathlib.Core.Path.{_≡_};
 use block::Bracket;
@@ -22,6 +23,7 @@ use lexer::Item;
 use lexer::Kind;
 use lexer::kind_at;
 use lexer::next_byte;
+use lexer::plain_run;
 use lexer::start_of;
 use lexer::text_start;
 
@@ -30,6 +32,12 @@ pub struct Putting {
     pub at: usize,
     pub started: bool,
     pub left: usize,
+}
+
+// A row behind the cells of a run, and where the run goes on.
+pub struct Ran {
+    pub row: Putting,
+    pub next: usize,
 }
 
 // Puts a state of a set, with a dot before it if others were put.
@@ -85,21 +93,35 @@ fn put_bits(buffer: &mut [u8], n: usize, bits: u8) -> usize
     put_set(buffer, n, Bracket::Brace, &set)
 }
 
+// The byte that the cell of a code is, or 0: a state below 10 is a digit, missing is `m` and a gap `g`.
+fn cell_byte(code: u8) -> u8
+    ensures { λ r. ⌜ r ≡ cell·byte code ⌝ }
+{
+    if code < 10 {
+        return 48 + code;
+    }
+    if code == 126 {
+        return 109;
+    }
+    if code == 127 {
+        return 103;
+    }
+    0
+}
+
 // Puts the cell of a code, if it has one.
 fn put_code(buffer: &mut [u8], n: usize, code: u8) -> usize
     ensures { λ r. ⌜ Puts (now (buffer .entry)) n (spell·maybe (decoded code)) (now (buffer .exit)) r ⌝ }
 {
+    let short = cell_byte(code);
+    if short != 0 {
+        return put(buffer, n, short);
+    }
     if code < 96 {
         return put_decimal(buffer, n, code as u64);
     }
     if code < 112 {
         return put_bits(buffer, n, code - 96);
-    }
-    if code == 126 {
-        return put(buffer, n, 109);
-    }
-    if code == 127 {
-        return put(buffer, n, 103);
     }
     n
 }
@@ -160,6 +182,132 @@ fn put_cell(buffer: &mut [u8], row: Putting, code: u8) -> Putting
     }
 }
 
+// Where the cells of one byte each end, from a place of a text on and no further than an end.
+fn short_end(text: &[u8], from: usize, end: usize, codes: &[u8; 256]) -> usize
+    requires { ⌜ (from ≤ end) × (end - from ≤ length (now text) - from) ⌝ }
+    ensures { λ r. ⌜ Short·run (now (codes .entry)) (now (text .entry)) from end r ⌝ }
+{
+    let mut i = from;
+    while i < end {
+        if cell_byte(code_of(codes, text[i])) == 0 {
+            return i;
+        }
+        i += 1;
+    }
+    i
+}
+
+// The place behind so many cells of a blank and a byte each, from a place on; it stops at the largest place.
+fn place_behind(n: usize, cells: usize) -> usize
+    ensures { λ r. ⌜ r ≡ min last·place (n + 2 * cells) ⌝ }
+{
+    if (18446744073709551615 - n) / 2 < cells {
+        return 18446744073709551615;
+    }
+    n + 2 * cells
+}
+
+// Writes cells of one byte each, from a place of a text up to an end, each with a blank before it.
+fn write_short(
+    text: &[u8],
+    from: usize,
+    end: usize,
+    buffer: &mut [u8],
+    n: usize,
+    codes: &[u8; 256],
+) -> usize
+    requires { ⌜ Short·room (now codes) (now text) from end (now buffer) n ⌝ }
+    ensures { λ r. ⌜ Short·written (now (codes .entry)) (now (text .entry)) from end (now (buffer .entry)) n (now (buffer .exit)) r ⌝ }
+{
+    let mut at = n;
+    let mut i = from;
+    while i < end {
+        let b = cell_byte(code_of(codes, text[i]));
+        buffer[at] = 32;
+        at += 1;
+        buffer[at] = b;
+        at += 1;
+        i += 1;
+    }
+    at
+}
+
+// A row behind so many cells more: the next place is known.
+fn row_behind(row: Putting, at: usize, cells: usize) -> Putting
+    ensures { λ r. ⌜ r ≡ record { at = at; started = true; left = row .left - cells } ⌝ }
+{
+    if row.left < cells {
+        return Putting {
+            at,
+            started: true,
+            left: 0,
+        };
+    }
+    Putting {
+        at,
+        started: true,
+        left: row.left - cells,
+    }
+}
+
+// Puts cells of one byte each behind the cells of a row, from a place of a text on, as far as they go. What lies behind the buffer's end is only
+// counted; where some have room and others not, none is put.
+fn put_short(
+    text: &[u8],
+    from: usize,
+    end: usize,
+    buffer: &mut [u8],
+    row: Putting,
+    codes: &[u8; 256],
+) -> Ran
+    requires { ⌜ (from ≤ end) × (end - from ≤ length (now text) - from) ⌝ }
+    ensures { λ r. ⌜ Ran·put (now (codes .entry)) (now (text .entry)) from end (now (buffer .entry)) row (now (buffer .exit)) r ⌝ }
+{
+    if !row.started {
+        return Ran { row, next: from };
+    }
+    let next = short_end(text, from, end, codes);
+    let cells = next - from;
+    let at = row.at;
+    if buffer.len() <= at {
+        return Ran {
+            row: row_behind(row, place_behind(at, cells), cells),
+            next,
+        };
+    }
+    if (buffer.len() - at) / 2 < cells {
+        return Ran { row, next: from };
+    }
+    let behind = write_short(text, from, next, buffer, at, codes);
+    Ran {
+        row: row_behind(row, behind, cells),
+        next,
+    }
+}
+
+// Puts the cells of a text from a place up to an end behind those of a row: one, then those of one byte each that follow it, and so on.
+fn put_run(
+    text: &[u8],
+    from: usize,
+    end: usize,
+    buffer: &mut [u8],
+    row: Putting,
+    codes: &[u8; 256],
+) -> Putting
+    requires { ⌜ (from ≤ end) × (end - from ≤ length (now text) - from) ⌝ }
+    ensures { λ r. ⌜ Row·put (now (buffer .entry)) row (cells·coded (now (codes .entry)) (take (end - from) (drop from (now (text .entry))))) (now (buffer .exit)) r ⌝ }
+{
+    let mut last = row;
+    let mut i = from;
+    while i < end {
+        last = put_cell(buffer, last, code_of(codes, text[i]));
+        let ran = put_short(text, i + 1, end, buffer, last, codes);
+        last = ran.row;
+        i = ran.next;
+    }
+    last
+}
+
 // Puts a set behind the cells of a row.
 pub fn put_set_cell(buffer: &mut [u8], row: Putting, kind: Bracket, set: &[u8]) -> Putting
     ensures { λ r. ⌜ Row·put (now (buffer .entry)) row (set·cell kind (members 0 (now (set .entry))) ∷ []) (now (buffer .exit)) r ⌝ }
@@ -173,7 +321,7 @@ pub fn put_set_cell(buffer: &mut [u8], row: Putting, kind: Bracket, set: &[u8]) 
     }
 }
 
-// Puts the cells of a token's text behind those of a row.
+// Puts the cells of a token's text behind those of a row: those of a run of plain bytes, then of the next byte, and so on.
 fn put_cells(
     text: &[u8],
     start: usize,
@@ -186,7 +334,10 @@ fn put_cells(
     let mut row = from;
     let mut c = text_start(text, start);
     loop {
-        match next_byte(text, c) {
+        let at = c.at;
+        let run = plain_run(text, c);
+        row = put_run(text, at, run.at, buffer, row, codes);
+        match next_byte(text, run) {
             Item::Byte(b, d) => {
                 row = put_cell(buffer, row, code_of(codes, b));
                 c = d;
