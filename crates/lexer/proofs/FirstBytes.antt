@@ -74,16 +74,19 @@ module _ (text : List ℕ) (i : ℕ) where
   unfolding token·at first·token
   token-cases P here past = drop-cases (λ l. P (first·token l)) text i here past
 
+  -- Another byte than the mark begins no such mark.
   pub mark-first : (b : ℕ) → (getD text i 0 ≡ b → ⊥) → false ≡ punct b (word·at text i)
   unfolding punct word·at mark? token
   mark-first b ne =
       sym (token-cases (λ t. mark? b (t .kind) ≡ false) (λ h. unmarked b (getD text i 0) (ne-eqb (getD text i 0) b ne) (symbol (getD text i 0) (drop (i + 1) text))) refl)
 
+  -- Another byte than LF and CR begins no newline.
   pub line-first : (getD text i 0 ≡ 10 → ⊥) → (getD text i 0 ≡ 13 → ⊥) → false ≡ line·end? (token·at text i .kind)
   unfolding line·end? token symbol
   line-first feed return =
       sym (token-cases (λ t. line·end? (t .kind) ≡ false) (λ h. unended (getD text i 0) (drop (i + 1) text) (ne-eqb (getD text i 0) 10 feed) (ne-eqb (getD text i 0) 13 return)) refl)
 
+  -- LF begins one.
   pub line-feed : getD text i 0 ≡ 10 → true ≡ line·end? (token·at text i .kind)
   line-feed e = by-test (ltb i (length text)) (λ t. sym (here (ltb-true i (length text) t))) (λ f. past (List·getD-eq-default text 0 (ltb-false i (length text) f)))
     where
@@ -93,6 +96,7 @@ module _ (text : List ℕ) (i : ℕ) where
       here : i < length text → line·end? (token·at text i .kind) ≡ true
       here h = unfold token·at first·token token symbol symbol·of class line·end? kind·of newline? rank pick in rw (drop-next text i h, e)
 
+  -- Another byte than the first of a key, ASCII case ignored, begins no word that is the key.
   pub key-first : (key : List ℕ) → (lower (getD key 0 0) ≡ lower (getD text i 0) → ⊥) → false ≡ is key (word·at text i)
   unfolding is word·at token
   key-first key ne = by-test (ltb i (length text)) (λ t. sym (here (ltb-true i (length text) t))) (λ f. sym (past (ltb-false i (length text) f)))

@@ -27,6 +27,8 @@ module _ (text : List ℕ) where
   abbrev end·from : ℕ → ℕ
   end·from i = plain·end i (drop i text)
 
+  -- From a plain byte and from the one behind it they end alike; at another byte, and past the end of the text, there are none; and behind blocks of
+  -- them they end as from the first.
   pub plain-next : (i : ℕ) → i < length text → plain? (getD text i 0) ≡ true → end·from i ≡ end·from (i + 1)
   unfolding plain·end pick
   plain-next i h t = rw (drop-next text i h, t)
@@ -54,6 +56,7 @@ record Running (i : ℕ) (r : List ℕ) (e : ℕ) : Type 0 where
   rest : tail Mode.Word r ≡ take (e - i) r ++ tail Mode.Word (drop (e - i) r)
   each : (k : ℕ) → k < e - i → plain? (getD r k 0) ≡ true
 
+-- There are none, or a plain byte comes before others.
 running-none : (i : ℕ) (r : List ℕ) → Running i r i
 running-none i r = let z : i - i ≡ 0 = omega arith in record { ahead = omega arith; within = omega arith; rest = rw z; each = λ k h. absurd (omega arith) }
 
@@ -72,6 +75,7 @@ running-more i b r e t k =
     each zero h = t
     each (suc n) h = k .each n (omega arith)
 
+-- So they end where the definition says.
 running : (r : List ℕ) (i : ℕ) → Running i r (plain·end i r)
 unfolding plain·end
 running [] i = running-none i []
@@ -84,6 +88,7 @@ pub record Plain·run (text : List ℕ) (c d : Cursor) : Type 0 where
   pub rest : left text c ≡ take (d .at - c .at) (drop (c .at) text) ++ left text d
   pub each : (k : ℕ) → k < d .at - c .at → (plain? (getD text (c .at + k) 0) ≡ true) × (getD text (c .at + k) 0 < 128)
 
+-- Up to itself; in a word; and by the mode of a cursor.
 run-none : (text : List ℕ) (c : Cursor) → Plain·run text c c
 run-none text c =
     let z : c .at - c .at ≡ 0 = omega arith in

@@ -18,6 +18,7 @@ use mathlib.Core.Option.{Option, none, some}
 use mathlib.Core.Path.{_≡_, refl, sym, ap, _∙_}
 use native.Mathlib.Omega.{arith}
 
+-- A cell, if there is one, in front of others and more.
 also-behind : (o : Option Cell) (xs ys : List Cell) → also o (xs ++ ys) ≡ also o xs ++ ys
 unfolding also
 also-behind none xs ys = refl
@@ -41,6 +42,7 @@ module _ (codes text : List ℕ) where
       ∙ cells-append codes (take (j - i) (drop i text)) (take (e - j) (drop (j - i) (drop i text)))
       ∙ ap (λ l. run·cells codes text i j ++ cells·coded codes (take (e - j) l)) second
 
+  -- An empty part, and a part of one byte.
   pub part-none : (i : ℕ) {buffer : List ℕ} {row : Putting} → Row·put buffer row (run·cells codes text i i) buffer row
   unfolding cells·coded
   part-none i = let z : i - i ≡ 0 = omega arith in rw z row-none
@@ -56,6 +58,7 @@ module _ (codes text : List ℕ) where
         (after : List ℕ) (next : Putting) → Row·put buffer now (run·cells codes text i end) after next → Row·put before row (run·cells codes text from end) after next
 
     module _ {before : List ℕ} {row : Putting} {buffer : List ℕ} {now : Putting} (i : ℕ) (k : Run·left before row buffer now i) where
+      -- A part more was put; and none is left.
       pub run-part : {b : List ℕ} {s : Putting} (j : ℕ) → i ≤ j → j ≤ end → Row·put buffer now (run·cells codes text i j) b s → Run·left before row b s j
       run-part j h l p after next q = k after next (rw (part-split i j end h l) (row-then p q))
 

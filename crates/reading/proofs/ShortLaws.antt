@@ -39,6 +39,7 @@ module _ (code : ℕ) (P : Type 0) where
       (λ h. absurd (s (rw (f, g, h))))))
 
 module _ (code : ℕ) (s : cell·byte code ≡ 0 → ⊥) where
+  -- Such a code has a cell, and the cell is spelled by its byte.
   pub short-given : given (decoded code) ≡ true
   unfolding given decoded pick
   short-given = short-cases code _ s (λ t. let low = ltb-true code 10 t in ap given (decoded-state code (omega arith))) (λ e. rw e) (λ e. rw e)
@@ -65,11 +66,13 @@ unfolding given also spell·on spell·maybe pick
 spell-some none cs behind h = absurd (false≢true h)
 spell-some (some c) cs behind h = refl
 
+-- It is one more cell.
 count-some : (o : Option Cell) (cs : List Cell) → given o ≡ true → length (also o cs) ≡ suc (length cs)
 unfolding given also
 count-some none cs h = absurd (false≢true h)
 count-some (some c) cs h = refl
 
+-- A cell of one byte behind others is a blank and that byte.
 spell-short : (code : ℕ) → (cell·byte code ≡ 0 → ⊥) → (cs : List Cell) (behind : List ℕ) → spell·on true (also (decoded code) cs) behind ≡ 32 ∷ cell·byte code ∷ spell·on true cs behind
 spell-short code s cs behind = spell-some (decoded code) cs behind (short-given code s) ∙ ap (λ l. 32 ∷ l) (short-spell code s (spell·on true cs behind))
 
@@ -82,6 +85,7 @@ module _ (codes text : List ℕ) where
   abbrev pub run·cells : ℕ → ℕ → List Cell
   run·cells i e = cells·coded codes (take (e - i) (drop i text))
 
+  -- None are; and one more is.
   pub shorts-none : (i : ℕ) → Shorts codes text i i
   shorts-none i = record { each = λ k p q z. omega arith }
 
@@ -96,6 +100,7 @@ module _ (codes text : List ℕ) where
     count : length cs ≡ m
     size : (behind : List ℕ) → length (spell·on true cs behind) ≡ 2 * m + length behind
 
+  -- None, one more, and all of a part.
   counted-none : Counted 0 (cells·coded codes [])
   unfolding cells·coded spell·on
   counted-none = record { count = refl; size = λ behind. omega arith }
@@ -123,10 +128,12 @@ module _ (codes text : List ℕ) where
         (λ f. let h = leb-false i (length text) f in let none : e - i ≡ 0 = omega arith in rw none counted-none)
 
     module _ (row : Putting) (begun : row .started ≡ true) where
+      -- Cells that are put behind others make a row with so many fewer lacking.
       pub short-row : {before after : List ℕ} {n : ℕ} → Puts before (row .at) (spell·on true (run·cells i e)) after n
           → Row·put before row (run·cells i e) after (record { at = n; started = true; left = row .left - (e - i) })
       short-row p = record { put = rw begun p; begun = rw begun; lacking = ap (λ n. row .left - n) (sym (all .count)) }
 
+      -- The next place is two further for each.
       pub short-beyond : {buffer : List ℕ} (n : ℕ) → length buffer ≤ row .at → length buffer ≤ 2 ^ 64 - 1 → n ≡ min last·place (row .at + 2 * (e - i))
           → Puts buffer (row .at) (spell·on true (run·cells i e)) buffer n
       unfolding last·place
@@ -146,6 +153,7 @@ module _ (codes text : List ℕ) where
       pub kept : length buffer ≡ length before
       pub rest : (after : List ℕ) (next : ℕ) → Puts buffer at (spell·on true (run·cells i end)) after next → Puts before start (spell·on true (run·cells from end)) after next
 
+    -- A turn writes a blank and a byte; at the end all are put.
     pub writing-turn : (buffer : List ℕ) (at i : ℕ) → Writing buffer at i → i < end → i < length text → (cell·byte (getD codes (getD text i 0) 0) ≡ 0 → ⊥)
         → Writing (set (set buffer at 32) (at + 1) (cell·byte (getD codes (getD text i 0) 0))) (at + 1 + 1) (i + 1)
     unfolding cells·coded
