@@ -222,7 +222,12 @@ fn walk_on(source: &[u8], walk: Walk, symbols: usize) -> Walk
     let gap = walk.gap | (b == 103);
     if is_fresh(mode) {
         if whole_at(source, at, symbols) {
-            return Walk { at: at + 2, mode: Mode::Fresh, blanks: walk.blanks + 1, gap: gap };
+            return Walk {
+                at: at + 2,
+                mode: Mode::Fresh,
+                blanks: walk.blanks + 1,
+                gap: gap,
+            };
         }
     }
     Walk {

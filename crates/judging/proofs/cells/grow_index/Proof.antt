@@ -20,7 +20,7 @@ unfolding grown pick
 returns c = rw (eq-eqb _ 0 (c .if1 .taken))
 
 returns-2 : tie.Need-returns-2
-returns-2 c = 
+returns-2 c =
     let a = c .before .before .args in
     sym (grown-past (a .symbols) (a .set) (a .low) (a .n) (a .digit) (c .before .if1 .left) (omega (arith, c .if2 .taken)))
 
@@ -31,7 +31,7 @@ sub-if3-2 : tie.Need-sub-if3-2
 sub-if3-2 c = search needs
 
 returns-3 : tie.Need-returns-3
-returns-3 c = 
+returns-3 c =
     let a = c .before .before .before .args in
     sym (grown-past (a .symbols) (a .set) (a .low) (a .n) (a .digit) (c .before .before .if1 .left) (omega (arith, c .before .if2 .left, c .if3 .taken)))
 
@@ -42,7 +42,7 @@ add-t10 : tie.Need-add-t10
 add-t10 c = search needs
 
 returns-4 : tie.Need-returns-4
-returns-4 c = 
+returns-4 c =
     let a = c .before .before .before .args in
     sym (grown-within (a .symbols) (a .set) (a .low) (a .n) (a .digit) (c .before .before .if1 .left) (omega (arith, c .before .if2 .left, c .if3 .left)))
 

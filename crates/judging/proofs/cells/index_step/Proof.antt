@@ -18,7 +18,7 @@ unfolding step·index digit? pick
 returns c = rw (c .before .if1 .taken) (c .grow-index .ensures)
 
 add-t12 : tie.Need-add-t12
-add-t12 c = 
+add-t12 c =
     let a = c .before .before .args in
     let small = ltb-true (a .n) (a .symbols) (all-four (a .set) (eqb (a .b) 46) (leb (a .low) (a .n)) (ltb (a .n) (a .symbols)) (c .if2 .taken) .3) in
     omega arith

@@ -25,7 +25,7 @@ index-of-requires : tie.Need-index-of-requires
 index-of-requires c κs = search needs
 
 returns-4 : tie.Need-returns-4
-returns-4 c = 
+returns-4 c =
     let h = c .before .before .before in
     let a = h .before .args in
     λ e. byte-ends (a .symbols) (a .b) (c .index-of .result) (h .if1 .left) (c .before .before .if2 .left) (c .before .if3 .left) (c .index-of .ensures) (ltb-true _ _ e)

@@ -22,7 +22,7 @@ add-t15 : tie.Need-add-t15
 add-t15 c = search needs
 
 returns : tie.Need-returns
-returns c = 
+returns c =
     let p = c .before .before in
     let f = p .before .before in
     let s = f .before .before .before .before in
@@ -38,7 +38,7 @@ count-blank-requires : tie.Need-count-blank-requires
 count-blank-requires c κs = search needs
 
 returns-2 : tie.Need-returns-2
-returns-2 c = 
+returns-2 c =
     let s = c .before .before .before .before .before .before .before in
     (omega arith, moves-byte _ _ _ _ (s .pre .0) (s .pre .1 .1) refl (c .before .cell-step .ensures) (c .count-blank .ensures) refl)
 
