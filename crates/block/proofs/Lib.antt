@@ -23,6 +23,7 @@ pub mod FormatSettled
 pub mod FormatSigns
 pub mod FormatSound
 pub mod GoodSymbols
+pub mod KeptNames
 pub mod LabelFaults
 pub mod LabelsApplied
 pub mod LabelsFollow

@@ -6,6 +6,7 @@ pub mod Weights
 pub mod CommandsCut
 pub mod Names
 pub mod NamesHeld
+pub mod NamesKept
 pub mod Dimensions
 pub mod Sizes
 pub mod Cell

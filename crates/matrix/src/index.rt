@@ -21,16 +21,7 @@ use block::alike;
 use lexer::start_of;
 use slots::Table;
 use slots::fill_slot;
-use slots::hash_at;
-use slots::slot_of;
-
-// The slot at which the search for the name of a word begins.
-fn name_slot(text: &[u8], work: &[u32], i: usize, table: Table) -> usize
-    requires { ⌜ Table·sound table ⌝ }
-    ensures { λ r. ⌜ r ≡ slot·of table (hash (name·at (now (text .entry)) (now (work .entry)) i)) ⌝ }
-{
-    slot_of(table, hash_at(text, start_of(work, i)))
-}
+use slots::name_slot;
 
 // The row that a slot holds, with 1 added, if it is before the one that was found and its name is that of a word; else the one that was found.
 fn nearer(text: &[u8], work: &[u32], at: usize, i: usize, found: usize, value: usize) -> usize

@@ -1,10 +1,14 @@
 // The slots of a table: where a search begins, the next free one, and a number put there.
 
 ghost use Prim.Native.Nat.{_^_, _≤_, _<_};
+ghost use Rattle.lexer.specs.Stored.{word·of};
+ghost use Rattle.lexer.specs.Words.{spaced};
 ghost use Rattle.slots.specs.Filling.{Cleared, Filled, Free, Table·fits, Table·sound, slot·of};
+ghost use Rattle.slots.specs.Hashes.{hash};
 ghost use lib.ListN.{length};
 ghost use mathlib.Core.Path.{_≡_};
 use super::Table;
+use super::hashes::hash_at;
 use lexer::start_of;
 
 // A table for so many names, from an index of work memory on, as far as there is room: four slots for each, and some behind them.
@@ -25,13 +29,21 @@ fn table_for(base: usize, count: usize, length: usize) -> Table
 }
 
 // The slot at which the search for a name begins, by its number.
-pub fn slot_of(table: Table, h: u64) -> usize
+fn slot_of(table: Table, h: u64) -> usize
     requires { ⌜ Table·sound table ⌝ }
     ensures { λ r. ⌜ r ≡ slot·of table h ⌝ }
 {
     let size = table.size as u64;
     let base = table.base;
     base + (h % size) as usize
+}
+
+// The slot at which the search for the name of a word begins.
+pub fn name_slot(text: &[u8], work: &[u32], i: usize, table: Table) -> usize
+    requires { ⌜ Table·sound table ⌝ }
+    ensures { λ r. ⌜ r ≡ slot·of table (hash (spaced (word·of (now (text .entry)) (now (work .entry)) i .token .text))) ⌝ }
+{
+    slot_of(table, hash_at(text, start_of(work, i)))
 }
 
 // All slots are free.

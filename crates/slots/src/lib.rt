@@ -6,8 +6,7 @@ pub mod hashes;
 
 pub use filling::fill_slot;
 pub use filling::free_table;
-pub use filling::slot_of;
-pub use hashes::hash_at;
+pub use filling::name_slot;
 
 // A table: where it begins, at how many slots a search can begin, and where it ends.
 pub struct Table {

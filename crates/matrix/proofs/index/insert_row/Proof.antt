@@ -1,6 +1,7 @@
 -- The function `insert_row` meets its contract. Assumes nothing.
 use Rattle.matrix.proofs.index.insert_row.Statement.{statement}
 use Rattle.matrix.proofs.index.insert_row.Tie as tie
+use Rattle.matrix.specs.Lines.{name·at}
 use borrow.Author.Needs.{needs}
 
 name-slot-requires : tie.Need-name-slot-requires
@@ -19,6 +20,7 @@ same-length : tie.Need-same-length
 same-length c = search needs
 
 returns : tie.Need-returns
+unfolding name·at
 returns c = rw (← c .before .before .before .before .name-slot .ensures) (c .before .before .fill-slot .ensures)
 
 pub insert-row-spec : {M : Type 1} → statement M

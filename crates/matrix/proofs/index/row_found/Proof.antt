@@ -3,6 +3,7 @@ use Prim.Native.Nat.{_-_}
 use Rattle.matrix.proofs.IndexLaws.{Searched, searched-start, searched-turn, searched-end, first-place}
 use Rattle.matrix.proofs.index.row_found.Statement.{statement}
 use Rattle.matrix.proofs.index.row_found.Tie as tie
+use Rattle.matrix.specs.Lines.{name·at}
 use borrow.Author.Needs.{needs}
 use mathlib.Core.Path.{refl, sym, _∙_}
 use native.Mathlib.Omega.{arith}
@@ -26,6 +27,7 @@ row-index-requires : tie.Need-row-index-requires Inv-loop μ-loop
 row-index-requires c κs = search needs
 
 returns : tie.Need-returns Inv-loop μ-loop
+unfolding name·at
 returns c =
     let v = c .before .before in
     let l = v .before .before in

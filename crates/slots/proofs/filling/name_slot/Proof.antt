@@ -1,8 +1,7 @@
 -- The function `name_slot` meets its contract. Assumes nothing.
 use Rattle.lexer.specs.Stored.{word·of}
-use Rattle.matrix.proofs.index.name_slot.Statement.{statement}
-use Rattle.matrix.proofs.index.name_slot.Tie as tie
-use Rattle.matrix.specs.Lines.{name·at}
+use Rattle.slots.proofs.filling.name_slot.Statement.{statement}
+use Rattle.slots.proofs.filling.name_slot.Tie as tie
 use borrow.Author.Needs.{needs}
 
 start-of-requires : tie.Need-start-of-requires
@@ -15,7 +14,7 @@ slot-of-requires : tie.Need-slot-of-requires
 slot-of-requires c κs = search needs
 
 returns : tie.Need-returns
-unfolding name·at word·of
+unfolding word·of
 returns c = rw (← c .before .before .start-of .ensures, ← c .before .hash-at .ensures) (c .slot-of .ensures)
 
 pub name-slot-spec : {M : Type 1} → statement M

@@ -1,0 +1,178 @@
+-- The names of TAXLABELS that were judged, by a table: what a search passes, and one word more. Assumes nothing.
+use Prim.Native.Nat.{ℕ, zero, suc, _+_, _-_, _≤_, _<_}
+use Rattle.block.proofs.NamesWalk.{Naming, naming-start, naming-newline, naming-turn, Searching, searching-newline, searching-turn, searching-found, searching-end}
+use Rattle.block.specs.Commands.{newline, words}
+use Rattle.block.specs.Names.{known}
+use Rattle.block.specs.NamesHeld.{name·of, names·of}
+use Rattle.block.specs.NamesKept.{Same·name, Slot·alike, Names·kept, Name·put}
+use Rattle.lexer.proofs.Basics.{by-test, not-both, or-left, or-right}
+use Rattle.lexer.specs.Base.{alike, given}
+use Rattle.lexer.specs.Stored.{word·of, range}
+use Rattle.lexer.specs.Words.{label}
+use Rattle.slots.proofs.FillingLaws.{kept-next, none-kept}
+use Rattle.slots.proofs.HashLaws.{alike-hash}
+use Rattle.slots.specs.Filling.{Kept, Filled, slot·of}
+use Rattle.slots.specs.Hashes.{hash}
+use Rattle.slots.specs.declared.Table.{Table}
+use borrow.Author.Tests.{eqb-true, eqb-false, leb-true, leb-false, ltb-true, ltb-false}
+use lib.Dec.{eqb, leb, ltb}
+use lib.ListN.{length, getD}
+use mathlib.Core.Bool.{Bool, true, false, _||_, false≢true}
+use mathlib.Core.List.{List}
+use mathlib.Core.Path.{_≡_, refl, sym, _∙_}
+use native.Mathlib.Omega.{arith}
+
+-- A name is known among those of some words exactly where one of them has it.
+module _ (text work : List ℕ) (n : List ℕ) (from to : ℕ) where
+  abbrev is-known : Bool
+  is-known = known n (names·of (words (range text work from to)))
+
+  known-from : (m x j : ℕ) → Searching text work n from to x → x + m ≡ j → j < to → newline (word·of text work j) ≡ false → alike n (name·of (word·of text work j)) ≡ true → true ≡ is-known
+  known-from zero x j s e h w a = let same : j ≡ x = omega arith in searching-found text work n from to x s (omega arith) (rw same at w) (rw same at a)
+  known-from (suc m) x j s e h w a =
+      by-test (newline (word·of text work x))
+      (λ t. known-from m (x + 1) j (searching-newline text work n from to x s (omega arith) t) (omega arith) h w a)
+      (λ f. by-test (alike n (name·of (word·of text work x)))
+      (λ t. searching-found text work n from to x s (omega arith) f t)
+      (λ d. known-from m (x + 1) j (searching-turn text work n from to x s (omega arith) f d) (omega arith) h w a))
+
+  pub known-one : (j : ℕ) → from ≤ j → j < to → newline (word·of text work j) ≡ false → alike n (name·of (word·of text work j)) ≡ true → true ≡ is-known
+  known-one j l h w a = known-from (j - from) from j (record { rest = refl }) (omega arith) h w a
+
+  module _ (none : (j : ℕ) → from ≤ j → j < to → newline (word·of text work j) ≡ false → alike n (name·of (word·of text work j)) ≡ false) where
+    none-from : (m x : ℕ) → from ≤ x → Searching text work n from to x → to ≤ x + m → false ≡ is-known
+    none-from zero x l s h = searching-end text work n from to x s (omega arith)
+    none-from (suc m) x l s h =
+        by-test (ltb x to)
+        (λ t. let b = ltb-true x to t in by-test (newline (word·of text work x))
+        (λ w. none-from m (x + 1) (omega arith) (searching-newline text work n from to x s b w) (omega arith))
+        (λ w. none-from m (x + 1) (omega arith) (searching-turn text work n from to x s b w (none x l b w)) (omega arith)))
+        (λ f. searching-end text work n from to x s (ltb-false x to f))
+
+    pub known-none : false ≡ is-known
+    known-none = none-from (to - from) from (omega arith) (record { rest = refl }) (omega arith)
+
+-- The slots that a search has passed, where the words of a name are kept from the first of them on.
+pub record Passing (text work slots : List ℕ) (from i end first p : ℕ) : Type 0 where
+  pub rest : ((j : ℕ) → Same·name text work from i j → Kept slots first end (j + 1)) → (j : ℕ) → Same·name text work from i j → Kept slots p end (j + 1)
+
+module _ (text work slots : List ℕ) (from i end first : ℕ) where
+  pub passing-start : Passing text work slots from i end first first
+  passing-start = record { rest = λ all. all }
+
+  module _ {p : ℕ} (k : Passing text work slots from i end first p) (h : p < end) {v : ℕ} (is : v ≡ getD slots p 0) where
+    pub passing-turn : {r : Bool} → Slot·alike text work from i v r → r ≡ false → Passing text work slots from i end first (p + 1)
+    passing-turn a f = record { rest = λ all j s. kept-next slots p end (j + 1) h (λ e. a .miss f j (is ∙ e) s) (k .rest all j s) }
+
+    pub passing-found : {r : Bool} → Slot·alike text work from i v r → r ≡ true → (v ≡ 0 → ⊥) → true ≡ known (name·of (word·of text work i)) (names·of (words (range text work from i)))
+    passing-found a t some =
+        let one : v ≡ v - 1 + 1 = omega (arith, some) in
+        let s = a .hit t (v - 1) one in
+        known-one text work (name·of (word·of text work i)) from i (v - 1) (s .since) (s .before) (s .word) (s .same)
+
+    pub passing-none : (t : Table) → first ≡ slot·of t (hash (name·of (word·of text work i))) → t .end ≡ end → Names·kept text work slots from i t → v ≡ 0
+        → false ≡ known (name·of (word·of text work i)) (names·of (words (range text work from i)))
+    passing-none t e same x z =
+        let all : (j : ℕ) → Same·name text work from i j → Kept slots first end (j + 1) =
+        λ j s. rw (e, ← same, alike-hash (name·of (word·of text work i)) (name·of (word·of text work j)) (s .same)) (x .each j (s .since) (s .before) (s .word)) in
+        known-none text work (name·of (word·of text work i)) from i
+        (λ j l b w. by-test (alike (name·of (word·of text work i)) (name·of (word·of text work j)))
+        (λ a. absurd (none-kept slots p end (j + 1) h (sym is ∙ z) (omega arith) (k .rest all j (record { since = l; before = b; word = w; same = a }))))
+        (λ f. f))
+
+-- One word more: a newline, or a name that is put into the table.
+module _ (text work slots : List ℕ) (from : ℕ) (t : Table) where
+  pub kept-start : Names·kept text work slots from from t
+  kept-start = record { each = λ j a b. absurd (omega arith) }
+
+  module _ (i : ℕ) (x : Names·kept text work slots from i t) where
+    before-last : (j : ℕ) → j < i + 1 → (j ≡ i → ⊥) → j < i
+    before-last j l o = by-test (ltb j i) (λ e. ltb-true j i e) (λ e. let m = ltb-false j i e in absurd (o (omega arith)))
+
+    pub kept-newline : newline (word·of text work i) ≡ true → Names·kept text work slots from (i + 1) t
+    kept-newline n =
+        record {
+          each = λ j a b w. by-test (eqb j i)
+              (λ e. let same = eqb-true j i e in not-both w (rw same n))
+              (λ e. x .each j a (before-last j b (eqb-false j i e)) w);
+        }
+
+    pub kept-more : (after : List ℕ) → Name·put text work slots after i t → (0 < t .end → i < 4294967295) → Names·kept text work after from (i + 1) t
+    kept-more after p small =
+        record {
+          each = λ j a b w. by-test (eqb j i)
+              (λ e. let same = eqb-true j i e in rw same (p .new small))
+              (λ e. p .old _ (j + 1) (omega arith) (x .each j a (before-last j b (eqb-false j i e)) w));
+        }
+
+-- The index of a word was put into the table, where it has 32 bits; a table without slots keeps all.
+pub name-put : (text work before after : List ℕ) (i : ℕ) (t : Table) (v : ℕ) → (0 < v) × (i < 4294967295 → v ≡ i + 1)
+    → Filled before after (slot·of t (hash (name·of (word·of text work i)))) (t .end) v → Name·put text work before after i t
+name-put text work before after i t v is f =
+    record {
+      size = f .size;
+      new = λ small. by-test (ltb 0 (t .end))
+          (λ e. rw (is .1 (small (ltb-true 0 (t .end) e))) at (f .new))
+          (λ e. let n = ltb-false 0 (t .end) e in record { place = slot·of t (hash (name·of (word·of text work i))); ahead = omega arith; taken = λ q a b. absurd (omega arith); holds = λ l. absurd (omega arith) });
+      old = f .old;
+    }
+
+-- The word that a slot holds, by its index with 1 added: it is none of the words, or a newline, or has a name.
+module _ (text work : List ℕ) (from i value : ℕ) where
+  pub slot-outside : leb value from || ltb i value ≡ true → Slot·alike text work from i value false
+  slot-outside e =
+      record {
+        hit = λ t. absurd (false≢true t);
+        miss = λ _ j is s. by-test (leb value from)
+            (λ t. omega (arith, leb-true value from t, s .since))
+            (λ f. omega (arith, ltb-true i value (rw f at e), s .before));
+      }
+
+  module _ (inside : leb value from || ltb i value ≡ false) where
+    pub slot-some : from < value
+    slot-some = leb-false value from (or-left (leb value from) (ltb i value) inside)
+
+    pub slot-newline : newline (word·of text work (value - 1)) ≡ true → Slot·alike text work from i value false
+    slot-newline e =
+        record {
+          hit = λ t. absurd (false≢true t);
+          miss = λ _ j is s. let same : value - 1 ≡ j = omega arith in not-both (s .word) (rw same at e);
+        }
+
+    pub slot-name : newline (word·of text work (value - 1)) ≡ false → (r : Bool) → r ≡ alike (name·of (word·of text work i)) (name·of (word·of text work (value - 1))) → Slot·alike text work from i value r
+    slot-name w r e =
+        record {
+          hit = λ t j is.
+              let same : value - 1 ≡ j = omega arith in
+              record {
+                since = omega (arith, slot-some);
+                before = omega (arith, ltb-false i value (or-right (leb value from) (ltb i value) inside));
+                word = rw same at w;
+                same = rw same at (sym e ∙ t);
+              };
+          miss = λ f j is s. let same : value - 1 ≡ j = omega arith in not-both (rw same at (sym e ∙ f)) (s .same);
+        }
+
+-- The names up to here are different, and a table has them.
+pub record Kept·naming (text work : List ℕ) (from to size : ℕ) (t : Table) (slots : List ℕ) (i : ℕ) : Type 0 where
+  pub naming : Naming text work from to i
+  pub kept : Names·kept text work slots from i t
+  pub sized : length slots ≡ size
+
+module _ {text work : List ℕ} {from to size : ℕ} {t : Table} where
+  pub kept-naming-start : {slots : List ℕ} → length slots ≡ size → Kept·naming text work from to size t slots from
+  kept-naming-start {slots} e = record { naming = naming-start text work from to; kept = kept-start text work slots from t; sized = e }
+
+  module _ {slots : List ℕ} {i : ℕ} (k : Kept·naming text work from to size t slots i) (h : i < to) where
+    pub kept-naming-newline : newline (word·of text work i) ≡ true → Kept·naming text work from to size t slots (i + 1)
+    kept-naming-newline e = record { naming = naming-newline text work from to i (k .naming) h e; kept = kept-newline text work slots from t i (k .kept) e; sized = k .sized }
+
+    pub kept-naming-turn : newline (word·of text work i) ≡ false → given (label (word·of text work i)) ≡ true
+        → known (name·of (word·of text work i)) (names·of (words (range text work from i))) ≡ false → (0 < t .end → to ≤ 4294967295) → {after : List ℕ} → Name·put text work slots after i t
+        → Kept·naming text work from to size t after (i + 1)
+    kept-naming-turn e g d few {after} p =
+        record {
+          naming = naming-turn text work from to i (k .naming) h e g d;
+          kept = kept-more text work slots from t i (k .kept) after p (λ s. omega (arith, few s));
+          sized = p .size ∙ k .sized;
+        }

@@ -1,0 +1,35 @@
+-- The names of TAXLABELS that were judged, by a table that has their words.
+use Prim.Native.Nat.{ℕ, _+_, _≤_, _<_}
+use Rattle.block.specs.Commands.{newline}
+use Rattle.block.specs.NamesHeld.{name·of}
+use Rattle.lexer.specs.Base.{alike}
+use Rattle.lexer.specs.Stored.{word·of}
+use Rattle.slots.specs.Filling.{Kept, slot·of}
+use Rattle.slots.specs.Hashes.{hash}
+use Rattle.slots.specs.declared.Table.{Table}
+use lib.ListN.{length}
+use mathlib.Core.Bool.{Bool, true, false}
+use mathlib.Core.List.{List}
+use mathlib.Core.Path.{_≡_}
+
+-- A word from an index up to another has the name of that one.
+pub record Same·name (text work : List ℕ) (from i j : ℕ) : Type 0 where
+  pub since : from ≤ j
+  pub before : j < i
+  pub word : newline (word·of text work j) ≡ false
+  pub same : alike (name·of (word·of text work i)) (name·of (word·of text work j)) ≡ true
+
+-- The word that a slot holds, by its index with 1 added, is such a word, or is none.
+pub record Slot·alike (text work : List ℕ) (from i value : ℕ) (r : Bool) : Type 0 where
+  pub hit : r ≡ true → (j : ℕ) → value ≡ j + 1 → Same·name text work from i j
+  pub miss : r ≡ false → (j : ℕ) → value ≡ j + 1 → Same·name text work from i j → ⊥
+
+-- The table has the words from an index up to another: the index of each, with 1 added, is kept from the slot of its name on.
+pub record Names·kept (text work slots : List ℕ) (from i : ℕ) (t : Table) : Type 0 where
+  pub each : (j : ℕ) → from ≤ j → j < i → newline (word·of text work j) ≡ false → Kept slots (slot·of t (hash (name·of (word·of text work j)))) (t .end) (j + 1)
+
+-- A word was put into the table.
+pub record Name·put (text work before after : List ℕ) (i : ℕ) (t : Table) : Type 0 where
+  pub size : length after ≡ length before
+  pub new : (0 < t .end → i < 4294967295) → Kept after (slot·of t (hash (name·of (word·of text work i)))) (t .end) (i + 1)
+  pub old : (p w : ℕ) → 0 < w → Kept before p (t .end) w → Kept after p (t .end) w
