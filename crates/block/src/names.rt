@@ -141,11 +141,11 @@ fn unique_many(text: &[u8], work: &[u32], from: usize, to: usize) -> Judged
     requires { ⌜ to ≤ 4294967295 ⌝ }
     ensures { λ r. ⌜ judged (names·of (words (range (now (text .entry)) (now (work .entry)) from to))) r ≡ unique·names (words (range (now (text .entry)) (now (work .entry)) from to)) ⌝ }
 {
-    let mut slots = [0u32; 131072];
+    let mut slots = [0u32; 32768];
     let table = Table {
         base: 0,
-        size: 131008,
-        end: 131072,
+        size: 32704,
+        end: 32768,
     };
     unique_by(text, work, from, to, &mut slots, table)
 }
