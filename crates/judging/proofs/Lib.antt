@@ -12,5 +12,6 @@ mod HollowTexts
 mod KeyLaws
 mod NameJudged
 mod NameRests
+mod NumberLaws
 mod Utf8Bytes
 mod WideBlanks

@@ -3,3 +3,4 @@ pub mod Judges
 pub mod NameRest
 pub mod CellModes
 pub mod CellsJudged
+pub mod Numbers

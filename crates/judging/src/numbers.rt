@@ -1,0 +1,66 @@
+// Numbers of a record's lines: decimal digits without leading zeros.
+
+ghost use Prim.Native.Nat.{_≤_};
+ghost use Rattle.judging.specs.Judges.{Judges};
+ghost use Rattle.judging.specs.Numbers.{Number·judged, leading};
+ghost use Rattle.record.specs.Decimal.{decimal};
+ghost use lib.ListN.{drop};
+ghost use mathlib.Core.Path.{_≡_};
+use super::Behind;
+use super::keys::key_at;
+use emit::put_decimal;
+
+// A number and where its line ends; or there is none.
+pub enum Number {
+    At(usize, usize),
+    Wrong,
+}
+
+// The value of the digits from a place on; none are looked at behind one that is above the largest count.
+fn leading(source: &[u8], i: usize) -> usize
+    ensures { λ r. ⌜ r ≡ leading 0 (drop i (now (source .entry))) ⌝ }
+{
+    let mut value: usize = 0;
+    let mut at = i;
+    while at < source.len() {
+        let b = source[at];
+        if b < 48 {
+            return value;
+        }
+        if 57 < b {
+            return value;
+        }
+        if 1048576 < value {
+            return value;
+        }
+        value = value * 10 + (b - 48) as usize;
+        at += 1;
+    }
+    value
+}
+
+// Do the digits of a number stand at a place?
+pub fn decimal_at(source: &[u8], i: usize, value: usize) -> Behind
+    ensures { λ r. ⌜ Judges (now (source .entry)) i (λ (u : Unit {0}). Unit {0}) (λ u. decimal value) r ⌝ }
+{
+    let mut digits = [0u8; 20];
+    let n = put_decimal(&mut digits, 0, value as u64);
+    key_at(source, i, &digits[..n])
+}
+
+// The number that stands at a place, ended by LF.
+pub fn number_line(source: &[u8], i: usize) -> Number
+    ensures { λ r. ⌜ Number·judged (now (source .entry)) i r ⌝ }
+{
+    let value = leading(source, i);
+    if 1048576 < value {
+        return Number::Wrong;
+    }
+    match decimal_at(source, i, value) {
+        Behind::At(j) => match key_at(source, j, b"\n") {
+            Behind::At(k) => Number::At(value, k),
+            Behind::Wrong => Number::Wrong,
+        },
+        Behind::Wrong => Number::Wrong,
+    }
+}
