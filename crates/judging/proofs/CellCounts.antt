@@ -1,5 +1,5 @@
 -- The blanks and the byte `g` in a row count its cells and tell its gaps. Assumes nothing.
-use Prim.Native.Nat.{ℕ, suc, _+_, _≤_}
+use Prim.Native.Nat.{ℕ, _+_, _≤_}
 use Rattle.block.specs.Cell.{Cell, state, uncertain, polymorphic, missing, gap}
 use Rattle.block.specs.Sound.{gap?, gap·among}
 use Rattle.judging.specs.CellModes.{blanks}
@@ -10,10 +10,9 @@ use Rattle.record.proofs.DecimalLaws.{digit?}
 use Rattle.record.specs.Spell.{spell·cell, spell·cells}
 use lib.Dec.{eqb}
 use lib.ListN.{length}
-use mathlib.Core.Bool.{true, false, _||_}
+use mathlib.Core.Bool.{false}
 use mathlib.Core.List.{List, [], _∷_, _++_}
-use mathlib.Core.Path.{_≡_, refl, sym, ap, _∙_}
-use native.Mathlib.Numerals.{add-one}
+use mathlib.Core.Path.{_≡_, refl, sym, _∙_}
 use native.Mathlib.Omega.{arith}
 
 -- Blanks of two texts.
@@ -38,6 +37,7 @@ blanks-few (b ∷ t) =
     let so = blanks-few t in
     by-test (eqb b 32) (λ e. rw e (omega arith)) (λ f. rw f (omega arith))
 
+-- A blank is one.
 one-blank : (t : List ℕ) → blanks (32 ∷ t) ≡ blanks t + 1
 unfolding blanks pick
 one-blank t = refl
@@ -60,6 +60,7 @@ cell-gap (polymorphic s) = dotted-free 103 refl refl s
 cell-gap missing = refl
 cell-gap gap = refl
 
+-- The byte `g` is in a row exactly if a gap is.
 pub cells-gap : (cells : List Cell) → among 103 (spell·cells cells) ≡ gap·among cells
 unfolding spell·cells among gap·among
 cells-gap [] = refl

@@ -12,12 +12,13 @@ use mathlib.Core.List.{List, [], _∷_, _++_}
 use mathlib.Core.Path.{_≡_, refl, sym, ap, _∙_}
 use native.Mathlib.Omega.{arith}
 
--- A run over bytes and more bytes.
+-- A run over bytes and more bytes is a run over the first, and from there over the others.
 pub run-append : (count : ℕ) (m : Mode) (a b : List ℕ) → run count m (a ++ b) ≡ run count (run count m a) b
 unfolding run
 run-append count m [] b = refl
 run-append count m (x ∷ a) b = run-append count (step count m x) a b
 
+-- The same where one byte is told apart.
 pub run-then : (count : ℕ) (m : Mode) (a : List ℕ) (b : ℕ) (r : List ℕ) → run count m (a ++ (b ∷ r)) ≡ run count (step count (run count m a) b) r
 unfolding run
 run-then count m a b r = run-append count m a (b ∷ r)
@@ -32,7 +33,7 @@ unfolding run
 run-wrong count [] = refl
 run-wrong count (b ∷ t) = rw (step-wrong count b) (run-wrong count t)
 
--- The bytes of digits.
+-- What is at most 9 above `0` is a digit, and a digit is not below it.
 pub digit-byte : (d : ℕ) → d < 10 → digit? (48 + d) ≡ true
 unfolding digit?
 digit-byte d h = and-both (le-leb 48 (48 + d) (omega arith)) (le-leb (48 + d) 57 (omega arith))
@@ -41,11 +42,12 @@ pub digit-low : (b : ℕ) → digit? b ≡ true → 48 ≤ b
 unfolding digit?
 digit-low b h = leb-true 48 b (and-left _ (leb b 57) h)
 
+-- Nothing above `0` is a byte below it.
 pub digit-other : (d x : ℕ) → x < 48 → eqb (48 + d) x ≡ false
 digit-other d x h = ne-eqb (48 + d) x (λ e. omega arith)
 
 module _ (count : ℕ) where
-  -- A step by a blank, and by any other byte.
+  -- A blank leads to a new cell where a cell may end, and nowhere else; any other byte is read within the cell.
   pub step-blank : (m : Mode) → ends m ≡ true → step count m 32 ≡ Mode.Fresh
   unfolding step next pick
   step-blank m h = rw h
@@ -63,7 +65,7 @@ module _ (count : ℕ) where
   unfolding step next ends pick
   cell-unblank b h = by-test (eqb b 32) (λ t. absurd (false≢true (rw t at h))) (λ f. f)
 
-  -- Steps by a digit of an index that stays below the count.
+  -- A digit leads to the mode of the index with that digit, if it stays below the count.
   pub begun-digit : (set : Bool) (low d : ℕ) → d < count → begun count set low (48 + d) ≡ Mode.Index set low d
   unfolding begun pick
   begun-digit set low d h =
@@ -77,11 +79,11 @@ module _ (count : ℕ) where
       step-within (Mode.Index set low n) (48 + d) (digit-other d 32 (omega arith))
       ∙ rw (digit-byte d small, ne-eqb n 0 (λ z. omega arith), e, lt-ltb (n * 10 + d) count h)
 
-  -- A step where the mode is known and the byte is no blank.
+  -- A step by a byte that is no blank, where the mode is known.
   pub step-known : {m k r : Mode} (b : ℕ) → (b ≡ 32 → ⊥) → m ≡ k → r ≡ within count k b → r ≡ step count m b
   step-known {m} {k} {r} b other e h = h ∙ sym (step-within k b (ne-eqb b 32 other)) ∙ ap (λ x. step count x b) (sym e)
 
-  -- A further digit, by the value that it makes.
+  -- A further digit leads on exactly if the value that it makes is below the count.
   pub grown-within : (set : Bool) (low n b : ℕ) → (n ≡ 0 → ⊥) → n * 10 + (b - 48) < count → grown count set low n b ≡ Mode.Index set low (n * 10 + (b - 48))
   unfolding grown pick
   grown-within set low n b some h = rw (ne-eqb n 0 some, lt-ltb (n * 10 + (b - 48)) count h)
@@ -90,7 +92,7 @@ module _ (count : ℕ) where
   unfolding grown pick
   grown-past set low n b some h = rw (ne-eqb n 0 some, le-ltb (n * 10 + (b - 48)) count h)
 
--- What a row is judged to be, by a comparison that cannot wrap.
+-- What a row is judged to be, where the count of characters less 1 is compared: no row has no cells.
 module _ (end : ℕ) (m : Mode) (blanks : ℕ) (gap : Bool) (characters : ℕ) where
   pub row-end-none : characters ≡ 0 → row·end end m blanks gap characters ≡ Cells.Wrong
   unfolding row·end pick

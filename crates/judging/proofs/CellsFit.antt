@@ -1,13 +1,13 @@
--- Bytes that are run through to a mode in which a cell may end are sound cells: what each mode wants of the bytes behind it. Assumes nothing.
+-- Bytes that are run through to a mode in which a cell may end are sound cells: what the bytes behind each mode must be. Assumes nothing.
 use Prim.Native.Nat.{ℕ, _+_, _*_, _-_, _≤_, _<_}
 use Rattle.block.proofs.RisingLaws.{rising-cons}
 use Rattle.block.specs.Cell.{Cell, state, uncertain, polymorphic, missing, gap}
 use Rattle.block.specs.Sound.{rising, sound·cell, sound·cells, sound·set}
 use Rattle.judging.proofs.CellModeLaws.{run-wrong, step-blank, step-stuck, step-within}
 use Rattle.judging.proofs.DecimalEnds.{decimal-one, decimal-snoc}
-use Rattle.judging.specs.CellModes.{begun, digit?, ends, grown, next, run, step, step·fresh, step·index, step·opened, within}
+use Rattle.judging.specs.CellModes.{begun, digit?, ends, grown, run, step·fresh, step·index, step·opened, within}
 use Rattle.judging.specs.declared.cells.Mode.{Mode}
-use Rattle.lexer.proofs.Basics.{all-four, and-both, and-left, and-right, by-test, not-both}
+use Rattle.lexer.proofs.Basics.{all-four, and-both, and-left, and-right, by-test}
 use Rattle.lexer.specs.Base.{empty?, pick}
 use Rattle.record.specs.Decimal.{decimal}
 use Rattle.record.specs.Spell.{dotted, spell·cell, spell·cells}
@@ -15,7 +15,7 @@ use borrow.Author.Tests.{eqb-false, eqb-true, leb-true, lt-ltb, ltb-true}
 use lib.Dec.{eqb, leb, ltb}
 use mathlib.Core.Bool.{Bool, true, false, false≢true, _&&_, _||_}
 use mathlib.Core.List.{List, [], _∷_, _++_, append-assoc, append-nil}
-use mathlib.Core.Path.{_≡_, refl, sym, ap, subst, _∙_}
+use mathlib.Core.Path.{_≡_, refl, sym, subst, _∙_}
 use native.Mathlib.Omega.{arith}
 
 -- A text is the decimal of an index.
@@ -38,12 +38,12 @@ record Cell·read (count : ℕ) (t : List ℕ) : Type 0 where
   sound : sound·cell count cell ≡ true
   spelled : spell·cell cell ≡ t
 
--- What was read and the text behind it are, together, an index of a cell or of a set.
+-- A text is an index, or indices of a set.
 abbrev Number·read : ℕ → Bool → ℕ → List ℕ → Type 0
 Number·read count false low t = Index·read count t
 Number·read count true low t = Set·read count low t
 
--- What a mode wants of the rest of the cell that is open.
+-- What the rest of the cell that is open must be, in each mode.
 abbrev Fits : ℕ → Mode → List ℕ → Type 0
 Fits count Mode.Fresh t = Cell·read count t
 Fits count Mode.Whole t = t ≡ []
@@ -51,7 +51,7 @@ Fits count (Mode.Opened low) t = Set·read count low t
 Fits count (Mode.Index set low n) t = n < count → Number·read count set low (decimal n ++ t)
 Fits count Mode.Wrong t = ⊥
 
--- The two cases of a choice.
+-- What holds of a choice holds of what was chosen, in each case.
 module _ {X R : Type 0} (P : X → Type 0) where
   either : (t : Bool) (x y : X) → P (pick t x y) → (t ≡ true → P x → R) → (t ≡ false → P y → R) → R
   unfolding pick
@@ -59,13 +59,13 @@ module _ {X R : Type 0} (P : X → Type 0) where
   either false x y h p q = q refl h
 
 module _ (count : ℕ) where
-  -- A number that ends here.
+  -- An index that is at least so large may be the last.
   number-ends : (set : Bool) (low n : ℕ) → low ≤ n → n < count → Number·read count set low (decimal n)
   unfolding rising dotted
   number-ends false low n l h = record { index = n; below = h; spelled = refl }
   number-ends true low n l h = record { first = n; more = []; least = l; rises = lt-ltb n count h; spelled = refl }
 
-  -- Where a cell may end, nothing is wanted.
+  -- Where a cell may end, its rest may be nothing.
   ends-fits : (m : Mode) → ends m ≡ true → Fits count m []
   unfolding ends
   ends-fits Mode.Fresh h = absurd (false≢true h)
@@ -75,7 +75,7 @@ module _ (count : ℕ) where
   ends-fits Mode.Wrong h = absurd (false≢true h)
 
   module _ (b : ℕ) (t : List ℕ) where
-    -- A digit: its value, and its byte.
+    -- A digit's value is below 10, and its byte is so far above `0`.
     digit-value : digit? b ≡ true → (b - 48 < 10) × (48 + (b - 48) ≡ b)
     unfolding digit?
     digit-value d =
@@ -83,6 +83,7 @@ module _ (count : ℕ) where
         let high : b ≤ 57 = leb-true b 57 (and-right (leb 48 b) _ d) in
         (omega arith, omega arith)
 
+    -- Behind the first digit of an index stands the rest of the index.
     begun-fits : (set : Bool) (low : ℕ) → digit? b ≡ true → Fits count (begun count set low b) t → Number·read count set low (b ∷ t)
     unfolding begun
     begun-fits set low d h =
@@ -93,6 +94,7 @@ module _ (count : ℕ) where
         subst (λ x. Number·read count set low (x ++ t)) e (f (ltb-true (b - 48) count small)))
         (λ big f. absurd f)
 
+    -- Behind a further digit of an index stands the rest of the index.
     grown-fits : (set : Bool) (low n : ℕ) → digit? b ≡ true → Fits count (grown count set low n b) t → Number·read count set low (decimal n ++ (b ∷ t))
     unfolding grown
     grown-fits set low n d h =
@@ -107,7 +109,7 @@ module _ (count : ℕ) where
         rw (append-assoc (decimal n) (b ∷ []) t) at (subst (λ x. Number·read count set low (x ++ t)) e (f (ltb-true m count small))))
         (λ big f. absurd f))
 
-    -- An index of a set, a dot, and the rest of the set.
+    -- Behind an index of a set and a dot stand the larger ones.
     dot-fits : (low n : ℕ) → low ≤ n → eqb b 46 ≡ true → Set·read count (n + 1) t → Set·read count low (decimal n ++ (b ∷ t))
     unfolding dotted
     dot-fits low n l e s =
@@ -120,6 +122,7 @@ module _ (count : ℕ) where
           spelled = rw (f, eqb-true b 46 e);
         }
 
+    -- Behind a byte that is read within an index stands the rest of the index, or of the set.
     index-fits : (set : Bool) (low n : ℕ) → Fits count (step·index count set low n b) t → Number·read count set low (decimal n ++ (b ∷ t))
     unfolding step·index
     index-fits set low n h =
@@ -131,7 +134,7 @@ module _ (count : ℕ) where
         subst (λ x. Number·read count x low (decimal n ++ (b ∷ t))) (sym (a .0)) (dot-fits low n (leb-true low n (a .2)) (a .1) f))
         (λ q f. absurd f))
 
-    -- The cells that begin with a byte: an index, a set, and those of one byte.
+    -- An index is a cell; `u` or `p` and a set are one; `m` or `g` alone is one.
     state-fits : Index·read count (b ∷ t) → Cell·read count (b ∷ t)
     unfolding sound·cell spell·cell
     state-fits i = record { cell = state (i .index); sound = lt-ltb (i .index) count (i .below); spelled = i .spelled }
@@ -150,6 +153,7 @@ module _ (count : ℕ) where
         by-test (eqb b 109) (λ e. record { cell = missing; sound = refl; spelled = rw (n, eqb-true b 109 e) })
         (λ o. record { cell = gap; sound = refl; spelled = rw (n, eqb-true b 103 (rw o at q)) })
 
+    -- Behind the first byte of a cell stands the rest of the cell.
     fresh-fits : Fits count (step·fresh count b) t → Cell·read count (b ∷ t)
     unfolding step·fresh
     fresh-fits h =
@@ -158,7 +162,7 @@ module _ (count : ℕ) where
         either (λ m. Fits count m t) (eqb b 117 || eqb b 112) _ _ g set-fits
         (λ p k. either (λ m. Fits count m t) (eqb b 109 || eqb b 103) _ _ k whole-fits (λ q f. absurd f)))
 
-    -- What a mode wants behind a byte of a cell, with the byte in front of it.
+    -- What may stand behind a byte of a cell may stand there with the byte in front of it.
     within-fits : (m : Mode) → Fits count (within count m b) t → Fits count m (b ∷ t)
     unfolding within step·opened
     within-fits Mode.Fresh h = fresh-fits h
@@ -172,6 +176,7 @@ unfoldable more·cells : List Cell → List ℕ
 more·cells [] = []
 more·cells (c ∷ r) = 32 ∷ spell·cells (c ∷ r)
 
+-- A row is its first cell, and a blank and the others where there are others.
 more-spelled : (c : Cell) (r : List Cell) → spell·cells (c ∷ r) ≡ spell·cell c ++ more·cells r
 unfolding spell·cells more·cells
 more-spelled c [] = sym (append-nil (spell·cell c))
@@ -206,23 +211,25 @@ module _ (count : ℕ) where
         spelled = more-spelled (c .cell) (r .cells) ∙ rw e (r .here);
       }
 
+  -- Behind a cell, a blank and a row are the rest of a row.
   blank-rest : (m : Mode) (t : List ℕ) → ends m ≡ true → Row·read count t → Rest·read count m (32 ∷ t)
   unfolding more·cells
   blank-rest m t h r =
       let e = r .spelled in
       record { rest = []; cells = r .first ∷ r .more; fits = ends-fits count m h; sound = r .sound; here = rw e }
 
+  -- A byte of a cell and the rest of a row behind it are the rest of a row.
   within-rest : (m : Mode) (b : ℕ) (t : List ℕ) → Rest·read count (within count m b) t → Rest·read count m (b ∷ t)
   within-rest m b t r =
       let e = r .here in
       record { rest = b ∷ r .rest; cells = r .cells; fits = within-fits count b (r .rest) m (r .fits); sound = r .sound; here = rw e }
 
-  -- From a wrong mode no run may end.
+  -- A run from a wrong mode comes to no place where a cell may end.
   wrong-ends : (t : List ℕ) → ends (run count Mode.Wrong t) ≡ false
   unfolding ends
   wrong-ends t = rw (run-wrong count t)
 
-  -- A run that may end is over the rest of a row.
+  -- What is run through to where a cell may end is the rest of a row.
   run-rest : (t : List ℕ) (m : Mode) → ends (run count m t) ≡ true → Rest·read count m t
   unfolding run more·cells sound·cells
   run-rest [] m h = record { rest = []; cells = []; fits = ends-fits count m h; sound = refl; here = refl }
@@ -235,5 +242,6 @@ module _ (count : ℕ) where
       (λ n. absurd (false≢true (sym (wrong-ends t) ∙ rw (blank, step-stuck count m n) at h))))
       (λ o. within-rest m b t (run-rest t (within count m b) (rw (step-within count m b o) at h)))
 
+  -- The same where a row begins.
   pub row-read : (t : List ℕ) → ends (run count Mode.Fresh t) ≡ true → Row·read count t
   row-read t h = fresh-row t (run-rest t Mode.Fresh h)

@@ -1,12 +1,12 @@
 -- A walk over the bytes of a row, and what it tells where it ends. Assumes nothing.
-use Prim.Native.Nat.{ℕ, suc, _+_, _-_, _≤_, _<_}
+use Prim.Native.Nat.{ℕ, _+_, _≤_, _<_}
 use Rattle.block.specs.Cell.{Cell}
 use Rattle.block.specs.Sound.{gap·among, sound·cells}
 use Rattle.judging.proofs.CellCounts.{blanks-append, blanks-few, cells-blanks, cells-gap}
 use Rattle.judging.proofs.CellModeLaws.{cell-unblank, run-append, step-blank}
-use Rattle.judging.proofs.CellsFit.{Row·read, row-read}
+use Rattle.judging.proofs.CellsFit.{row-read}
 use Rattle.judging.proofs.CellsRun.{cells-end}
-use Rattle.judging.specs.CellModes.{Moves, Whole, blanks, ends, row·end, run, step, step·fresh, within}
+use Rattle.judging.specs.CellModes.{Moves, Whole, blanks, ends, row·end, run, step}
 use Rattle.judging.specs.CellsJudged.{Cells·judged, Cells·stand}
 use Rattle.judging.specs.declared.cells.Cells.{Cells}
 use Rattle.judging.specs.declared.cells.Mode.{Mode}
@@ -16,10 +16,10 @@ use Rattle.lexer.proofs.ListLaws.{drop-next}
 use Rattle.lexer.specs.Base.{among, pick}
 use Rattle.record.proofs.CellLaws.{cells-clean}
 use Rattle.record.specs.Spell.{spell·cells}
-use borrow.Author.Tests.{eq-eqb, eqb-false, eqb-true, le-leb, ne-eqb}
+use borrow.Author.Tests.{eq-eqb, eqb-false, eqb-true, ne-eqb}
 use lib.Dec.{eqb}
 use lib.ListN.{length, drop, getD, length-append, drop-of-length-le}
-use mathlib.Core.Bool.{Bool, true, false, _&&_, _||_}
+use mathlib.Core.Bool.{Bool, true, false, _||_}
 use mathlib.Core.List.{List, [], _∷_, _++_, append-assoc, append-nil}
 use mathlib.Core.Path.{_≡_, refl, sym, ap, _∙_}
 use native.Mathlib.Omega.{arith}
@@ -29,10 +29,12 @@ abbrev pub row·begun : ℕ → Walk
 row·begun i = record { at = i; mode = Mode.Fresh; blanks = 0; gap = false }
 
 module _ (b : List ℕ) (count : ℕ) where
+  -- A walk over nothing.
   pub moves-none : (w : Walk) → Moves b count w w
   unfolding run blanks among
   moves-none w = record { read = []; here = refl; ahead = omega arith; mode = refl; blanks = omega arith; gap = sym (or-false (w .gap)); line = refl }
 
+  -- A walk that goes on from where another came to.
   pub moves-then : {u v w : Walk} → Moves b count u v → Moves b count v w → Moves b count u w
   moves-then {u} {v} {w} f g =
       record {
@@ -47,7 +49,7 @@ module _ (b : List ℕ) (count : ℕ) where
         line = among-append 10 (f .read) (g .read) ∙ or-both (f .line) (g .line);
       }
 
-  -- One byte more, which is no LF.
+  -- A walk over one byte, which is no LF.
   pub moves-byte : (w to : Walk) → w .at < length b → (getD b (w .at) 0 ≡ 10 → ⊥) → to .at ≡ w .at + 1 → to .mode ≡ step count (w .mode) (getD b (w .at) 0)
       → to .blanks ≡ pick (eqb (getD b (w .at) 0) 32) (w .blanks + 1) (w .blanks) → to .gap ≡ w .gap || eqb (getD b (w .at) 0) 103 → Moves b count w to
   unfolding run blanks among pick
@@ -63,7 +65,7 @@ module _ (b : List ℕ) (count : ℕ) where
         line = or-both (ne-eqb 10 x (λ e. other (sym e))) refl;
       }
 
-  -- A cell of one byte and a blank more.
+  -- A walk over a cell of one byte and a blank.
   pub moves-whole : (w : Walk) → w .at < length b → (getD b (w .at) 0 ≡ 10 → ⊥) → w .mode ≡ Mode.Fresh → Whole b (w .at) count
       → Moves b count w (record { at = w .at + 2; mode = Mode.Fresh; blanks = w .blanks + 1; gap = w .gap || eqb (getD b (w .at) 0) 103 })
   unfolding pick
@@ -75,11 +77,11 @@ module _ (b : List ℕ) (count : ℕ) where
       one : Walk
       one = record { at = w .at + 1; mode = step count (w .mode) (getD b (w .at) 0); blanks = pick (eqb (getD b (w .at) 0) 32) (w .blanks + 1) (w .blanks); gap = w .gap || eqb (getD b (w .at) 0) 103 }
 
-  -- There are no more blanks than bytes.
+  -- A walk reads no more blanks than bytes.
   pub moves-few : (i : ℕ) (w : Walk) → Moves b count (row·begun i) w → w .blanks ≤ w .at
   moves-few i w m = omega (arith, m .ahead, m .blanks, blanks-few (m .read))
 
--- Up to its first LF a text is one line.
+-- Two lines without LF are equal if what they begin, with an LF behind them, is.
 one-line : (p q r s : List ℕ) → among 10 p ≡ false → among 10 q ≡ false → p ++ (10 ∷ r) ≡ q ++ (10 ∷ s) → p ≡ q
 unfolding among
 one-line [] [] r s f g e = refl
@@ -90,16 +92,16 @@ one-line (x ∷ p) (y ∷ q) r s f g e =
     let same = one-line p q r s (or-right (eqb 10 x) (among 10 p) f) (or-right (eqb 10 y) (among 10 q) g) rest in
     cc
 
--- A line with an LF holds an LF.
+-- A text with an LF in it holds an LF.
 line-ended : (p r : List ℕ) → among 10 (p ++ (10 ∷ r)) ≡ true
 unfolding among
 line-ended p r = among-append 10 p (10 ∷ r) ∙ or-second (among 10 p) (among 10 (10 ∷ r)) refl
 
 -- An end that is told is the one that was met.
-told : (t : Bool) (x : ℕ) (h : Bool) (j : ℕ) (g : Bool) → pick t (Cells.Behind x h) Cells.Wrong ≡ Cells.Behind j g → (t ≡ true) × (x ≡ j) × (h ≡ g)
+end-told : (t : Bool) (x : ℕ) (h : Bool) (j : ℕ) (g : Bool) → pick t (Cells.Behind x h) Cells.Wrong ≡ Cells.Behind j g → (t ≡ true) × (x ≡ j) × (h ≡ g)
 unfolding pick
-told true x h j g e = (refl, (cc), (cc))
-told false x h j g e = let z : _≡_ {A = ℕ} 0 1 = cc in absurd (omega arith)
+end-told true x h j g e = (refl, (cc), (cc))
+end-told false x h j g e = let z : _≡_ {A = ℕ} 0 1 = cc in absurd (omega arith)
 
 module _ (b : List ℕ) (i characters count : ℕ) (w : Walk) (m : Moves b count (row·begun i) w) where
   -- Where an LF stands, the row ends.
@@ -107,7 +109,7 @@ module _ (b : List ℕ) (i characters count : ℕ) (w : Walk) (m : Moves b count
     row-found : (j : ℕ) (g : Bool) → row·end (w .at + 1) (w .mode) (w .blanks) (w .gap) characters ≡ Cells.Behind j g → Cells·stand b i characters count j g
     unfolding row·end
     row-found j g e =
-        let t = told _ _ _ _ _ e in
+        let t = end-told _ _ _ _ _ e in
         let good = and-left (ends (w .mode)) _ (t .0) in
         let many = eqb-true (w .blanks + 1) characters (and-right (ends (w .mode)) _ (t .0)) in
         let row = row-read count (m .read) (sym (ap ends (m .mode)) ∙ good) in

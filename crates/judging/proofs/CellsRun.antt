@@ -1,5 +1,5 @@
 -- Sound cells are run through to a mode in which a cell may end. Assumes nothing.
-use Prim.Native.Nat.{ℕ, _+_, _-_, _/_, _%_, _^_, _≤_, _<_}
+use Prim.Native.Nat.{ℕ, _+_, _≤_, _<_}
 use Rattle.block.proofs.RisingLaws.{rising-first, rising-head, rising-rest}
 use Rattle.block.specs.Cell.{Cell, state, uncertain, polymorphic, missing, gap}
 use Rattle.block.specs.Sound.{rising, sound·cell, sound·cells, sound·set}
@@ -7,30 +7,18 @@ use Rattle.judging.proofs.CellModeLaws.{begun-digit, digit-byte, digit-
 use Rattle.judging.proofs.DecimalEnds.{by-digits, decimal-one, decimal-snoc}
 use Rattle.judging.specs.CellModes.{begun, digit?, ends, run, step, step·fresh, step·index, step·opened, within}
 use Rattle.judging.specs.declared.cells.Mode.{Mode}
-use Rattle.lexer.proofs.Basics.{all-under, and-left, and-right, by-test, or-false, under-at}
+use Rattle.lexer.proofs.Basics.{and-left, and-right}
 use Rattle.lexer.specs.Base.{empty?, pick}
 use Rattle.record.specs.Decimal.{decimal}
 use Rattle.record.specs.Spell.{dotted, spell·cell, spell·cells}
-use borrow.Author.Tests.{eqb-false, eqb-true, le-leb, lt-leb, lt-ltb, ltb-false, ltb-true}
-use lib.Dec.{eqb, leb, ltb}
-use mathlib.Core.Bool.{Bool, true, false, false≢true, _&&_, _||_}
-use mathlib.Core.List.{List, [], _∷_, _++_}
-use mathlib.Core.Path.{_≡_, refl, sym, ap, _∙_}
+use borrow.Author.Tests.{le-leb, lt-ltb, ltb-true}
+use mathlib.Core.Bool.{Bool, true, false, false≢true}
+use mathlib.Core.List.{List, [], _∷_}
+use mathlib.Core.Path.{_≡_, refl, ap, _∙_}
 use native.Mathlib.Omega.{arith}
 
--- The bits that are set in the number of the bytes that are cells.
-abbrev single·bytes : ℕ
-single·bytes = 2341871806232658943
-
-single-bits : (d : ℕ) → d < 64 → eqb (single·bytes / 2 ^ d % 2) 0 || leb d 9 || eqb d 55 || eqb d 61 ≡ true
-unfolding all-under
-single-bits d h = under-at (λ k. eqb (single·bytes / 2 ^ k % 2) 0 || leb k 9 || eqb k 55 || eqb k 61) 64 d refl h
-
-single-other : (d : ℕ) → d < 64 → 9 < d → eqb d 55 ≡ false → eqb d 61 ≡ false → single·bytes / 2 ^ d % 2 ≡ 0
-single-other d h big o p = eqb-true _ 0 (sym (or-false _) ∙ sym (or-false _) ∙ sym (or-false _) ∙ rw (lt-leb d 9 big, o, p) at (single-bits d h))
-
 module _ (count : ℕ) where
-  -- A decimal below the count, from a mode in which an index may begin.
+  -- A decimal below the count, from a mode in which an index may begin, leads to the mode of its value.
   module _ (set : Bool) (low : ℕ) (m : Mode) (first : (d : ℕ) → d < 10 → step count m (48 + d) ≡ begun count set low (48 + d)) where
     index-run : (n : ℕ) → n < count → run count m (decimal n) ≡ Mode.Index set low n
     unfolding run
@@ -41,7 +29,7 @@ module _ (count : ℕ) where
         ap (run count m) (decimal-snoc n d some one) ∙ run-append count m (decimal n) ((48 + d) ∷ [])
         ∙ rw (so (omega arith)) (grown-digit count set low n d some one h))
 
-  -- Where a cell begins, and where an index of a set begins.
+  -- The same where a cell begins, and where an index of a set begins.
   plain-run : (n : ℕ) → n < count → run count Mode.Fresh (decimal n) ≡ Mode.Index false 0 n
   unfolding within step·fresh pick
   plain-run = index-run false 0 Mode.Fresh (λ d one. step-within count Mode.Fresh (48 + d) (digit-other d 32 (omega arith)) ∙ rw (digit-byte d one))
@@ -50,12 +38,12 @@ module _ (count : ℕ) where
   unfolding within step·opened pick
   member-run low = index-run true low (Mode.Opened low) (λ d one. step-within count (Mode.Opened low) (48 + d) (digit-other d 32 (omega arith)) ∙ rw (digit-byte d one))
 
-  -- The dot behind an index of a set.
+  -- Behind an index of a set and a dot, a larger one is to begin.
   dot-step : (low i : ℕ) → low ≤ i → i < count → step count (Mode.Index true low i) 46 ≡ Mode.Opened (i + 1)
   unfolding step within step·index digit? pick
   dot-step low i l h = rw (le-leb low i l, lt-ltb i count h)
 
-  -- A set whose indices rise from a least one on.
+  -- Over a set whose indices rise from a least one on, a run comes to where a cell may end.
   set-ends : (low i : ℕ) (r : List ℕ) → low ≤ i → rising count (i ∷ r) ≡ true → ends (run count (Mode.Opened low) (dotted (i ∷ r))) ≡ true
   unfolding dotted ends
   set-ends low i [] l h = rw (member-run low i (rising-first count i [] h)) (le-leb low i l)
@@ -65,13 +53,14 @@ module _ (count : ℕ) where
       rw (run-then count (Mode.Opened low) (decimal i) 46 (dotted (j ∷ r)), member-run low i small, dot-step low i l small)
       (set-ends (i + 1) j r (omega arith) (rising-rest count i (j ∷ r) h))
 
+  -- A sound set.
   some-set-ends : (s : List ℕ) → sound·set count s ≡ true → ends (run count (Mode.Opened 0) (dotted s)) ≡ true
   unfolding sound·set empty?
   some-set-ends [] h = absurd (false≢true h)
   some-set-ends (i ∷ r) h = set-ends 0 i r (omega arith) h
 
-  -- A cell.
-  cell-ends : (c : Cell) → sound·cell count c ≡ true → ends (run count Mode.Fresh (spell·cell c)) ≡ true
+  -- A sound cell.
+  pub cell-ends : (c : Cell) → sound·cell count c ≡ true → ends (run count Mode.Fresh (spell·cell c)) ≡ true
   unfolding sound·cell spell·cell ends run step within step·fresh digit? pick
   cell-ends (state i) h = rw (plain-run i (ltb-true i count h)) (le-leb 0 i (omega arith))
   cell-ends (uncertain s) h = some-set-ends s h
@@ -79,30 +68,7 @@ module _ (count : ℕ) where
   cell-ends missing h = refl
   cell-ends gap h = refl
 
-  -- A byte that is a cell: a digit below the count, `m` or `g`.
-  digit-ends : (d : ℕ) → d < 10 → d < count → ends (step count Mode.Fresh (48 + d)) ≡ true
-  unfolding sound·cell spell·cell run
-  digit-ends d one h = rw (decimal-one d one) at (cell-ends (state d) (lt-ltb d count h))
-
-  letter-ends : (b x : ℕ) → 48 ≤ b → eqb (b - 48) x ≡ true → ends (step count Mode.Fresh (48 + x)) ≡ true → ends (step count Mode.Fresh b) ≡ true
-  letter-ends b x low e h =
-      let value : 48 + x ≡ b = omega (arith, eqb-true (b - 48) x e) in
-      rw value at h
-
-  pub byte-ends : (b v : ℕ) → 48 ≤ b → b - 48 ≤ 63 → (single·bytes / 2 ^ (b - 48) % 2 ≡ 0 → ⊥) → v ≡ pick (ltb 9 (b - 48)) 0 (b - 48) → v < count → ends (step count Mode.Fresh b) ≡ true
-  unfolding sound·cell spell·cell run pick
-  byte-ends b v low high bit e small =
-      let d = b - 48 in
-      by-test (ltb 9 d)
-      (λ big.
-      by-test (eqb d 55) (λ g. letter-ends b 55 low g (cell-ends gap refl))
-      (λ o. by-test (eqb d 61) (λ m. letter-ends b 61 low m (cell-ends missing refl)) (λ p. absurd (bit (single-other d (omega arith) (ltb-true 9 d big) o p)))))
-      (λ few.
-      let one : d ≤ 9 = ltb-false 9 d few in
-      let value : 48 + d ≡ b = omega arith in
-      rw value at (digit-ends d (omega arith) (rw (e, few) at small)))
-
-  -- Cells parted by blanks.
+  -- Sound cells parted by blanks.
   pub cells-end : (c : Cell) (r : List Cell) → sound·cells count (c ∷ r) ≡ true → ends (run count Mode.Fresh (spell·cells (c ∷ r))) ≡ true
   unfolding sound·cells spell·cells
   cells-end c [] h = cell-ends c (and-left _ true h)

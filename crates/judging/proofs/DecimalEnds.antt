@@ -36,6 +36,7 @@ decimal-one (suc n) h =
     let e : suc n % 10 ≡ suc n = omega arith in
     rw (lt-ltb (suc n) 10 h, e)
 
+-- The last digit of a number of several digits is put first.
 from-several : (n : ℕ) → 10 ≤ suc n → decimal (suc n) ≡ decimal·from n (suc n / 10) (digit (suc n) ∷ [])
 unfolding decimal decimal·from pick
 from-several n h = rw (le-ltb (suc n) 10 h)
@@ -45,6 +46,7 @@ decimal-last : (n : ℕ) → 10 ≤ n → decimal n ≡ decimal (n / 10) ++ (dig
 decimal-last zero h = absurd (omega arith)
 decimal-last (suc n) h = from-several n h ∙ from-decimal n n (suc n / 10) (digit (suc n) ∷ []) (omega arith) (omega arith)
 
+-- A number with a digit more is spelled with that digit behind it.
 pub decimal-snoc : (n d : ℕ) → 1 ≤ n → d < 10 → decimal (n * 10 + d) ≡ decimal n ++ ((48 + d) ∷ [])
 unfolding digit
 decimal-snoc n d some small =

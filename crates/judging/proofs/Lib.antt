@@ -1,6 +1,7 @@
 -- What other crates may cite: laws of judging parts of a record, one behind another.
 pub mod JudgeLaws
 -- What the proofs of this crate alone rest on.
+mod CellBytes
 mod CellCounts
 mod CellModeLaws
 mod CellsFit
@@ -10,6 +11,7 @@ mod DecimalEnds
 mod EscapedLines
 mod HollowTexts
 mod KeyLaws
+mod ModeTags
 mod NameJudged
 mod NameRests
 mod NumberLaws

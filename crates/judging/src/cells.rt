@@ -15,13 +15,13 @@ pub enum Cells {
     Wrong,
 }
 
-// What was read of the cell that is open: nothing yet; `m` or `g`; a set up to where an index of it, at least so large, is to begin; an index up to
-// its value so far, whether it is a set's, and how large it must be at least. Or no cell begins so.
+// What was read of the cell that is open: nothing yet; a set up to where an index of it, at least so large, is to begin; an index, whether it is a
+// set's, how large it must be at least, and its value so far; `m` or `g`. Or no cell begins so.
 pub enum Mode {
     Fresh,
-    Whole,
     Opened(usize),
     Index(bool, usize, usize),
+    Whole,
     Wrong,
 }
 
@@ -41,11 +41,9 @@ fn ends_cell(mode: Mode) -> bool
     ensures { λ r. ⌜ r ≡ ends mode ⌝ }
 {
     match mode {
-        Mode::Fresh => false,
-        Mode::Whole => true,
-        Mode::Opened(_) => false,
         Mode::Index(_, low, n) => low <= n,
-        Mode::Wrong => false,
+        Mode::Whole => true,
+        _ => false,
     }
 }
 
@@ -137,10 +135,9 @@ fn cell_step(mode: Mode, b: u8, symbols: usize) -> Mode
     }
     match mode {
         Mode::Fresh => fresh_step(b, symbols),
-        Mode::Whole => Mode::Wrong,
         Mode::Opened(low) => opened_step(low, b, symbols),
         Mode::Index(set, low, n) => index_step(set, low, n, b, symbols),
-        Mode::Wrong => Mode::Wrong,
+        _ => Mode::Wrong,
     }
 }
 
@@ -150,10 +147,7 @@ fn is_fresh(mode: Mode) -> bool
 {
     match mode {
         Mode::Fresh => true,
-        Mode::Whole => false,
-        Mode::Opened(_) => false,
-        Mode::Index(_, _, _) => false,
-        Mode::Wrong => false,
+        _ => false,
     }
 }
 
@@ -167,7 +161,8 @@ fn index_of(d: u8) -> usize
     d as usize
 }
 
-// Is the byte a cell: a digit below the count of symbols, `m` or `g`? A byte at most 63 above `0` is looked up among the bits of a number.
+// Is the byte a cell: a digit below the count of symbols, `m` or `g`? With no symbols, no byte is said to be one. A byte at most 63 above `0` is
+// looked up among the bits of a number.
 fn is_whole(b: u8, symbols: usize) -> bool
     ensures { λ r. ⌜ (r ≡ true → ends (step symbols Mode.Fresh b) ≡ true) ⌝ }
 {

@@ -1,12 +1,13 @@
 -- The function `cell_step` meets its contract, mode by mode. Assumes nothing.
 use Rattle.judging.proofs.CellModeLaws.{step-known}
+use Rattle.judging.proofs.ModeTags.{tags-closed}
 use Rattle.judging.proofs.cells.cell_step.Statement.{statement}
 use Rattle.judging.proofs.cells.cell_step.Tie as tie
 use Rattle.judging.specs.CellModes.{step, within}
 use Rattle.lexer.specs.Base.{pick}
 use borrow.Author.Needs.{needs}
 use borrow.Author.Tests.{eq-eqb}
-use mathlib.Core.Path.{refl}
+use mathlib.Core.Path.{refl, sym}
 
 next-cell-requires : tie.Need-next-cell-requires
 next-cell-requires c κs = search needs
@@ -21,9 +22,6 @@ enum-told c = search needs
 fresh-step-requires : tie.Need-fresh-step-requires
 fresh-step-requires c κs = search needs
 
-enum-told-2 : tie.Need-enum-told-2
-enum-told-2 c = search needs
-
 enum-known-mode : tie.Need-enum-known-mode
 enum-known-mode c = search needs
 
@@ -36,28 +34,20 @@ enum-known-mode-2 c = search needs
 index-step-requires : tie.Need-index-step-requires
 index-step-requires c κs = search needs
 
-enum-told-3 : tie.Need-enum-told-3
-enum-told-3 c = search needs
-
 returns-2 : tie.Need-returns-2
 unfolding within
 returns-2 c = step-known _ _ (c .before .before .before .if1 .left) (c .before .enum-told .given .1) (c .fresh-step .ensures)
 
 returns-3 : tie.Need-returns-3
 unfolding within
-returns-3 c = step-known _ _ (c .before .before .if1 .left) (c .enum-told2 .given .1) refl
+returns-3 c = step-known _ _ (c .before .before .before .before .if1 .left) (c .before .before .mode .given .1) (c .opened-step .ensures)
 
 returns-4 : tie.Need-returns-4
 unfolding within
-returns-4 c = step-known _ _ (c .before .before .before .before .if1 .left) (c .before .before .mode .given .1) (c .opened-step .ensures)
+returns-4 c = step-known _ _ (c .before .before .before .before .if1 .left) (c .before .before .mode2 .given .1) (c .index-step .ensures)
 
 returns-5 : tie.Need-returns-5
-unfolding within
-returns-5 c = step-known _ _ (c .before .before .before .before .if1 .left) (c .before .before .mode2 .given .1) (c .index-step .ensures)
-
-returns-6 : tie.Need-returns-6
-unfolding within
-returns-6 c = step-known _ _ (c .before .before .if1 .left) (c .enum-told3 .given .1) refl
+returns-5 c = step-known _ _ (c .before .if1 .left) refl (sym (tags-closed _ _ _ (c .match .keys4)))
 
 pub cell-step-spec : {M : Type 1} → statement M
 cell-step-spec =
@@ -67,14 +57,11 @@ cell-step-spec =
     returns
     enum-told
     fresh-step-requires
-    enum-told-2
     enum-known-mode
     opened-step-requires
     enum-known-mode-2
     index-step-requires
-    enum-told-3
     returns-2
     returns-3
     returns-4
-    returns-5
-    returns-6)
+    returns-5)

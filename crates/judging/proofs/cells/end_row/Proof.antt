@@ -2,7 +2,6 @@
 use Rattle.judging.proofs.CellModeLaws.{row-end-none, row-end-some}
 use Rattle.judging.proofs.cells.end_row.Statement.{statement}
 use Rattle.judging.proofs.cells.end_row.Tie as tie
-use Rattle.judging.specs.CellModes.{row·end}
 use Rattle.lexer.specs.Base.{pick}
 use borrow.Author.Needs.{needs}
 use mathlib.Core.Path.{sym}

@@ -3,10 +3,7 @@ use Rattle.judging.proofs.CellModeLaws.{digit-low}
 use Rattle.judging.proofs.cells.fresh_step.Statement.{statement}
 use Rattle.judging.proofs.cells.fresh_step.Tie as tie
 use Rattle.judging.specs.CellModes.{digit?, step·fresh}
-use Rattle.lexer.proofs.Basics.{and-left}
 use Rattle.lexer.specs.Base.{pick}
-use borrow.Author.Tests.{leb-true}
-use lib.Dec.{leb}
 
 begin-index-requires : tie.Need-begin-index-requires
 unfolding digit?

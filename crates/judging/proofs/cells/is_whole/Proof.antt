@@ -1,5 +1,5 @@
 -- The function `is_whole` meets its contract. Assumes nothing.
-use Rattle.judging.proofs.CellsRun.{byte-ends}
+use Rattle.judging.proofs.CellBytes.{byte-ends}
 use Rattle.judging.proofs.cells.is_whole.Statement.{statement}
 use Rattle.judging.proofs.cells.is_whole.Tie as tie
 use borrow.Author.Needs.{needs}
