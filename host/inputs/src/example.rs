@@ -31,3 +31,15 @@ label=
 order=UNORD
 states=0
 ";
+
+/// Its written form.
+pub const FORM: &str = "#NEXUS
+BEGIN DATA;
+DIMENSIONS NTAX=2 NCHAR=3;
+FORMAT DATATYPE=STANDARD RESPECTCASE MISSING=! SYMBOLS=\"01\";
+MATRIX
+'a_b' 0{01}!
+'C' 1(1)0
+;
+END;
+";
