@@ -15,5 +15,6 @@ mod ModeTags
 mod NameJudged
 mod NameRests
 mod NumberLaws
+mod TellLaws
 mod Utf8Bytes
 mod WideBlanks

@@ -4,3 +4,5 @@ pub mod NameRest
 pub mod CellModes
 pub mod CellsJudged
 pub mod Numbers
+pub mod Shapes
+pub mod Tells

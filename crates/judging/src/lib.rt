@@ -5,6 +5,9 @@ mod keys;
 mod names;
 mod numbers;
 
+use block::CharacterNumber;
+use block::DataType;
+use block::TaxonNumber;
 pub use cells::Cells;
 pub use cells::cells_line;
 pub use keys::key_at;
@@ -17,5 +20,26 @@ pub use numbers::number_line;
 // Where a part of a record ends, or that there is none.
 pub enum Behind {
     At(usize),
+    Wrong,
+}
+
+// What a record has, and where its parts stand: the type of its data; how many taxa, characters and states; where its symbols, its rows and the lines
+// of its characters begin; whether a cell is a gap, whether a character has a label or a state label, and whether one is ordered.
+pub struct Shape {
+    pub data_type: DataType,
+    pub taxa: TaxonNumber,
+    pub characters: CharacterNumber,
+    pub states: usize,
+    pub symbols: usize,
+    pub rows: usize,
+    pub lines: usize,
+    pub gaps: bool,
+    pub labelled: bool,
+    pub ordered: bool,
+}
+
+// What bytes are: a record of a shape, or none.
+pub enum Judged {
+    Record(Shape),
     Wrong,
 }
