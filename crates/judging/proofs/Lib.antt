@@ -11,10 +11,12 @@ mod DecimalEnds
 mod EscapedLines
 mod HollowTexts
 mod KeyLaws
+mod ListTold
 mod ModeTags
 mod NameJudged
 mod NameRests
 mod NumberLaws
+mod RowsTold
 mod TellLaws
 mod Utf8Bytes
 mod WideBlanks

@@ -1,7 +1,7 @@
 -- Laws of judging parts of which something is told: where nothing stands, a part made of another, a part that must pass a test besides, and a part
 -- behind another, which may depend on what is told of the first. Assumes nothing.
 use Prim.Native.Nat.{ℕ, _+_}
-use Rattle.judging.proofs.JudgeLaws.{drop-behind}
+use Rattle.judging.proofs.JudgeLaws.{drop-behind, wrong-no-end}
 use Rattle.judging.specs.Judges.{Stands, Judges}
 use Rattle.judging.specs.Tells.{Part, nothing, until, Tells, behind·of}
 use Rattle.judging.specs.declared.Behind.{Behind}
@@ -9,7 +9,7 @@ use Rattle.lexer.proofs.Basics.{not-both}
 use lib.ListN.{length, drop, length-append}
 use mathlib.Core.Bool.{Bool, true, false}
 use mathlib.Core.List.{List, [], _++_, append-assoc}
-use mathlib.Core.Path.{_≡_, refl, sym, ap, _∙_}
+use mathlib.Core.Path.{_≡_, refl, sym, ap, _∙_, subst}
 use native.Mathlib.Omega.{arith}
 
 -- Where nothing stands there is no end.
@@ -28,6 +28,11 @@ module _ {A T : Type 0} (b : List ℕ) (i : ℕ) (good : A → Type 0) (spelled 
   -- Where the answer is none, nothing good stands.
   pub tells-nothing : Tells b i good spelled tell nothing → (what : A) (rest : List ℕ) → good what → drop i b ≡ spelled what ++ rest → ⊥
   tells-nothing told what rest g e = no-end (told .all what rest g e)
+
+  -- What is told is told of all that stands there.
+  pub tells-value : (j : ℕ) (v : T) → Tells b i good spelled tell (until j v) → (what : A) (rest : List ℕ) → good what → drop i b ≡ spelled what ++ rest
+      → v ≡ tell what
+  tells-value j v told what rest g e = same-told (told .all what rest g e) .1
 
 -- A part of which nothing is told but its end.
 pub tells-end : {A : Type 0} (b : List ℕ) (i : ℕ) (good : A → Type 0) (spelled : A → List ℕ) (r : Behind) → Judges b i good spelled r
@@ -85,26 +90,39 @@ module _ {A B T W : Type 0} (b : List ℕ) (i : ℕ) {good : A → Type 0} {spel
       tells-none b i more whole say
       (λ w rest g e. let (a, h, same) = maker w g in no-end (told .all a rest h ((rw same at e) ∙ ap (λ l. l ++ rest) (spells a))))
 
--- A part that must pass a test of what is told of it.
-module _ {A T : Type 0} (b : List ℕ) (i : ℕ) (good : A → Type 0) (spelled : A → List ℕ) (tell : A → T) (test : T → Bool) where
+-- A part that is made of another, of which the same is told.
+module _ {A B T : Type 0} (b : List ℕ) (i : ℕ) {good : A → Type 0} {spelled : A → List ℕ} {tell : A → T}
+    (more : B → Type 0) (whole : B → List ℕ) (say : B → T) (made : A → B)
+    (spells : (a : A) → whole (made a) ≡ spelled a)
+    (good-made : (a : A) → good a → more (made a))
+    (tells : (a : A) → good a → say (made a) ≡ tell a)
+    (maker : (w : B) → more w → (a : A) × good a × (w ≡ made a)) where
+  pub tells-same : (r : Part T) → Tells b i good spelled tell r → Tells b i more whole say r
+  tells-same nothing told = tells-as-none b i more whole say made (λ v. v) spells good-made tells maker told
+  tells-same (until j v) told = tells-as b i more whole say made (λ v. v) spells good-made tells maker j v told
+
+-- A part that must pass a test besides.
+module _ {A T : Type 0} (b : List ℕ) (i : ℕ) (good : A → Type 0) (spelled : A → List ℕ) (tell : A → T) (test : A → Bool) where
   abbrev pub Tested : A → Type 0
-  Tested a = good a × (test (tell a) ≡ true)
+  Tested a = good a × (test a ≡ true)
+
+  -- What stands there passes the test, or does not.
+  abbrev pub Found : Bool → Type 0
+  Found answer = (a : A) (rest : List ℕ) → good a → drop i b ≡ spelled a ++ rest → test a ≡ answer
 
   -- It passes.
-  pub tells-passed : (j : ℕ) (v : T) → test v ≡ true → Tells b i good spelled tell (until j v) → Tells b i Tested spelled tell (until j v)
-  tells-passed j v passed told = record { found = found; all = λ what rest g e. told .all what rest (g .0) e }
+  pub tells-passed : Found true → (r : Part T) → Tells b i good spelled tell r → Tells b i Tested spelled tell r
+  tells-passed passed r told = record { found = found; all = λ what rest g e. told .all what rest (g .0) e }
     where
-      found : (k : ℕ) (w : T) → until j v ≡ until k w → (s : Stands b i Tested spelled k) × (w ≡ tell (s .what))
+      found : (k : ℕ) (w : T) → r ≡ until k w → (s : Stands b i Tested spelled k) × (w ≡ tell (s .what))
       found k w e =
           let (s, is) = told .found k w e in
-          let ok : test (tell (s .what)) ≡ true = ap test (sym is ∙ sym (same-told e .1)) ∙ passed in
+          let ok : test (s .what) ≡ true = passed (s .what) (drop k b) (s .sound) (s .here) in
           (record { what = s .what; sound = (s .sound, ok); here = s .here; end = s .end }, is)
 
   -- It fails.
-  pub tells-failed : (j : ℕ) (v : T) → test v ≡ false → Tells b i good spelled tell (until j v) → Tells b i Tested spelled tell nothing
-  tells-failed j v failed told =
-      tells-none b i Tested spelled tell
-      (λ a rest g e. not-both (ap test (sym (same-told (told .all a rest (g .0) e) .1)) ∙ failed) (g .1))
+  pub tells-failed : Found false → Tells b i Tested spelled tell nothing
+  tells-failed failed = tells-none b i Tested spelled tell (λ a rest g e. not-both (failed a rest (g .0) e) (g .1))
 
   -- There is none.
   pub tells-untested : Tells b i good spelled tell nothing → Tells b i Tested spelled tell nothing
@@ -156,3 +174,22 @@ module _ {A B T W : Type 0} (b : List ℕ) (i : ℕ) (good : A → Type 0) (spel
           rw (← is) (second .all y rest (rw (sym is) at h) (rw (sym is) at behind)) in
           let sum : k + length (spelled' (tell x) y) ≡ i + length (joined (x, y)) = simp length-append (omega (arith, end)) in
           last ∙ ap (λ n. until n (tell' (tell x) y)) sum
+
+-- A part behind a key.
+module _ {A T : Type 0} (b : List ℕ) (i : ℕ) (key : List ℕ) (good : A → Type 0) (spelled : A → List ℕ) (tell : A → T) (r : Behind)
+    (judged : Judges b i (λ (u : Unit {0}). Unit {0}) (λ u. key) r) where
+  -- The key stands there: it is judged as what stands behind it.
+  pub tells-keyed : (j : ℕ) → r ≡ Behind.At j → (s : Part T) → Tells b j good spelled tell s → Tells b i good (λ a. key ++ spelled a) tell s
+  unfolding behind·of
+  tells-keyed j here s told =
+      tells-same b i good (λ a. key ++ spelled a) tell (λ (p : Unit {0} × A). p .1) (λ p. refl) (λ p g. g .1) (λ p g. refl) (λ a g. ((tt, a), (tt, g), refl)) s
+      (tells-then b i (λ u. Unit {0}) (λ u. key) (λ u. tt) (λ v. good) (λ v. spelled) (λ v. tell) j tt s first told)
+    where
+      first : Tells b i (λ (u : Unit {0}). Unit {0}) (λ u. key) (λ u. tt {0}) (until j (tt {0}))
+      first = subst (λ a. Tells b i (λ (u : Unit {0}). Unit {0}) (λ u. key) (λ u. tt) (behind·of a)) here (tells-end b i _ _ r judged)
+
+  -- It does not: there is none.
+  pub tells-no-key : r ≡ Behind.Wrong → Tells b i good (λ a. key ++ spelled a) tell nothing
+  tells-no-key none =
+      tells-none b i good (λ a. key ++ spelled a) tell
+      (λ a rest g e. wrong-no-end _ (sym none ∙ judged .all tt (spelled a ++ rest) tt (e ∙ append-assoc key (spelled a) rest)))

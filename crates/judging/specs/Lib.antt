@@ -6,3 +6,5 @@ pub mod CellsJudged
 pub mod Numbers
 pub mod Shapes
 pub mod Tells
+pub mod Lists
+pub mod Parts

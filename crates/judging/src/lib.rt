@@ -4,6 +4,7 @@ mod cells;
 mod keys;
 mod names;
 mod numbers;
+mod rows;
 
 use block::CharacterNumber;
 use block::DataType;
@@ -16,6 +17,7 @@ pub use names::name_line;
 pub use numbers::Number;
 pub use numbers::decimal_at;
 pub use numbers::number_line;
+pub use rows::row_lines;
 
 // Where a part of a record ends, or that there is none.
 pub enum Behind {

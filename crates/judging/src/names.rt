@@ -15,6 +15,7 @@ ghost use mathlib.Core.Bool.{true, false};
 ghost use mathlib.Core.List.{List, [], _∷_, _++_};
 ghost use mathlib.Core.Path.{_≡_};
 use super::Behind;
+use super::keys::key_at;
 
 // What is open behind some bytes of a name: so many bytes of a character, the next of them from low to high; and whether all so far is White_Space
 // with no U+0020 in it.
@@ -207,4 +208,14 @@ pub fn label_line(source: &[u8], i: usize) -> Behind
         return Behind::At(i + 1);
     }
     name_line(source, i)
+}
+
+// A line of a key and a name: where it ends, or that there is none.
+pub fn keyed_name(source: &[u8], i: usize, key: &[u8]) -> Behind
+    ensures { λ r. ⌜ Judges (now (source .entry)) i (λ n. sound·name n ≡ true) (λ n. now (key .entry) ++ (escaped n ++ (10 ∷ []))) r ⌝ }
+{
+    match key_at(source, i, key) {
+        Behind::At(j) => name_line(source, j),
+        Behind::Wrong => Behind::Wrong,
+    }
 }
