@@ -7,10 +7,12 @@ mod CellModeLaws
 mod CellsFit
 mod CellsJudged
 mod CellsRun
+mod CharactersTold
 mod DecimalEnds
 mod EscapedLines
 mod HollowTexts
 mod KeyLaws
+mod LinesTold
 mod ListTold
 mod ModeTags
 mod NameJudged

@@ -92,7 +92,7 @@ module _ (b : List ℕ) (characters states : ℕ) where
     unfolding spell·row row·gap line taxon
     as-row =
         tells-same b i (Row·good characters states) spell·row row·gap taxon
-        (λ p. line-behind "name=" (escaped (p .0)) (line "cells=" (spell·cells (p .1)) []))
+        (λ p g. line-behind "name=" (escaped (p .0)) (line "cells=" (spell·cells (p .1)) []))
         (λ p g. record { name = g .0; cells = g .1 .0; long = g .1 .1 })
         (λ p g. refl)
         (λ t g. ((t .name, t .cells), (g .name, (g .cells, g .long)), refl))

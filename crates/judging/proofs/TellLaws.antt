@@ -58,7 +58,7 @@ tells-judges {A} b i good spelled r told = record { found = λ j e. told .found 
 -- A part that is made of another: spelled alike, good alike, and told of alike.
 module _ {A B T W : Type 0} (b : List ℕ) (i : ℕ) {good : A → Type 0} {spelled : A → List ℕ} {tell : A → T}
     (more : B → Type 0) (whole : B → List ℕ) (say : B → W) (made : A → B) (turn : T → W)
-    (spells : (a : A) → whole (made a) ≡ spelled a)
+    (spells : (a : A) → good a → whole (made a) ≡ spelled a)
     (good-made : (a : A) → good a → more (made a))
     (tells : (a : A) → good a → say (made a) ≡ turn (tell a))
     (maker : (w : B) → more w → (a : A) × good a × (w ≡ made a)) where
@@ -71,16 +71,16 @@ module _ {A B T W : Type 0} (b : List ℕ) (i : ℕ) {good : A → Type 0} {spel
           let (s, is) = told .found j v refl in
           let a = s .what in
           let (jk, vw) = same-told e in
-          let stands : drop i b ≡ whole (made a) ++ drop k b = rw (spells a, sym jk) (s .here) in
-          let end : k ≡ i + length (whole (made a)) = rw (spells a, sym jk) (s .end) in
+          let stands : drop i b ≡ whole (made a) ++ drop k b = rw (spells a (s .sound), sym jk) (s .here) in
+          let end : k ≡ i + length (whole (made a)) = rw (spells a (s .sound), sym jk) (s .end) in
           (record { what = made a; sound = good-made a (s .sound); here = stands; end = end }, sym vw ∙ ap turn is ∙ sym (tells a (s .sound)))
 
       all : (w : B) (rest : List ℕ) → more w → drop i b ≡ whole w ++ rest → until j (turn v) ≡ until (i + length (whole w)) (say w)
       all w rest g e =
           let (a, h, same) = maker w g in
-          let stands : drop i b ≡ spelled a ++ rest = (rw same at e) ∙ ap (λ l. l ++ rest) (spells a) in
+          let stands : drop i b ≡ spelled a ++ rest = (rw same at e) ∙ ap (λ l. l ++ rest) (spells a h) in
           let (end, is) = same-told (told .all a rest h stands) in
-          let far : j ≡ i + length (whole w) = rw (same, spells a) end in
+          let far : j ≡ i + length (whole w) = rw (same, spells a h) end in
           let said : turn v ≡ say w = ap turn is ∙ sym (tells a h) ∙ ap say (sym same) in
           rw (far, said) refl
 
@@ -88,18 +88,33 @@ module _ {A B T W : Type 0} (b : List ℕ) (i : ℕ) {good : A → Type 0} {spel
   pub tells-as-none : Tells b i good spelled tell nothing → Tells b i more whole say nothing
   tells-as-none told =
       tells-none b i more whole say
-      (λ w rest g e. let (a, h, same) = maker w g in no-end (told .all a rest h ((rw same at e) ∙ ap (λ l. l ++ rest) (spells a))))
+      (λ w rest g e. let (a, h, same) = maker w g in no-end (told .all a rest h ((rw same at e) ∙ ap (λ l. l ++ rest) (spells a h))))
 
 -- A part that is made of another, of which the same is told.
 module _ {A B T : Type 0} (b : List ℕ) (i : ℕ) {good : A → Type 0} {spelled : A → List ℕ} {tell : A → T}
     (more : B → Type 0) (whole : B → List ℕ) (say : B → T) (made : A → B)
-    (spells : (a : A) → whole (made a) ≡ spelled a)
+    (spells : (a : A) → good a → whole (made a) ≡ spelled a)
     (good-made : (a : A) → good a → more (made a))
     (tells : (a : A) → good a → say (made a) ≡ tell a)
     (maker : (w : B) → more w → (a : A) × good a × (w ≡ made a)) where
   pub tells-same : (r : Part T) → Tells b i good spelled tell r → Tells b i more whole say r
   tells-same nothing told = tells-as-none b i more whole say made (λ v. v) spells good-made tells maker told
   tells-same (until j v) told = tells-as b i more whole say made (λ v. v) spells good-made tells maker j v told
+
+-- Something else told of the same part: what it is, it is of all that stands there.
+module _ {A T W : Type 0} (b : List ℕ) (i : ℕ) (good : A → Type 0) (spelled : A → List ℕ) (tell : A → T) (say : A → W) where
+  pub tells-retold : (j : ℕ) (v : T) (w : W) → ((a : A) (rest : List ℕ) → good a → drop i b ≡ spelled a ++ rest → w ≡ say a)
+      → Tells b i good spelled tell (until j v) → Tells b i good spelled say (until j w)
+  tells-retold j v w is told = record { found = found; all = all }
+    where
+      found : (k : ℕ) (x : W) → until j w ≡ until k x → (s : Stands b i good spelled k) × (x ≡ say (s .what))
+      found k x e =
+          let (jk, wx) = same-told e in
+          let (s, _) = told .found k v (ap (λ n. until n v) jk) in
+          (s, sym wx ∙ is (s .what) (drop k b) (s .sound) (s .here))
+
+      all : (a : A) (rest : List ℕ) → good a → drop i b ≡ spelled a ++ rest → until j w ≡ until (i + length (spelled a)) (say a)
+      all a rest g e = rw (same-told (told .all a rest g e) .0, is a rest g e) refl
 
 -- A part that must pass a test besides.
 module _ {A T : Type 0} (b : List ℕ) (i : ℕ) (good : A → Type 0) (spelled : A → List ℕ) (tell : A → T) (test : A → Bool) where
@@ -182,7 +197,7 @@ module _ {A T : Type 0} (b : List ℕ) (i : ℕ) (key : List ℕ) (good : A → 
   pub tells-keyed : (j : ℕ) → r ≡ Behind.At j → (s : Part T) → Tells b j good spelled tell s → Tells b i good (λ a. key ++ spelled a) tell s
   unfolding behind·of
   tells-keyed j here s told =
-      tells-same b i good (λ a. key ++ spelled a) tell (λ (p : Unit {0} × A). p .1) (λ p. refl) (λ p g. g .1) (λ p g. refl) (λ a g. ((tt, a), (tt, g), refl)) s
+      tells-same b i good (λ a. key ++ spelled a) tell (λ (p : Unit {0} × A). p .1) (λ p g. refl) (λ p g. g .1) (λ p g. refl) (λ a g. ((tt, a), (tt, g), refl)) s
       (tells-then b i (λ u. Unit {0}) (λ u. key) (λ u. tt) (λ v. good) (λ v. spelled) (λ v. tell) j tt s first told)
     where
       first : Tells b i (λ (u : Unit {0}). Unit {0}) (λ u. key) (λ u. tt {0}) (until j (tt {0}))

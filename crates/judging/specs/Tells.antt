@@ -3,6 +3,8 @@ use Prim.Native.Nat.{ℕ, _+_}
 use Rattle.judging.specs.Judges.{Stands}
 use Rattle.judging.specs.declared.Behind.{Behind}
 use Rattle.judging.specs.declared.cells.Cells.{Cells}
+use Rattle.judging.specs.declared.characters.Characters.{Characters}
+use Rattle.judging.specs.declared.characters.Flag.{Flag}
 use Rattle.judging.specs.declared.numbers.Number.{Number}
 use lib.ListN.{length, drop}
 use mathlib.Core.Bool.{Bool}
@@ -32,3 +34,16 @@ number·of Number.Wrong = nothing
 unfoldable pub cells·of : Cells → Part Bool
 cells·of (Cells.Behind j g) = until j g
 cells·of Cells.Wrong = nothing
+
+unfoldable pub flag·of : Flag → Part Bool
+flag·of (Flag.At j g) = until j g
+flag·of Flag.Wrong = nothing
+
+-- What is told of characters: whether one has a label or a state label, and whether one is ordered.
+pub record Marks : Type 0 where
+  pub labelled : Bool
+  pub ordered : Bool
+
+unfoldable pub characters·of : Characters → Part Marks
+characters·of (Characters.Behind j l o) = until j (record { labelled = l; ordered = o })
+characters·of Characters.Wrong = nothing

@@ -1,6 +1,7 @@
 // A record judged by a walk over its bytes: each part of it is found where it begins, or is none. What each function means stands in specs/.
 
 mod cells;
+mod characters;
 mod keys;
 mod names;
 mod numbers;
@@ -11,6 +12,8 @@ use block::DataType;
 use block::TaxonNumber;
 pub use cells::Cells;
 pub use cells::cells_line;
+pub use characters::Characters;
+pub use characters::character_lines;
 pub use keys::key_at;
 pub use names::label_line;
 pub use names::name_line;

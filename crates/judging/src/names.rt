@@ -27,7 +27,7 @@ pub struct Naming {
 }
 
 // The byte at i, or 0 behind the end.
-fn byte_at(source: &[u8], i: usize) -> u8
+pub fn byte_at(source: &[u8], i: usize) -> u8
     ensures { λ r. ⌜ r ≡ getD (now (source .entry)) i 0 ⌝ }
 {
     if i < source.len() {

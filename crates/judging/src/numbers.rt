@@ -2,6 +2,7 @@
 
 ghost use Prim.Native.Nat.{_≤_};
 ghost use Rattle.judging.specs.Judges.{Judges};
+ghost use Rattle.judging.specs.Parts.{Keyed·number};
 ghost use Rattle.judging.specs.Numbers.{Number·judged, leading};
 ghost use Rattle.record.specs.Decimal.{decimal};
 ghost use lib.ListN.{drop};
@@ -61,6 +62,16 @@ pub fn number_line(source: &[u8], i: usize) -> Number
             Behind::At(k) => Number::At(value, k),
             Behind::Wrong => Number::Wrong,
         },
+        Behind::Wrong => Number::Wrong,
+    }
+}
+
+// The number that stands at a place behind a key, ended by LF.
+pub fn keyed_number(source: &[u8], i: usize, key: &[u8]) -> Number
+    ensures { λ r. ⌜ Keyed·number (now (source .entry)) i (now (key .entry)) r ⌝ }
+{
+    match key_at(source, i, key) {
+        Behind::At(j) => number_line(source, j),
         Behind::Wrong => Number::Wrong,
     }
 }
