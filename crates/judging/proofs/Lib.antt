@@ -18,7 +18,9 @@ mod ModeTags
 mod NameJudged
 mod NameRests
 mod NumberLaws
+mod OpeningTold
 mod RowsTold
+mod SymbolRuns
 mod TellLaws
 mod Utf8Bytes
 mod WideBlanks

@@ -8,3 +8,4 @@ pub mod Shapes
 pub mod Tells
 pub mod Lists
 pub mod Parts
+pub mod Opening

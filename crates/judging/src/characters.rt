@@ -6,6 +6,7 @@ ghost use Rattle.judging.specs.Parts.{Character·told, Characters·told,
 ghost use Rattle.record.specs.Decimal.{decimal};
 ghost use mathlib.Core.List.{[], _∷_, _++_};
 use super::Behind;
+use super::heads::two_words;
 use super::keys::key_at;
 use super::names::byte_at;
 use super::names::keyed_name;
@@ -57,13 +58,7 @@ fn keyed_label(source: &[u8], i: usize) -> Flag
 fn order_line(source: &[u8], i: usize) -> Flag
     ensures { λ r. ⌜ Order·told (now (source .entry)) i r ⌝ }
 {
-    match key_at(source, i, b"order=UNORD\n") {
-        Behind::At(j) => Flag::At(j, false),
-        Behind::Wrong => match key_at(source, i, b"order=ORD\n") {
-            Behind::At(k) => Flag::At(k, true),
-            Behind::Wrong => Flag::Wrong,
-        },
-    }
+    two_words(source, i, b"order=UNORD\n", b"order=ORD\n")
 }
 
 // So many lines of state labels: where they end.

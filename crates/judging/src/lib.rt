@@ -2,10 +2,12 @@
 
 mod cells;
 mod characters;
+mod heads;
 mod keys;
 mod names;
 mod numbers;
 mod rows;
+mod symbols;
 
 use block::CharacterNumber;
 use block::DataType;
@@ -14,6 +16,9 @@ pub use cells::Cells;
 pub use cells::cells_line;
 pub use characters::Characters;
 pub use characters::character_lines;
+pub use heads::Head;
+pub use heads::Headed;
+pub use heads::head_lines;
 pub use keys::key_at;
 pub use names::label_line;
 pub use names::name_line;
