@@ -1,0 +1,3 @@
+-- What the walks over the rows of a record answer.
+pub mod Rows
+pub mod Lines
