@@ -3,3 +3,6 @@ pub mod LineLaws
 pub mod LikeLaws
 pub mod EscapeLike
 pub mod RowLaws
+-- What the proofs of this crate alone rest on.
+mod EntryLaws
+mod JudgedLaws

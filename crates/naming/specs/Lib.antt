@@ -1,3 +1,4 @@
 -- What the walks over the rows of a record answer.
 pub mod Rows
 pub mod Lines
+pub mod Entries

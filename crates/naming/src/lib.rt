@@ -2,6 +2,7 @@
 // differ. What each function means stands in specs/.
 
 mod lines;
+pub mod names;
 mod rows;
 
 pub use lines::lines_alike;
