@@ -4,5 +4,6 @@ pub mod LikeLaws
 pub mod EscapeLike
 pub mod RowLaws
 -- What the proofs of this crate alone rest on.
+mod EnteredRows
 mod EntryLaws
 mod JudgedLaws

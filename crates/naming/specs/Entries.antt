@@ -66,6 +66,13 @@ pub record Room·for (b slots places : List ℕ) (count : ℕ) (t : Table) : Typ
   pub few : count < 4294967295
   pub kept : Lines·kept b slots (take count places) t
 
+-- There is room for the names of so many rows.
+pub record Room·of (slots places : List ℕ) (rows : ℕ) (t : Table) : Type 0 where
+  pub sound : Table·sound t
+  pub within : t .end ≤ length slots
+  pub room : rows ≤ length places
+  pub few : rows ≤ 4294967295
+
 -- A line was looked for among those at so many places, and entered where it is not among them.
 pub record Line·entered (b : List ℕ) (at : ℕ) (slots after places placed : List ℕ) (count : ℕ) (t : Table) (r : Bool) : Type 0 where
   pub size : length after ≡ length slots

@@ -7,6 +7,7 @@ mod rows;
 
 pub use lines::lines_alike;
 pub use lines::name_alike;
+pub use names::names_differ;
 pub use rows::cells_begin;
 pub use rows::cells_end;
 pub use rows::name_begin;

@@ -4,7 +4,7 @@
 ghost use Prim.Native.Nat.{_+_, _≤_, _<_};
 ghost use Rattle.block.specs.Names.{known};
 ghost use Rattle.lexer.specs.Base.{alike};
-ghost use Rattle.naming.specs.Entries.{Line·entered, Line·sought, Room·for, Slot·like, lines·at};
+ghost use Rattle.naming.specs.Entries.{Block·judged, Line·entered, Line·sought, Lines·kept, Names·entered, Room·for, Room·of, Rows·judged, Slot·like, lines·at, none·known};
 ghost use Rattle.naming.specs.Lines.{line·at};
 ghost use Rattle.naming.specs.Rows.{Names·judged};
 ghost use Rattle.naming.specs.declared.names.Entered.{Entered};
@@ -120,4 +120,153 @@ fn enter_line(
     fill_slot(slots, from, end, (count + 1) as u32);
     places[count] = at;
     false
+}
+
+// The names of so many rows at a place are entered, up to the first that is like one before it.
+fn enter_names(
+    source: &[u8],
+    at: usize,
+    rows: usize,
+    characters: usize,
+    slots: &mut [u32],
+    places: &mut [usize],
+    table: Table,
+) -> Entered
+    requires { ⌜ Room·of (now slots) (now places) rows table ⌝ }
+    ensures { λ r. ⌜ Names·entered (now (source .entry)) characters at rows (now (slots .entry)) (now (slots .exit)) (now (places .entry)) (now (places .exit)) table r ⌝ }
+{
+    let mut here = at;
+    let mut count = 0;
+    while count < rows {
+        let name = name_begin(source, here);
+        if enter_line(source, name, slots, places, count, table) {
+            return Entered::Twice;
+        }
+        here = next_row(source, here, characters);
+        count += 1;
+    }
+    Entered::Behind(here)
+}
+
+// Is none of the names of so many rows at a place among those that were entered?
+fn none_known(
+    source: &[u8],
+    at: usize,
+    rows: usize,
+    characters: usize,
+    slots: &[u32],
+    places: &[usize],
+    count: usize,
+    table: Table,
+) -> bool
+    requires { ⌜ Table·sound table × (count ≤ length (now places)) × Lines·kept (now source) (now slots) (take count (now places)) table ⌝ }
+    ensures { λ r. ⌜ Rows·judged (now (source .entry)) characters at rows (none·known (lines·at (now (source .entry)) (take count (now (places .entry))))) r ⌝ }
+{
+    let end = table.end;
+    let mut here = at;
+    let mut left = rows;
+    while 0 < left {
+        let name = name_begin(source, here);
+        let from = line_slot(source, name, table);
+        if found_line(source, name, slots, places, count, from, end) {
+            return false;
+        }
+        here = next_row(source, here, characters);
+        left -= 1;
+    }
+    true
+}
+
+// The names of so many rows at a place are held against each other, and against those of so many rows behind them.
+fn block_differs(
+    source: &[u8],
+    at: usize,
+    rows: usize,
+    later: usize,
+    characters: usize,
+    slots: &mut [u32],
+    places: &mut [usize],
+) -> Entered
+    requires { ⌜ (rows ≤ length (now places)) × (rows ≤ 1048576) ⌝ }
+    ensures { λ r. ⌜ Block·judged (now (source .entry)) characters at rows later (now (slots .entry)) (now (slots .exit)) (now (places .entry)) (now (places .exit)) r ⌝ }
+{
+    let table = free_table(slots, 0, rows / 2);
+    match enter_names(source, at, rows, characters, slots, places, table) {
+        Entered::Behind(next) => {
+            if none_known(source, next, later, characters, slots, places, rows, table) {
+                return Entered::Behind(next);
+            }
+            return Entered::Twice;
+        }
+        Entered::Twice => {
+            return Entered::Twice;
+        }
+    }
+}
+
+// The lesser of two numbers.
+fn least(a: usize, b: usize) -> usize
+    ensures { λ r. ⌜ (r ≤ a) × (r ≤ b) × (0 < a → 0 < b → 0 < r) ⌝ }
+{
+    if a < b {
+        return a;
+    }
+    b
+}
+
+// Do the names of so many rows at a place differ? As many as there is room for are entered at a time.
+fn differ_by(
+    source: &[u8],
+    at: usize,
+    taxa: usize,
+    characters: usize,
+    slots: &mut [u32],
+    places: &mut [usize],
+) -> bool
+    requires { ⌜ (0 < length (now places)) × (length (now places) ≤ 1048576) ⌝ }
+    ensures { λ r. ⌜ Names·judged (now (source .entry)) at taxa characters r ⌝ }
+{
+    let mut here = at;
+    let mut left = taxa;
+    while 0 < left {
+        let rows = least(left, places.len());
+        match block_differs(source, here, rows, left - rows, characters, slots, places) {
+            Entered::Behind(next) => {
+                here = next;
+                left -= rows;
+            }
+            Entered::Twice => {
+                return false;
+            }
+        }
+    }
+    true
+}
+
+// The same with room for few names.
+fn few_differ(source: &[u8], at: usize, taxa: usize, characters: usize) -> bool
+    ensures { λ r. ⌜ Names·judged (now (source .entry)) at taxa characters r ⌝ }
+{
+    let mut slots = [0u32; 512];
+    let mut places = [0usize; 200];
+    differ_by(source, at, taxa, characters, &mut slots, &mut places)
+}
+
+// The same with room for some thousand names.
+fn many_differ(source: &[u8], at: usize, taxa: usize, characters: usize) -> bool
+    ensures { λ r. ⌜ Names·judged (now (source .entry)) at taxa characters r ⌝ }
+{
+    let mut slots = [0u32; 16384];
+    let mut places = [0usize; 8000];
+    differ_by(source, at, taxa, characters, &mut slots, &mut places)
+}
+
+// Do the names of so many rows at a place, with so many cells each, differ, ASCII case ignored?
+pub fn names_differ(source: &[u8], at: usize, taxa: usize, characters: usize) -> bool
+    ensures { λ r. ⌜ Names·judged (now (source .entry)) at taxa characters r ⌝ }
+{
+    if taxa <= 200 {
+        return few_differ(source, at, taxa, characters);
+    }
+    many_differ(source, at, taxa, characters)
 }
