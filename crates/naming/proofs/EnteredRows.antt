@@ -1,5 +1,5 @@
 -- The names of rows entered one by one, and looked for one by one: what is kept at each row. Assumes nothing.
-use Prim.Native.Nat.{ℕ, zero, suc, _+_, _-_, _≤_, _<_}
+use Prim.Native.Nat.{ℕ, suc, _+_, _-_, _≤_, _<_}
 use Rattle.block.specs.Names.{known}
 use Rattle.block.specs.Reading.{Taxon}
 use Rattle.block.specs.Sound.{names·differ}
@@ -10,9 +10,9 @@ use Rattle.naming.specs.Rows.{Row·passed, Names·judged}
 use Rattle.naming.specs.declared.names.Entered.{Entered}
 use Rattle.slots.specs.declared.Table.{Table}
 use lib.ListN.{length, take}
-use mathlib.Core.Bool.{Bool, true, false, _&&_}
+use mathlib.Core.Bool.{Bool, true, false}
 use mathlib.Core.List.{List, [], _∷_, _++_}
-use mathlib.Core.Path.{_≡_, refl, sym, ap, subst, _∙_}
+use mathlib.Core.Path.{_≡_, refl, sym, ap, _∙_}
 use native.Mathlib.Omega.{arith}
 
 -- The answer that two are alike is no place, and places that are the same answer are equal.

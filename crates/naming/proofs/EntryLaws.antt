@@ -9,7 +9,7 @@ use Rattle.naming.specs.Entries.{lines·at, Lines·kept, Line·sought, R
 use Rattle.naming.specs.Lines.{line·at}
 use Rattle.slots.proofs.FillingLaws.{kept-next, none-kept}
 use Rattle.slots.proofs.HashLaws.{alike-hash}
-use Rattle.slots.specs.Filling.{Kept, Filled, slot·of}
+use Rattle.slots.specs.Filling.{Filled, slot·of}
 use Rattle.slots.specs.Hashes.{mixed, hash·from, hash}
 use Rattle.slots.specs.declared.Table.{Table}
 use borrow.Author.Tests.{eqb-true, eqb-false, ltb-true, ltb-false}
@@ -17,7 +17,7 @@ use lib.Dec.{eqb, ltb}
 use lib.ListN.{length, getD, take, drop, set, length-set, drop-of-length-le}
 use lib.Seq.{getD-take, getD-set-same, getD-set-other, length-take-le, take-suc-set}
 use mathlib.Core.Bool.{Bool, true, false, _||_, false≢true}
-use mathlib.Core.List.{List, [], _∷_, _++_}
+use mathlib.Core.List.{List, [], _∷_}
 use mathlib.Core.Path.{_≡_, refl, sym, ap, _∙_}
 use native.Mathlib.Nat.{mod-lt}
 use native.Mathlib.Numerals.{add-one}

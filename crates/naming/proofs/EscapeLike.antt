@@ -1,6 +1,5 @@
 -- A name and its escaped line: byte by byte, and that names are alike exactly where their escaped bytes are. Assumes nothing.
 use Prim.Native.Nat.{ℕ, _+_, _≤_, _<_}
-use Rattle.lexer.proofs.Basics.{by-test}
 use Rattle.lexer.proofs.ListLaws.{drop-next}
 use Rattle.lexer.specs.Base.{pick, alike, lower}
 use Rattle.naming.proofs.LikeLaws.{ended-like, first-unlike, first-like, first-within}
@@ -13,8 +12,8 @@ use borrow.Author.Tests.{eqb-true, eqb-false, ne-eqb}
 use lib.Dec.{eqb, lit<}
 use lib.ListN.{length, getD, drop, drop-of-length-le}
 use mathlib.Core.Bool.{Bool, true, false, _&&_}
-use mathlib.Core.List.{List, [], _∷_, _++_, append-assoc}
-use mathlib.Core.Path.{_≡_, refl, sym, ap, subst, _∙_}
+use mathlib.Core.List.{List, [], _∷_, _++_}
+use mathlib.Core.Path.{_≡_, refl, sym, ap, _∙_}
 use native.Mathlib.Omega.{arith}
 
 -- Two names by their first bytes, each of which is an LF, a backslash, or another byte.

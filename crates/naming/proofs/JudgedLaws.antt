@@ -1,23 +1,21 @@
 -- Names that differ, with those that were entered, and what remains to be judged of rows. Assumes nothing.
-use Prim.Native.Nat.{ℕ, suc, _+_, _-_, _≤_, _<_}
+use Prim.Native.Nat.{ℕ, suc, _+_, _-_, _<_}
 use Rattle.block.specs.Names.{known}
 use Rattle.block.specs.Reading.{Taxon}
 use Rattle.block.specs.Sequential.{names}
 use Rattle.block.specs.Sound.{names·differ}
-use Rattle.lexer.proofs.Basics.{or-assoc, or-false, and-assoc, and-left, and-right, alike-sym}
+use Rattle.lexer.proofs.Basics.{or-assoc, or-false, and-assoc, alike-sym}
 use Rattle.lexer.specs.Base.{alike}
 use Rattle.naming.proofs.EscapeLike.{escaped-alike}
 use Rattle.naming.proofs.RowLaws.{row-before, row-name}
-use Rattle.naming.specs.Entries.{lines·at, name·lines, none·known, new·differ, Rows·judged, Remains, Lines·kept, Line·entered, Names·entered, Block·judged}
+use Rattle.naming.specs.Entries.{name·lines, none·known, new·differ, Rows·judged, Remains}
 use Rattle.naming.specs.Lines.{line·at}
-use Rattle.naming.specs.Rows.{Rows·stand, Row·passed, Names·judged}
-use Rattle.naming.specs.declared.names.Entered.{Entered}
+use Rattle.naming.specs.Rows.{Rows·stand, Row·passed}
 use Rattle.record.specs.Spell.{escaped}
-use Rattle.slots.specs.declared.Table.{Table}
-use lib.ListN.{length, take}
+use lib.ListN.{length}
 use mathlib.Core.Bool.{Bool, true, false, _&&_, _||_, not}
 use mathlib.Core.List.{List, [], _∷_, _++_}
-use mathlib.Core.Path.{_≡_, refl, sym, ap, subst, _∙_}
+use mathlib.Core.Path.{_≡_, refl, sym, ap, _∙_}
 use native.Mathlib.Omega.{arith}
 
 -- Names are known, and differ, as their lines.

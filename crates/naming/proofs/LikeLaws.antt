@@ -1,16 +1,15 @@
 -- Lines that are alike, ASCII case ignored, byte by byte; a name and its line; names are alike exactly where their escaped bytes are. Assumes nothing.
 use Prim.Native.Nat.{ℕ, _+_, _<_}
-use Rattle.lexer.proofs.Basics.{by-test, not-both}
+use Rattle.lexer.proofs.Basics.{by-test}
 use Rattle.lexer.specs.Base.{pick, alike, lower}
 use Rattle.naming.proofs.LineLaws.{before-end, line-ended, line-more, lower-mark}
 use Rattle.naming.specs.Lines.{line·at}
 use borrow.Author.Tests.{eqb-true, eqb-false, eq-eqb, ne-eqb}
 use lib.Dec.{eqb, lit<}
 use lib.ListN.{length, getD}
-use mathlib.Core.Bool.{Bool, true, false}
-use mathlib.Core.List.{List, [], _∷_, _++_}
-use mathlib.Core.Path.{_≡_, refl, sym, ap, _∙_}
-use native.Mathlib.Omega.{arith}
+use mathlib.Core.Bool.{true, false}
+use mathlib.Core.List.{List, [], _∷_}
+use mathlib.Core.Path.{_≡_, sym, ap, _∙_}
 
 -- A text without bytes is like a line that ends here.
 pub ended-like : (b : List ℕ) (j : ℕ) → eqb (getD b j 10) 10 ≡ alike [] (line·at b j)

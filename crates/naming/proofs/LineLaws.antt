@@ -1,10 +1,10 @@
 -- The line at a place, byte by byte: where it ends, and what stands before it does. Assumes nothing.
 use Prim.Native.Nat.{ℕ, zero, suc, _+_, _-_, _≤_, _<_}
-use Rattle.lexer.proofs.Basics.{by-test, or-left, or-right, eqb-same}
+use Rattle.lexer.proofs.Basics.{by-test, or-left, or-right}
 use Rattle.lexer.proofs.ListLaws.{drop-next}
-use Rattle.lexer.specs.Base.{pick, among, alike, lower}
+use Rattle.lexer.specs.Base.{pick, among, lower}
 use Rattle.naming.specs.Lines.{to·end, line·at}
-use borrow.Author.Tests.{eqb-true, eqb-false, eq-eqb, ne-eqb, ltb-true, ltb-false, leb-true}
+use borrow.Author.Tests.{eqb-false, ne-eqb, ltb-true, ltb-false, leb-true}
 use lib.Dec.{eqb, ltb, leb}
 use lib.ListN.{length, getD, drop, drop-of-length-le, List·getD-eq-default, length-drop}
 use mathlib.Core.Bool.{Bool, true, false, _&&_}

@@ -4,7 +4,7 @@ use Rattle.block.specs.Cell.{Cell, state, uncertain, polymorphic, missing, gap}
 use Rattle.block.specs.Interleaved.{all·long}
 use Rattle.block.specs.Reading.{Taxon}
 use Rattle.lexer.proofs.Basics.{and-left, and-right, or-left, or-right, by-test}
-use Rattle.lexer.specs.Base.{among, bytes, pick}
+use Rattle.lexer.specs.Base.{among, bytes}
 use Rattle.naming.proofs.EscapeLike.{line-name}
 use Rattle.naming.proofs.LineLaws.{line-front}
 use Rattle.naming.specs.Lines.{line·at}
@@ -153,7 +153,7 @@ module _ (b : List ℕ) (at characters : ℕ) where
 
 -- The rows behind the first, by where its cells end.
 module _ (b : List ℕ) (at characters : ℕ) {begin end : ℕ} (begins : Cells·begin b at begin) (ends : Cells·end b begin characters end) where
-  row-ended : (t : Taxon) (ts : List Taxon) (rest : List ℕ) → Rows·stand b at characters (t ∷ ts) rest → end ≡ at + before·cells t + length (spell·cells (t .cells))
+  pub row-ended : (t : Taxon) (ts : List Taxon) (rest : List ℕ) → Rows·stand b at characters (t ∷ ts) rest → end ≡ at + before·cells t + length (spell·cells (t .cells))
   row-ended t ts rest s =
       let first = begins t ts rest (s .here) in
       let cells : drop begin b ≡ spell·cells (t .cells) ++ (10 ∷ spell·taxa ts rest) = rw first (cells-stand b at t ts rest (s .here)) in

@@ -3,7 +3,6 @@
 
 ghost use Prim.Native.Nat.{_+_, _≤_, _<_};
 ghost use Rattle.block.specs.Names.{known};
-ghost use Rattle.lexer.specs.Base.{alike};
 ghost use Rattle.naming.specs.Entries.{Block·judged, Line·entered, Line·sought, Lines·kept, Names·entered, Room·for, Room·of, Rows·judged, Slot·like, lines·at, none·known};
 ghost use Rattle.naming.specs.Lines.{line·at};
 ghost use Rattle.naming.specs.Rows.{Names·judged};

@@ -5,7 +5,6 @@ use Rattle.naming.proofs.names.found_line.Statement.{statement}
 use Rattle.naming.proofs.names.found_line.Tie as tie
 use Rattle.naming.specs.Entries.{Line·sought}
 use borrow.Author.Needs.{needs}
-use native.Mathlib.Omega.{arith}
 
 abbrev Inv-loop : tie.InvT-loop
 Inv-loop source at slots places count from end p₀ p = Line·sought source at slots places count p end

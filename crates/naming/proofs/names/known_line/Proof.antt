@@ -5,7 +5,6 @@ use Rattle.naming.proofs.names.known_line.Statement.{statement}
 use Rattle.naming.proofs.names.known_line.Tie as tie
 use borrow.Author.Needs.{needs}
 use mathlib.Core.Path.{refl}
-use native.Mathlib.Omega.{arith}
 
 abbrev Inv-loop : tie.InvT-loop
 Inv-loop source at places count k₀ k = Searching source at places count k

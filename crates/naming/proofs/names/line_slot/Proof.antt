@@ -6,7 +6,6 @@ use Rattle.naming.proofs.names.line_slot.Tie as tie
 use Rattle.slots.specs.Filling.{slot·of}
 use borrow.Author.Needs.{needs}
 use lib.ListN.{length}
-use mathlib.Core.Path.{refl}
 use native.Mathlib.Nat.{mod-lt}
 use native.Mathlib.Omega.{arith}
 

@@ -7,7 +7,6 @@ use Rattle.naming.proofs.names.none_known.Tie as tie
 use Rattle.naming.specs.Entries.{lines·at}
 use borrow.Author.Needs.{needs}
 use lib.ListN.{take}
-use native.Mathlib.Omega.{arith}
 
 abbrev Inv-loop : tie.InvT-loop
 Inv-loop source at rows characters slots places count table end here₀ left₀ here left = Looking source characters at rows (lines·at source (take count places)) here left
