@@ -4,11 +4,11 @@ use Rattle.block.specs.Cell.{Cell, state, uncertain, polymorphic, missing, gap}
 use Rattle.block.specs.Interleaved.{all·long}
 use Rattle.block.specs.Reading.{Taxon}
 use Rattle.lexer.proofs.Basics.{and-left, and-right, or-left, or-right, by-test}
-use Rattle.lexer.specs.Base.{among, bytes}
+use Rattle.lexer.specs.Base.{alike, among, bytes}
 use Rattle.naming.proofs.EscapeLike.{line-name}
 use Rattle.naming.proofs.LineLaws.{line-front}
 use Rattle.naming.specs.Lines.{line·at}
-use Rattle.naming.specs.Rows.{Rows·stand, Cells·begin, Cells·end, Row·passed}
+use Rattle.naming.specs.Rows.{Rows·stand, Cells·begin, Cells·end, Name·like, Row·passed}
 use Rattle.record.proofs.CellLaws.{cells-clean}
 use Rattle.record.proofs.DecimalLaws.{decimal-some}
 use Rattle.record.proofs.SpellLaws.{some-length}
@@ -19,7 +19,7 @@ use borrow.Author.Tests.{eqb-true, eqb-false, ltb-true, ltb-false}
 use lib.Dec.{eqb, ltb}
 use lib.ListN.{length, drop, length-append, length-drop}
 use lib.Seq.{drop-drop, drop-append-seam, drop-append-le}
-use mathlib.Core.Bool.{true, false, _||_}
+use mathlib.Core.Bool.{Bool, true, false, _||_}
 use mathlib.Core.List.{List, [], _∷_, _++_, append-assoc}
 use mathlib.Core.Path.{_≡_, refl, sym, ap, _∙_}
 use native.Mathlib.Omega.{arith}
@@ -58,11 +58,18 @@ module _ (b : List ℕ) (at : ℕ) (t : Taxon) (ts : List Taxon) (rest : List �
       let place : at + 5 + length front ≡ at + before·cells t = omega (arith, length-append (escaped (t .name)) (10 ∷ bytes "cells="), before-length) in
       ap (λ n. drop n b) (sym place) ∙ drop-behind b (at + 5) front more split
 
+  cells-ended : drop (at + before·cells t + length (spell·cells (t .cells))) b ≡ 10 ∷ spell·taxa ts rest
+  cells-ended = drop-behind b (at + before·cells t) (spell·cells (t .cells)) (10 ∷ spell·taxa ts rest) cells-stand
+
+  pub cells-before : at + before·cells t + length (spell·cells (t .cells)) < length b
+  cells-before = stands-before b (at + before·cells t + length (spell·cells (t .cells))) 10 (spell·taxa ts rest) cells-ended
+
   pub rows-stand : drop (at + before·cells t + length (spell·cells (t .cells)) + 1) b ≡ spell·taxa ts rest
-  rows-stand =
-      let c = spell·cells (t .cells) in
-      let end = drop-behind b (at + before·cells t) c (10 ∷ spell·taxa ts rest) cells-stand in
-      drop-behind b (at + before·cells t + length c) (10 ∷ []) (spell·taxa ts rest) end
+  rows-stand = drop-behind b (at + before·cells t + length (spell·cells (t .cells))) (10 ∷ []) (spell·taxa ts rest) cells-ended
+
+  -- Its name is like another where the line behind the key is.
+  pub row-like : {p : ℕ} → (at < length b → p ≡ at + 5) → (name : List ℕ) {r : Bool} → Name·like b p name r → r ≡ alike name (t .name)
+  row-like begins name like = like (t .name) _ (ap (λ n. drop n b) (begins row-before) ∙ name-stands)
 
 -- All rows have so many cells: the first has, and the others have.
 pub row-long : (characters : ℕ) (t : Taxon) (ts : List Taxon) → all·long characters (t ∷ ts) ≡ true → length (t .cells) ≡ characters
@@ -163,7 +170,4 @@ module _ (b : List ℕ) (at characters : ℕ) {begin end : ℕ} (begins : Cells�
   row-passed t ts rest s = rw (row-ended t ts rest s) (rows-behind s)
 
   pub row-outside : length b ≤ end → Row·passed b at characters end
-  row-outside h t ts rest s =
-      let c = spell·cells (t .cells) in
-      let lf = drop-behind b (at + before·cells t) c (10 ∷ spell·taxa ts rest) (cells-stand b at t ts rest (s .here)) in
-      absurd (omega (arith, stands-before b (at + before·cells t + length c) 10 (spell·taxa ts rest) lf, row-ended t ts rest s))
+  row-outside h t ts rest s = absurd (omega (arith, cells-before b at t ts rest (s .here), row-ended t ts rest s))
