@@ -3,8 +3,8 @@ use Prim.Native.Nat.{ℕ, zero, suc, _+_, _*_, _-_, _%_, _≤_, _<_}
 use Rattle.block.specs.Names.{known}
 use Rattle.lexer.proofs.Basics.{by-test, not-both, or-first, or-second, or-both, or-left, or-right}
 use Rattle.lexer.proofs.ListLaws.{drop-next}
-use Rattle.lexer.specs.Base.{alike, lower}
-use Rattle.naming.proofs.LineLaws.{before-end, line-ended, line-more}
+use Rattle.lexer.specs.Base.{pick, alike, lower}
+use Rattle.naming.proofs.LineLaws.{before-end, line-ended, line-more, lower-mark}
 use Rattle.naming.specs.Entries.{lines·at, Lines·kept, Line·sought, Room·for, Slot·like, Line·entered}
 use Rattle.naming.specs.Lines.{line·at}
 use Rattle.slots.proofs.FillingLaws.{kept-next, none-kept}
@@ -13,7 +13,7 @@ use Rattle.slots.specs.Filling.{Filled, slot·of}
 use Rattle.slots.specs.Hashes.{mixed, hash·from, hash}
 use Rattle.slots.specs.declared.Table.{Table}
 use borrow.Author.Tests.{eqb-true, eqb-false, ltb-true, ltb-false}
-use lib.Dec.{eqb, ltb}
+use lib.Dec.{eqb, ltb, lit<}
 use lib.ListN.{length, getD, take, drop, set, length-set, drop-of-length-le}
 use lib.Seq.{getD-take, getD-set-same, getD-set-other, length-take-le, take-suc-set}
 use mathlib.Core.Bool.{Bool, true, false, _||_, false≢true}
@@ -33,22 +33,25 @@ module _ (b : List ℕ) (at : ℕ) where
   unfolding hash
   hashing-start = record { small = omega arith; rest = refl }
 
-  module _ (i h : ℕ) (k : Hashing b at i h) {x : ℕ} (is : x ≡ getD b i 10) where
+  module _ (i h : ℕ) (k : Hashing b at i h) {x : ℕ} (is : x ≡ lower (getD b i 10)) where
     pub hashing-end : x ≡ 10 → h ≡ hash (line·at b at)
     unfolding hash·from
-    hashing-end ten = sym (rw (line-ended b i (sym is ∙ ten))) ∙ k .rest
+    hashing-end ten =
+        let end : line·at b i ≡ [] = line-ended b i (lower-mark (getD b i 10) 10 (lit< tt) (sym is ∙ ten)) in
+        let left : h ≡ hash·from h (line·at b i) = sym (rw end) in
+        left ∙ k .rest
 
     module _ (other : x ≡ 10 → ⊥) where
-      pub hashing-within : i < length b
-      hashing-within = before-end b i (λ ten. other (is ∙ ten))
+      no-end : getD b i 10 ≡ 10 → ⊥
+      unfolding lower pick
+      no-end ten = other (is ∙ ap lower ten)
 
-      pub hashing-turn : {u : ℕ} → u ≡ lower x → Hashing b at (i + 1) ((h + u) * 2654435761 % 4294967296)
+      pub hashing-within : i < length b
+      hashing-within = before-end b i no-end
+
+      pub hashing-turn : Hashing b at (i + 1) ((h + x) * 2654435761 % 4294967296)
       unfolding hash·from mixed
-      hashing-turn small =
-          record {
-            small = mod-lt _ (omega arith);
-            rest = rw (small, is) (sym (rw (line-more b i (λ ten. other (is ∙ ten)))) ∙ k .rest);
-          }
+      hashing-turn = record { small = mod-lt _ (omega arith); rest = rw is (sym (rw (line-more b i no-end)) ∙ k .rest) }
 
 -- A line is known among those at some places exactly where it is like one of them.
 module _ (b n : List ℕ) where

@@ -27,17 +27,20 @@ module _ (a b : ℕ) (l r : List ℕ) (more : alike (escaped l) (escaped r) ≡ 
   than-other : (c k : ℕ) → k < 97 → eqb c k ≡ false → eqb (lower c) k ≡ false
   than-other c k h e = ne-eqb (lower c) k (λ q. eqb-false c k e (lower-mark c k h q))
 
+  both-false : (p q x y : Bool) → p ≡ false → q ≡ false → p && x ≡ q && y
+  both-false p q x y e f = rw (e, f)
+
   firsts-alike : (t u v w : Bool) → eqb a 10 ≡ t → eqb a 92 ≡ u → eqb b 10 ≡ v → eqb b 92 ≡ w
       → alike (first-of t u a ++ escaped l) (first-of v w b ++ escaped r) ≡ alike (a ∷ l) (b ∷ r)
   unfolding alike lower pick
   firsts-alike true u true w p q f g = rw (eqb-true a 10 p, eqb-true b 10 f) more
   firsts-alike true u false true p q f g = rw (eqb-true a 10 p, eqb-true b 92 g)
-  firsts-alike true u false false p q f g = rw (eqb-true a 10 p) (ap (λ x. x && (alike (48 ∷ escaped l) (escaped r))) (other-than b 92 (lit< tt) g) ∙ sym (ap (λ x. x && alike l r) (other-than b 10 (lit< tt) f)))
+  firsts-alike true u false false p q f g = rw (eqb-true a 10 p) (both-false _ _ _ (alike l r) (other-than b 92 (lit< tt) g) (other-than b 10 (lit< tt) f))
   firsts-alike false true true w p q f g = rw (eqb-true a 92 q, eqb-true b 10 f)
   firsts-alike false true false true p q f g = rw (eqb-true a 92 q, eqb-true b 92 g) more
-  firsts-alike false true false false p q f g = rw (eqb-true a 92 q) (ap (λ x. x && (alike (49 ∷ escaped l) (escaped r))) (other-than b 92 (lit< tt) g) ∙ sym (ap (λ x. x && alike l r) (other-than b 92 (lit< tt) g)))
-  firsts-alike false false true w p q f g = rw (eqb-true b 10 f) (ap (λ x. x && (alike (escaped l) (48 ∷ escaped r))) (than-other a 92 (lit< tt) q) ∙ sym (ap (λ x. x && alike l r) (than-other a 10 (lit< tt) p)))
-  firsts-alike false false false true p q f g = rw (eqb-true b 92 g) (ap (λ x. x && (alike (escaped l) (49 ∷ escaped r))) (than-other a 92 (lit< tt) q) ∙ sym (ap (λ x. x && alike l r) (than-other a 92 (lit< tt) q)))
+  firsts-alike false true false false p q f g = rw (eqb-true a 92 q) (both-false _ _ _ (alike l r) (other-than b 92 (lit< tt) g) (other-than b 92 (lit< tt) g))
+  firsts-alike false false true w p q f g = rw (eqb-true b 10 f) (both-false _ _ _ (alike l r) (than-other a 92 (lit< tt) q) (than-other a 10 (lit< tt) p))
+  firsts-alike false false false true p q f g = rw (eqb-true b 92 g) (both-false _ _ _ (alike l r) (than-other a 92 (lit< tt) q) (than-other a 92 (lit< tt) q))
   firsts-alike false false false false p q f g = rw more
 
 pub escaped-alike : (l r : List ℕ) → alike (escaped l) (escaped r) ≡ alike l r
@@ -88,13 +91,13 @@ module _ (b : List ℕ) (i : ℕ) where
       slash-passed : (m : List ℕ) → alike (92 ∷ y ∷ m) (line·at b i) ≡ alike (y ∷ m) (line·at b (i + 1))
       slash-passed m = first-like b i 92 (y ∷ m) (ap lower (sym slash ∙ is)) (λ e. omega arith)
 
-      module _ {z u v : ℕ} (second : z ≡ getD b (i + 1) 10) (small : u ≡ lower y) (little : v ≡ lower z) where
+      module _ {u v : ℕ} (small : u ≡ lower y) (second : v ≡ lower (getD b (i + 1) 10)) where
         pub slash-second : (u ≡ v → ⊥) → Bytes·like b i (92 ∷ y ∷ []) 0
-        slash-second other = bytes-none (92 ∷ y ∷ []) (λ m. slash-passed m ∙ first-unlike b (i + 1) y m (λ e. other (small ∙ e ∙ sym (little ∙ ap lower second))))
+        slash-second other = bytes-none (92 ∷ y ∷ []) (λ m. slash-passed m ∙ first-unlike b (i + 1) y m (λ e. other (small ∙ e ∙ sym second)))
 
         pub slash-both : (y ≡ 10 → ⊥) → u ≡ v → Bytes·like b i (92 ∷ y ∷ []) 2
         slash-both other e =
-            let same : lower y ≡ lower (getD b (i + 1) 10) = sym small ∙ e ∙ little ∙ ap lower second in
+            let same : lower y ≡ lower (getD b (i + 1) 10) = sym small ∙ e ∙ second in
             let two : i + 1 + 1 ≡ i + 2 = omega arith in
             record {
               none = λ z. absurd (omega arith);
@@ -107,14 +110,14 @@ module _ (b : List ℕ) (i : ℕ) where
     unfolding escape pick
     escape-plain = rw (ne-eqb c 10 line, ne-eqb c 92 slash)
 
-    module _ {z u v : ℕ} (is : z ≡ getD b i 10) (small : u ≡ lower c) (little : v ≡ lower z) where
+    module _ {u v : ℕ} (small : u ≡ lower c) (is : v ≡ lower (getD b i 10)) where
       pub plain-unlike : (u ≡ v → ⊥) → Bytes·like b i (escape c) 0
       plain-unlike other =
-          rw escape-plain (bytes-none (c ∷ []) (λ m. first-unlike b i c m (λ e. other (small ∙ e ∙ sym (little ∙ ap lower is)))))
+          rw escape-plain (bytes-none (c ∷ []) (λ m. first-unlike b i c m (λ e. other (small ∙ e ∙ sym is))))
 
       pub plain-like : u ≡ v → Bytes·like b i (escape c) 1
       plain-like e =
-          let same : lower c ≡ lower (getD b i 10) = sym small ∙ e ∙ little ∙ ap lower is in
+          let same : lower c ≡ lower (getD b i 10) = sym small ∙ e ∙ is in
           rw escape-plain
           (record {
             none = λ z. absurd (omega arith);

@@ -68,19 +68,21 @@ module _ (b : List ℕ) (i j : ℕ) where
 pub record Comparing (b : List ℕ) (first second i j : ℕ) : Type 0 where
   pub rest : alike (line·at b i) (line·at b j) ≡ alike (line·at b first) (line·at b second)
 
-module _ (b : List ℕ) (first second i j : ℕ) (k : Comparing b first second i j) {x y u v : ℕ} (left : x ≡ getD b i 10) (right : y ≡ getD b j 10) (small : u ≡ lower x)
-    (little : v ≡ lower y) where
-  lowered : u ≡ v → lower (getD b i 10) ≡ lower (getD b j 10)
-  lowered e = sym (small ∙ ap lower left) ∙ e ∙ (little ∙ ap lower right)
-
+module _ (b : List ℕ) (first second i j : ℕ) (k : Comparing b first second i j) {u v : ℕ} (left : u ≡ lower (getD b i 10)) (right : v ≡ lower (getD b j 10)) where
   pub comparing-unlike : (u ≡ v → ⊥) → false ≡ alike (line·at b first) (line·at b second)
-  comparing-unlike other = lines-unlike b i j (λ e. other ((small ∙ ap lower left) ∙ e ∙ sym (little ∙ ap lower right))) ∙ k .rest
+  comparing-unlike other = lines-unlike b i j (λ e. other (left ∙ e ∙ sym right)) ∙ k .rest
 
-  pub comparing-ended : u ≡ v → x ≡ 10 → true ≡ alike (line·at b first) (line·at b second)
-  comparing-ended e ten = lines-ended b i j (lowered e) (sym left ∙ ten) ∙ k .rest
+  module _ (e : u ≡ v) where
+    pub comparing-ended : u ≡ 10 → true ≡ alike (line·at b first) (line·at b second)
+    comparing-ended ten = lines-ended b i j (sym left ∙ e ∙ right) (lower-mark (getD b i 10) 10 (lit< tt) (sym left ∙ ten)) ∙ k .rest
 
-  pub comparing-within : u ≡ v → (x ≡ 10 → ⊥) → (i < length b) × (j < length b)
-  comparing-within e other = lines-within b i j (lowered e) (λ ten. other (left ∙ ten))
+    module _ (other : u ≡ 10 → ⊥) where
+      no-end : getD b i 10 ≡ 10 → ⊥
+      unfolding lower pick
+      no-end ten = other (left ∙ ap lower ten)
 
-  pub comparing-turn : u ≡ v → (x ≡ 10 → ⊥) → Comparing b first second (i + 1) (j + 1)
-  comparing-turn e other = record { rest = sym (lines-next b i j (lowered e) (λ ten. other (left ∙ ten))) ∙ k .rest }
+      pub comparing-within : (i < length b) × (j < length b)
+      comparing-within = lines-within b i j (sym left ∙ e ∙ right) no-end
+
+      pub comparing-turn : Comparing b first second (i + 1) (j + 1)
+      comparing-turn = record { rest = sym (lines-next b i j (sym left ∙ e ∙ right) no-end) ∙ k .rest }

@@ -1,7 +1,7 @@
 // Lines of a record by their bytes: where one ends, and whether one is like another, or like a name, ASCII case ignored.
 
 ghost use Prim.Native.Nat.{_+_};
-ghost use Rattle.lexer.specs.Base.{alike};
+ghost use Rattle.lexer.specs.Base.{alike, lower};
 ghost use Rattle.naming.specs.Lines.{line·at, Bytes·like};
 ghost use Rattle.naming.specs.Rows.{Name·like};
 ghost use Rattle.record.specs.Spell.{escape};
@@ -18,6 +18,13 @@ pub fn line_byte(source: &[u8], i: usize) -> u8
         return source[i];
     }
     10
+}
+
+// The byte at i as a small letter, or LF behind the end.
+pub fn lower_byte(source: &[u8], i: usize) -> u8
+    ensures { λ r. ⌜ r ≡ lower (getD (now (source .entry)) i 10) ⌝ }
+{
+    lower(line_byte(source, i))
 }
 
 // Where the line at a place ends.
@@ -40,9 +47,8 @@ pub fn lines_alike(source: &[u8], first: usize, second: usize) -> bool
     let mut i = first;
     let mut j = second;
     loop {
-        let x = line_byte(source, i);
-        let y = line_byte(source, j);
-        if lower(x) != lower(y) {
+        let x = lower_byte(source, i);
+        if x != lower_byte(source, j) {
             return false;
         }
         if x == 10 {
@@ -61,7 +67,7 @@ fn slash_like(source: &[u8], i: usize, y: u8) -> usize
     if line_byte(source, i) != 92 {
         return 0;
     }
-    if lower(y) != lower(line_byte(source, i + 1)) {
+    if lower(y) != lower_byte(source, i + 1) {
         return 0;
     }
     2
@@ -77,7 +83,7 @@ fn escape_like(source: &[u8], i: usize, c: u8) -> usize
     if c == 92 {
         return slash_like(source, i, 49);
     }
-    if lower(c) != lower(line_byte(source, i)) {
+    if lower(c) != lower_byte(source, i) {
         return 0;
     }
     1

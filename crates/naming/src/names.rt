@@ -11,11 +11,10 @@ ghost use Rattle.slots.specs.Filling.{Table·sound, slot·of};
 ghost use Rattle.slots.specs.Hashes.{hash};
 ghost use lib.ListN.{length, take};
 ghost use mathlib.Core.Path.{_≡_};
-use super::lines::line_byte;
 use super::lines::lines_alike;
+use super::lines::lower_byte;
 use super::rows::name_begin;
 use super::rows::next_row;
-use lexer::lower;
 use lexer::start_of;
 use slots::Table;
 use slots::fill_slot;
@@ -37,11 +36,11 @@ fn line_slot(source: &[u8], at: usize, table: Table) -> usize
     let mut h: u64 = 0;
     let mut i = at;
     loop {
-        let b = line_byte(source, i);
+        let b = lower_byte(source, i);
         if b == 10 {
             return base + (h % size) as usize;
         }
-        h = (h + lower(b) as u64) * 2654435761 % 4294967296;
+        h = (h + b as u64) * 2654435761 % 4294967296;
         i += 1;
     }
 }

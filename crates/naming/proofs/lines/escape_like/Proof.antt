@@ -9,34 +9,29 @@ slash-like-requires : tie.Need-slash-like-requires
 slash-like-requires c κs = λ e. omega arith
 
 returns : tie.Need-returns
-returns c = let a = c .before .before .before .args in rw (escape-lf (a .c) (c .before .if1 .taken)) (c .slash-like .ensures)
+returns c = rw (escape-lf (c .before .before .before .args .c) (c .before .if1 .taken)) (c .slash-like .ensures)
 
 slash-like-requires-2 : tie.Need-slash-like-requires-2
 slash-like-requires-2 c κs = λ e. omega arith
 
 returns-2 : tie.Need-returns-2
-returns-2 c = let a = c .before .before .before .before .args in rw (escape-slash (a .c) (c .before .if2 .taken)) (c .slash-like2 .ensures)
+returns-2 c = rw (escape-slash (c .before .before .before .before .args .c) (c .before .if2 .taken)) (c .slash-like2 .ensures)
 
 lower-requires : tie.Need-lower-requires
 lower-requires c κs = search needs
 
-line-byte-requires : tie.Need-line-byte-requires
-line-byte-requires c κs = search needs
-
-lower-requires-2 : tie.Need-lower-requires-2
-lower-requires-2 c κs = search needs
+lower-byte-requires : tie.Need-lower-byte-requires
+lower-byte-requires c κs = search needs
 
 returns-3 : tie.Need-returns-3
 returns-3 c =
-    let s = c .before .before in
-    let f = s .before .before in
-    plain-unlike _ _ _ (f .before .if1 .left) (f .if2 .left) (s .line-byte .ensures) (s .before .lower .ensures) (c .before .lower2 .ensures) (c .if3 .taken)
+    let f = c .before .before .before in
+    plain-unlike _ _ _ (f .before .if1 .left) (f .if2 .left) (c .before .before .lower .ensures) (c .before .lower-byte .ensures) (c .if3 .taken)
 
 returns-4 : tie.Need-returns-4
 returns-4 c =
-    let s = c .before .before in
-    let f = s .before .before in
-    plain-like _ _ _ (f .before .if1 .left) (f .if2 .left) (s .line-byte .ensures) (s .before .lower .ensures) (c .before .lower2 .ensures) (c .if3 .left)
+    let f = c .before .before .before in
+    plain-like _ _ _ (f .before .if1 .left) (f .if2 .left) (c .before .before .lower .ensures) (c .before .lower-byte .ensures) (c .if3 .left)
 
 pub escape-like-spec : {M : Type 1} → statement M
 escape-like-spec =
@@ -47,7 +42,6 @@ escape-like-spec =
     slash-like-requires-2
     returns-2
     lower-requires
-    line-byte-requires
-    lower-requires-2
+    lower-byte-requires
     returns-3
     returns-4)

@@ -18,56 +18,44 @@ abbrev μ-loop : tie.MeasureT-loop
 loop-holds : tie.Need-loop-holds Inv-loop μ-loop
 loop-holds c = record { rest = refl }
 
-line-byte-requires : tie.Need-line-byte-requires Inv-loop μ-loop
-line-byte-requires c κs = search needs
+lower-byte-requires : tie.Need-lower-byte-requires Inv-loop μ-loop
+lower-byte-requires c κs = search needs
 
-line-byte-requires-2 : tie.Need-line-byte-requires-2 Inv-loop μ-loop
-line-byte-requires-2 c κs = search needs
-
-lower-requires : tie.Need-lower-requires Inv-loop μ-loop
-lower-requires c κs = search needs
-
-lower-requires-2 : tie.Need-lower-requires-2 Inv-loop μ-loop
-lower-requires-2 c κs = search needs
+lower-byte-requires-2 : tie.Need-lower-byte-requires-2 Inv-loop μ-loop
+lower-byte-requires-2 c κs = search needs
 
 returns : tie.Need-returns Inv-loop μ-loop
 returns c =
     let v = c .before in
-    let y = v .before .before in
-    comparing-unlike _ _ _ _ _ (y .before .before .loop .inv) (y .before .line-byte .ensures) (y .line-byte2 .ensures) (v .before .lower .ensures) (v .lower2 .ensures) (c .if1 .taken)
+    comparing-unlike _ _ _ _ _ (v .before .before .loop .inv) (v .before .lower-byte .ensures) (v .lower-byte2 .ensures) (c .if1 .taken)
 
 returns-2 : tie.Need-returns-2 Inv-loop μ-loop
 returns-2 c =
     let v = c .before .before in
-    let y = v .before .before in
-    comparing-ended _ _ _ _ _ (y .before .before .loop .inv) (y .before .line-byte .ensures) (y .line-byte2 .ensures) (v .before .lower .ensures) (v .lower2 .ensures) (c .before .if1 .left) (c .if2 .taken)
+    comparing-ended _ _ _ _ _ (v .before .before .loop .inv) (v .before .lower-byte .ensures) (v .lower-byte2 .ensures) (c .before .if1 .left) (c .if2 .taken)
 
 add-i : tie.Need-add-i Inv-loop μ-loop
 add-i c =
     let v = c .before .before in
-    let y = v .before .before in
-    let h = comparing-within _ _ _ _ _ (y .before .before .loop .inv) (y .before .line-byte .ensures) (y .line-byte2 .ensures) (v .before .lower .ensures) (v .lower2 .ensures) (c .before .if1 .left) (c .if2 .left) in
+    let h = comparing-within _ _ _ _ _ (v .before .before .loop .inv) (v .before .lower-byte .ensures) (v .lower-byte2 .ensures) (c .before .if1 .left) (c .if2 .left) in
     omega (arith, h .0)
 
 add-j : tie.Need-add-j Inv-loop μ-loop
 add-j c =
     let v = c .before .before in
-    let y = v .before .before in
-    let h = comparing-within _ _ _ _ _ (y .before .before .loop .inv) (y .before .line-byte .ensures) (y .line-byte2 .ensures) (v .before .lower .ensures) (v .lower2 .ensures) (c .before .if1 .left) (c .if2 .left) in
+    let h = comparing-within _ _ _ _ _ (v .before .before .loop .inv) (v .before .lower-byte .ensures) (v .lower-byte2 .ensures) (c .before .if1 .left) (c .if2 .left) in
     omega (arith, h .1)
 
 loop-less : tie.Need-loop-less Inv-loop μ-loop
 loop-less c =
     let v = c .before .before in
-    let y = v .before .before in
-    let h = comparing-within _ _ _ _ _ (y .before .before .loop .inv) (y .before .line-byte .ensures) (y .line-byte2 .ensures) (v .before .lower .ensures) (v .lower2 .ensures) (c .before .if1 .left) (c .if2 .left) in
+    let h = comparing-within _ _ _ _ _ (v .before .before .loop .inv) (v .before .lower-byte .ensures) (v .lower-byte2 .ensures) (c .before .if1 .left) (c .if2 .left) in
     omega (arith, h .0)
 
 loop-again : tie.Need-loop-again Inv-loop μ-loop
 loop-again c =
     let v = c .before .before in
-    let y = v .before .before in
-    comparing-turn _ _ _ _ _ (y .before .before .loop .inv) (y .before .line-byte .ensures) (y .line-byte2 .ensures) (v .before .lower .ensures) (v .lower2 .ensures) (c .before .if1 .left) (c .if2 .left)
+    comparing-turn _ _ _ _ _ (v .before .before .loop .inv) (v .before .lower-byte .ensures) (v .lower-byte2 .ensures) (c .before .if1 .left) (c .if2 .left)
 
 pub lines-alike-spec : {M : Type 1} → statement M
 lines-alike-spec =
@@ -76,10 +64,8 @@ lines-alike-spec =
     Inv-loop
     μ-loop
     loop-holds
-    line-byte-requires
-    line-byte-requires-2
-    lower-requires
-    lower-requires-2
+    lower-byte-requires
+    lower-byte-requires-2
     returns
     returns-2
     add-i

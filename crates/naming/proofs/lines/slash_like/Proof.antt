@@ -14,30 +14,26 @@ returns c = slash-other _ _ (c .before .line-byte .ensures) _ (c .if1 .taken)
 lower-requires : tie.Need-lower-requires
 lower-requires c κs = search needs
 
-add-line-byte : tie.Need-add-line-byte
-add-line-byte c =
+add-lower-byte : tie.Need-add-lower-byte
+add-lower-byte c =
     let f = c .before .before in
     let a = f .before .before .args in
     let h = slash-before (a .source .now) (a .i) (f .line-byte .ensures) (a .y) (c .before .if1 .left) in
     omega arith
 
-line-byte-requires-2 : tie.Need-line-byte-requires-2
-line-byte-requires-2 c κs = search needs
-
-lower-requires-2 : tie.Need-lower-requires-2
-lower-requires-2 c κs = search needs
+lower-byte-requires : tie.Need-lower-byte-requires
+lower-byte-requires c κs = search needs
 
 returns-2 : tie.Need-returns-2
 returns-2 c =
-    let s = c .before .before in
-    let f = s .before .before in
-    slash-second _ _ (f .before .line-byte .ensures) _ (f .if1 .left) (s .line-byte2 .ensures) (s .before .lower .ensures) (c .before .lower2 .ensures) (c .if2 .taken)
+    let f = c .before .before .before in
+    slash-second _ _ (f .before .line-byte .ensures) _ (f .if1 .left) (c .before .before .lower .ensures) (c .before .lower-byte .ensures) (c .if2 .taken)
 
 returns-3 : tie.Need-returns-3
 returns-3 c =
-    let s = c .before .before in
-    let f = s .before .before in
-    slash-both _ _ (f .before .line-byte .ensures) _ (f .if1 .left) (s .line-byte2 .ensures) (s .before .lower .ensures) (c .before .lower2 .ensures) (f .before .before .before .pre) (c .if2 .left)
+    let f = c .before .before .before in
+    let given = f .before .before .before .pre in
+    slash-both _ _ (f .before .line-byte .ensures) _ (f .if1 .left) (c .before .before .lower .ensures) (c .before .lower-byte .ensures) given (c .if2 .left)
 
 pub slash-like-spec : {M : Type 1} → statement M
 slash-like-spec =
@@ -46,8 +42,7 @@ slash-like-spec =
     line-byte-requires
     returns
     lower-requires
-    add-line-byte
-    line-byte-requires-2
-    lower-requires-2
+    add-lower-byte
+    lower-byte-requires
     returns-2
     returns-3)

@@ -18,39 +18,39 @@ abbrev μ-loop : tie.MeasureT-loop
 loop-holds : tie.Need-loop-holds Inv-loop μ-loop
 loop-holds c = hashing-start _ _
 
-line-byte-requires : tie.Need-line-byte-requires Inv-loop μ-loop
-line-byte-requires c κs = search needs
+lower-byte-requires : tie.Need-lower-byte-requires Inv-loop μ-loop
+lower-byte-requires c κs = search needs
 
 rem-result : tie.Need-rem-result Inv-loop μ-loop
 rem-result c = let s = c .before .before .before .before .pre .some in omega arith
 
 add-result : tie.Need-add-result Inv-loop μ-loop
-add-result c = let s = c .before .before .before .before in let m = mod-lt (c .before .before .loop .h) {m = s .args .table .size} (s .pre .some) in omega (arith, s .pre .small)
+add-result c =
+    let s = c .before .before .before .before in
+    let m = mod-lt (c .before .before .loop .h) {m = s .args .table .size} (s .pre .some) in
+    omega (arith, s .pre .small)
 
 returns : tie.Need-returns Inv-loop μ-loop
 unfolding slot·of
-returns c = rw (hashing-end _ _ _ _ (c .before .before .loop .inv) (c .before .line-byte .ensures) (c .if1 .taken))
-
-lower-requires : tie.Need-lower-requires Inv-loop μ-loop
-lower-requires c κs = search needs
+returns c = rw (hashing-end _ _ _ _ (c .before .before .loop .inv) (c .before .lower-byte .ensures) (c .if1 .taken))
 
 cast-h : tie.Need-cast-h Inv-loop μ-loop
 cast-h c = search needs
 
 add-h : tie.Need-add-h Inv-loop μ-loop
-add-h c = let h = c .before .before .before .loop .inv .small in omega arith
+add-h c = let h = c .before .before .loop .inv .small in omega arith
 
 mul-h : tie.Need-mul-h Inv-loop μ-loop
-mul-h c = let h = c .before .before .before .loop .inv .small in omega arith
+mul-h c = let h = c .before .before .loop .inv .small in omega arith
 
 add-i : tie.Need-add-i Inv-loop μ-loop
-add-i c = let h = hashing-within _ _ _ _ (c .before .before .before .loop .inv) (c .before .before .line-byte .ensures) (c .before .if1 .left) in omega arith
+add-i c = let h = hashing-within _ _ _ _ (c .before .before .loop .inv) (c .before .lower-byte .ensures) (c .if1 .left) in omega arith
 
 loop-less : tie.Need-loop-less Inv-loop μ-loop
-loop-less c = let h = hashing-within _ _ _ _ (c .before .before .before .loop .inv) (c .before .before .line-byte .ensures) (c .before .if1 .left) in omega arith
+loop-less c = let h = hashing-within _ _ _ _ (c .before .before .loop .inv) (c .before .lower-byte .ensures) (c .if1 .left) in omega arith
 
 loop-again : tie.Need-loop-again Inv-loop μ-loop
-loop-again c = hashing-turn _ _ _ _ (c .before .before .before .loop .inv) (c .before .before .line-byte .ensures) (c .before .if1 .left) (c .lower .ensures)
+loop-again c = hashing-turn _ _ _ _ (c .before .before .loop .inv) (c .before .lower-byte .ensures) (c .if1 .left)
 
 pub line-slot-spec : {M : Type 1} → statement M
 line-slot-spec =
@@ -59,11 +59,10 @@ line-slot-spec =
     Inv-loop
     μ-loop
     loop-holds
-    line-byte-requires
+    lower-byte-requires
     rem-result
     add-result
     returns
-    lower-requires
     cast-h
     add-h
     mul-h
