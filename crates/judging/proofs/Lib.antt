@@ -19,8 +19,10 @@ mod NameJudged
 mod NameRests
 mod NumberLaws
 mod OpeningTold
+mod ReadingParts
 mod RowsTold
 mod SymbolRuns
 mod TellLaws
 mod Utf8Bytes
+mod WholeJudged
 mod WideBlanks

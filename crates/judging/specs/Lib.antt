@@ -9,3 +9,4 @@ pub mod Tells
 pub mod Lists
 pub mod Parts
 pub mod Opening
+pub mod Whole

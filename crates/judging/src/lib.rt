@@ -8,6 +8,7 @@ mod names;
 mod numbers;
 mod rows;
 mod symbols;
+mod whole;
 
 use block::CharacterNumber;
 use block::DataType;
@@ -26,6 +27,7 @@ pub use numbers::Number;
 pub use numbers::decimal_at;
 pub use numbers::number_line;
 pub use rows::row_lines;
+pub use whole::judge;
 
 // Where a part of a record ends, or that there is none.
 pub enum Behind {
