@@ -1,0 +1,2 @@
+-- What putting the written form of a record means.
+pub mod FormPut
