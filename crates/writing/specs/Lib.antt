@@ -1,2 +1,4 @@
 -- What putting the written form of a record means.
 pub mod FormPut
+pub mod Signs
+pub mod CellsPut
