@@ -1,2 +1,3 @@
 -- What putting the written form of a record means.
 pub mod FormPut
+pub mod QuotedNames

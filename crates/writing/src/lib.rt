@@ -1,5 +1,9 @@
 // The written form of a record that was judged, put into a lent buffer or only measured. What each function means stands in specs/.
 
+mod names;
+
+pub use names::put_quoted;
+
 // How far a record was read, and how far its form was put: the next place of each.
 pub struct Putting {
     pub at: usize,
