@@ -52,9 +52,10 @@ fn plain_run(source: &[u8], from: usize) -> usize
     at
 }
 
-// Puts in quotes the name that stands at a place; it ends at an LF.
+// Puts in quotes the name that stands at a place; it ends at an LF. Whatever stands there, the next place is not in front of it.
 pub fn put_quoted(source: &[u8], at: usize, buffer: &mut [u8], n: usize) -> Putting
-    ensures { λ r. ⌜ Quoted·put (now (source .entry)) at (now (buffer .entry)) n (now (buffer .exit)) r ⌝ }
+    ensures ahead { λ r. ⌜ at ≤ r .at ⌝ }
+    ensures put { λ r. ⌜ Quoted·put (now (source .entry)) at (now (buffer .entry)) n (now (buffer .exit)) r ⌝ }
 {
     let mut m = put(buffer, n, b'\'');
     let mut i = at;

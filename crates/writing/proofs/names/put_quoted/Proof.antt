@@ -36,9 +36,10 @@ same-length c = search needs
 
 returns : tie.Need-returns Inv-loop μ-loop
 returns c =
-    let l = c .before .before .before .before .before .before .before in
-    quoted-whole _ _ (l .before .before .before .put .ensures)
-    (l .loop .inv .back _ _ (quoted-end _ _ (c .before .before .before .before .before .before .loop-test .taken) (c .before .before .before .before .if1 .taken) (c .before .before .put2 .ensures) refl refl))
+    let l = c .before .before .before .before .before .before .before in (
+      omega (arith, l .loop .inv .ahead),
+      quoted-whole _ _ (l .before .before .before .put .ensures) (l .loop .inv .back _ _ (quoted-end _ _ (c .before .before .before .before .before .before .loop-test .taken) (c .before .before .before .before .if1 .taken) (c .before .before .put2 .ensures) refl refl)),
+    )
 
 plain-run-requires : tie.Need-plain-run-requires Inv-loop μ-loop
 plain-run-requires c κs = search needs
@@ -62,7 +63,7 @@ loop-again : tie.Need-loop-again Inv-loop μ-loop
 loop-again c =
     let l = c .before .before .before .before .before .before .before .before .before .before in
     let run = c .before .before .before .before .before .before .plain-run .ensures in
-    quoting-turn (l .loop .inv) (c .before .before .put-all .ensures .kept)
+    quoting-turn (l .loop .inv) (c .before .before .put-all .ensures .kept) (omega (arith, c .before .before .before .before .before .if2 .taken))
     (λ after r. quoted-run run (puts-as (c .before .before .put-all .ensures) (λ behind. ap (λ t. t ++ behind) (run-part _ _ _ run))))
 
 put-byte-requires : tie.Need-put-byte-requires Inv-loop μ-loop
@@ -77,7 +78,7 @@ loop-less-2 c = search needs
 loop-again-2 : tie.Need-loop-again-2 Inv-loop μ-loop
 loop-again-2 c =
     let l = c .before .before .before .before .before .before .before .before .before .before in
-    quoting-turn (l .loop .inv) (c .before .before .put-byte .ensures .kept)
+    quoting-turn (l .loop .inv) (c .before .before .put-byte .ensures .kept) (omega arith)
     (λ after r. quoted-byte _ _ (c .before .before .before .before .before .before .before .before .before .loop-test .taken) (c .before .before .before .before .before .before .before .if1 .left) (c .before .before .before .before .if3 .taken) (c .before .before .put-byte .ensures))
 
 sub-if4 : tie.Need-sub-if4 Inv-loop μ-loop
@@ -88,9 +89,10 @@ same-length-2 c = search needs
 
 returns-2 : tie.Need-returns-2 Inv-loop μ-loop
 returns-2 c =
-    let l = c .before .before .before .before .before .before .before in
-    quoted-whole _ _ (l .before .before .before .put .ensures)
-    (l .loop .inv .back _ _ (quoted-no-slash _ _ (c .before .before .before .before .before .before .loop-test .taken) (omega arith) (c .before .if3 .left)))
+    let l = c .before .before .before .before .before .before .before in (
+      l .loop .inv .ahead,
+      quoted-whole _ _ (l .before .before .before .put .ensures) (l .loop .inv .back _ _ (quoted-no-slash _ _ (c .before .before .before .before .before .before .loop-test .taken) (omega arith) (c .before .if3 .left))),
+    )
 
 add-meant : tie.Need-add-meant Inv-loop μ-loop
 add-meant c = search needs
@@ -113,7 +115,7 @@ loop-less-3 c = search needs
 loop-again-3 : tie.Need-loop-again-3 Inv-loop μ-loop
 loop-again-3 c =
     let l = c .before .before .before .before .before .before .before .before .before .before .before .before .before in
-    quoting-turn (l .loop .inv) (c .before .before .put3 .ensures .kept)
+    quoting-turn (l .loop .inv) (c .before .before .put3 .ensures .kept) (omega arith)
     (λ after r. quoted-slash _ _ (omega arith) (c .before .before .before .before .before .before .before .if3 .left) _ (c .before .before .before .meant .ensures) (c .before .before .put3 .ensures))
 
 same-length-3 : tie.Need-same-length-3 Inv-loop μ-loop
@@ -122,7 +124,7 @@ same-length-3 c = search needs
 returns-3 : tie.Need-returns-3 Inv-loop μ-loop
 returns-3 c =
     let l = c .before in
-    quoted-whole _ _ (l .before .before .before .put .ensures) (l .loop .inv .back _ _ (quoted-past _ _ (c .loop-test .left)))
+    (l .loop .inv .ahead, quoted-whole _ _ (l .before .before .before .put .ensures) (l .loop .inv .back _ _ (quoted-past _ _ (c .loop-test .left))))
 
 pub put-quoted-spec : {M : Type 1} → statement M
 put-quoted-spec =
