@@ -1,5 +1,6 @@
 -- What the proofs of this crate rest on.
 mod CellPut
 mod MembersPut
+mod QuotedBytes
 mod RowPut
 mod SignsRead

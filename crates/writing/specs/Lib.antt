@@ -2,3 +2,4 @@
 pub mod FormPut
 pub mod Signs
 pub mod CellsPut
+pub mod QuotedNames

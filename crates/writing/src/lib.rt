@@ -1,8 +1,10 @@
 // The written form of a record that was judged, put into a lent buffer or only measured. What each function means stands in specs/.
 
 mod cells;
+mod names;
 
 pub use cells::put_cells;
+pub use names::put_quoted;
 
 // How far a record was read, and how far its form was put: the next place of each.
 pub struct Putting {
