@@ -13,7 +13,7 @@ use Rattle.record.specs.Spell.{dotted, spell·cell}
 use Rattle.writing.proofs.MembersPut.{none-behind}
 use Rattle.writing.proofs.SignsRead.{front-byte, front-rest, one-digit, pair-digits, second-byte, sign-index, sign-one, signs-digit, signs-gap, signs-missing}
 use Rattle.writing.specs.CellsPut.{Cell·put, Set·put, Short·read, Sign·read, Text·put, form·within}
-use Rattle.writing.specs.Signs.{Signed, sign·of}
+use Rattle.writing.specs.Signs.{Signed, sign·by, sign·of}
 use Rattle.writing.specs.declared.Putting.{Putting}
 use Rattle.writing.specs.declared.cells.Sign.{Sign}
 use borrow.Author.Tests.{ltb-false, ltb-true}
@@ -98,11 +98,11 @@ pub record Short (t : DataType) (symbols : List ℕ) (c : Cell) (x s : ℕ) : Ty
 
 -- No set begins with such a byte.
 unsigned-u : {t : DataType} {symbols signs : List ℕ} → Signed t symbols signs → getD signs 117 0 ≡ 0
-unfolding sign·of pick
+unfolding sign·of sign·by pick
 unsigned-u g = g .each 117 (omega arith)
 
 unsigned-p : {t : DataType} {symbols signs : List ℕ} → Signed t symbols signs → getD signs 112 0 ≡ 0
-unfolding sign·of pick
+unfolding sign·of sign·by pick
 unsigned-p g = g .each 112 (omega arith)
 
 pub short-cell : (b signs : List ℕ) (at s : ℕ) → Short·read b signs at s → (s ≡ 0 → ⊥) → (t : DataType) (symbols : List ℕ) → Signed t symbols signs

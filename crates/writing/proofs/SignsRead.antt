@@ -7,7 +7,7 @@ use Rattle.lexer.specs.Base.{pick, same}
 use Rattle.record.specs.Decimal.{decimal, decimal·from, digit}
 use Rattle.record.specs.Form.{gap·sign, missing·sign, sign}
 use Rattle.writing.specs.CellsPut.{Sign·read, sign·here, size·here, two·digits}
-use Rattle.writing.specs.Signs.{Signed, sign·of}
+use Rattle.writing.specs.Signs.{Signed, sign·by, sign·of}
 use Rattle.writing.specs.declared.cells.Sign.{Sign}
 use borrow.Author.Tests.{le-leb, leb-true, lt-leb, ltb-false, ltb-true, ne-eqb}
 use lib.Dec.{leb, ltb}
@@ -59,24 +59,24 @@ pair-digits n low h = by-test (ltb n 10) (λ t. let few = ltb-true n 10 t in abs
 -- The signs that a table holds: of a digit, of an index, of missing and of a gap.
 module _ {t : DataType} {symbols signs : List ℕ} (g : Signed t symbols signs) where
   pub signs-digit : (i : ℕ) → i < 10 → getD signs (48 + i) 0 ≡ sign symbols i
-  unfolding sign·of pick
+  unfolding sign·of sign·by pick
   signs-digit i h =
       let back : 48 + i - 48 ≡ i = omega arith in
       g .each (48 + i) (omega arith) ∙ rw (le-leb 48 (48 + i) (omega arith), le-leb (48 + i) 57 (omega arith)) (ap (sign symbols) back)
 
   pub signs-index : (i : ℕ) → i < 74 → getD signs (128 + i) 0 ≡ sign symbols i
-  unfolding sign·of pick
+  unfolding sign·of sign·by pick
   signs-index i h =
       let back : 128 + i - 128 ≡ i = omega arith in
       g .each (128 + i) (omega arith)
       ∙ rw (le-leb 48 (128 + i) (omega arith), lt-leb (128 + i) 57 (omega arith), ne-eqb (128 + i) 109 (λ e. omega arith), ne-eqb (128 + i) 103 (λ e. omega arith), le-leb 128 (128 + i) (omega arith)) (ap (sign symbols) back)
 
   pub signs-missing : getD signs 109 0 ≡ missing·sign t symbols
-  unfolding sign·of pick
+  unfolding sign·of sign·by pick
   signs-missing = g .each 109 (omega arith)
 
   pub signs-gap : getD signs 103 0 ≡ gap·sign t symbols
-  unfolding sign·of pick
+  unfolding sign·of sign·by pick
   signs-gap = g .each 103 (omega arith)
 
 -- What is read of two digits, and of any other two bytes.

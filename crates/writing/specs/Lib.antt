@@ -3,3 +3,4 @@ pub mod FormPut
 pub mod Signs
 pub mod CellsPut
 pub mod QuotedNames
+pub mod RowsPut

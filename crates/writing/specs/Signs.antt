@@ -14,12 +14,15 @@ use mathlib.Core.Path.{_≡_}
 abbrev pub symbols·at : List ℕ → Shape → List ℕ
 symbols·at b s = take (s .states) (drop (s .symbols) b)
 
--- The sign of a cell that is one byte: of a digit that symbol, of `m` and `g` theirs; 0 for no such cell. From 128 on, the symbol of an index.
-unfoldable pub sign·of : DataType → List ℕ → ℕ → ℕ
-sign·of t symbols b =
+-- The sign of a cell that is one byte, by the signs of missing and of a gap and the symbols: of a digit that symbol, of `m` and `g` theirs; 0 for no
+-- such cell. From 128 on, the symbol of an index.
+unfoldable pub sign·by : ℕ → ℕ → List ℕ → ℕ → ℕ
+sign·by missing gap symbols b =
     pick (leb (byte "0") b && leb b (byte "9")) (sign symbols (b - byte "0"))
-    (pick (eqb b (byte "m")) (missing·sign t symbols)
-    (pick (eqb b (byte "g")) (gap·sign t symbols) (pick (leb 128 b) (sign symbols (b - 128)) 0)))
+    (pick (eqb b (byte "m")) missing (pick (eqb b (byte "g")) gap (pick (leb 128 b) (sign symbols (b - 128)) 0)))
+
+unfoldable pub sign·of : DataType → List ℕ → ℕ → ℕ
+sign·of t symbols b = sign·by (missing·sign t symbols) (gap·sign t symbols) symbols b
 
 -- A table holds the signs of some symbols.
 pub record Signed (t : DataType) (symbols signs : List ℕ) : Type 0 where

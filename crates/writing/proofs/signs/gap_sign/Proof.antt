@@ -1,0 +1,28 @@
+-- The function `gap_sign` meets its contract. Assumes nothing.
+use Rattle.writing.proofs.SymbolsTaken.{gap-dna, gap-standard}
+use borrow.Author.Needs.{needs}
+use Rattle.writing.proofs.signs.gap_sign.Statement.{statement}
+use Rattle.writing.proofs.signs.gap_sign.Tie as tie
+
+missing-sign-requires : tie.Need-missing-sign-requires
+missing-sign-requires c κs = search needs
+
+enum-told : tie.Need-enum-told
+enum-told c = search needs
+
+free-sign-requires : tie.Need-free-sign-requires
+free-sign-requires c κs = search needs
+
+enum-told-2 : tie.Need-enum-told-2
+enum-told-2 c = search needs
+
+returns : tie.Need-returns
+returns c = gap-standard _ _ (c .before .enum-told .given .1) (c .before .before .before .missing-sign .ensures) (c .free-sign .ensures)
+
+returns-2 : tie.Need-returns-2
+returns-2 c = gap-dna _ _ (c .enum-told2 .given .1)
+
+pub gap-sign-spec : {M : Type 1} → statement M
+gap-sign-spec =
+    tie.close
+    (tie.spec missing-sign-requires enum-told free-sign-requires enum-told-2 returns returns-2)
