@@ -1,7 +1,10 @@
 // The written form of a record that was judged, put into a lent buffer or only measured. What each function means stands in specs/.
 
+mod characters;
 mod names;
 
+pub use characters::put_assumptions;
+pub use characters::put_labels;
 pub use names::put_quoted;
 
 // How far a record was read, and how far its form was put: the next place of each.
