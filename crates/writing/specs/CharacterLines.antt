@@ -1,7 +1,8 @@
 -- The lines of a record's characters, found where they stand, and what is put for them.
-use Prim.Native.Nat.{ℕ}
+use Prim.Native.Nat.{ℕ, _+_, _≤_}
 use Rattle.block.specs.Blocks.{has·ordered}
 use Rattle.block.specs.Reading.{Character}
+use Rattle.block.specs.declared.model.CharacterOrdering.{CharacterOrdering}
 use Rattle.emit.specs.Puts.{Puts}
 use Rattle.judging.specs.declared.Shape.{Shape}
 use Rattle.lexer.specs.Base.{among, byte, bytes}
@@ -54,6 +55,13 @@ pub record Stands (b : List ℕ) (label states : ℕ) (c : Character) (behind : 
 -- What is told is whether a character that stands there has a label or state labels.
 pub record Labels·told (b : List ℕ) (label states : ℕ) (r : Bool) : Type 0 where
   pub told : (c : Character) (behind : List ℕ) → Stands b label states c behind → r ≡ any·label c
+
+-- A character whose label would begin at a place has none, nor state labels, and is unordered; its lines end 22 bytes behind that place.
+pub record Plain·at (b : List ℕ) (label : ℕ) : Type 0 where
+  pub inside : label + 22 ≤ length b
+  pub bare : (c : Character) (behind : List ℕ) → drop label b ≡ label·on c behind → any·label c ≡ false
+  pub unordered : (c : Character) (behind : List ℕ) → drop label b ≡ label·on c behind → c .ordering ≡ CharacterOrdering.Unordered
+  pub next : (c : Character) (behind : List ℕ) → drop label b ≡ label·on c behind → drop (label + 22) b ≡ behind
 
 -- A piece was put, and this stands at the next place of the record.
 pub record Put·on (b behind before : List ℕ) (n : ℕ) (piece : List ℕ → List ℕ) (after : List ℕ) (r : Putting) : Type 0 where

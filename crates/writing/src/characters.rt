@@ -3,7 +3,7 @@
 ghost use Prim.Native.Nat.{_+_, _≤_, min};
 ghost use Rattle.emit.specs.Puts.{Puts};
 ghost use Rattle.record.specs.Form.{comma, form·each, form·states};
-ghost use Rattle.writing.specs.CharacterLines.{Assumptions·put, Entries·put, Entry·put, Label·found, Label·put, Labels·put, Labels·told, Line·behind, Next·found, Order·found, States·found, States·put, Type·put, Types·put};
+ghost use Rattle.writing.specs.CharacterLines.{Assumptions·put, Entries·put, Entry·put, Label·found, Label·put, Labels·put, Labels·told, Line·behind, Next·found, Order·found, Plain·at, States·found, States·put, Type·put, Types·put};
 ghost use lib.ListN.{length, getD};
 ghost use mathlib.Core.Bool.{true};
 ghost use mathlib.Core.Path.{_≡_};
@@ -97,6 +97,22 @@ fn is_labelled(source: &[u8], label: usize, states: usize) -> bool
     (byte_at(source, label) != b'\n') | (byte_at(source, states) == b's')
 }
 
+// Do bytes tell that the character whose label begins at a place has neither a label nor state labels, and is unordered? Most characters are such.
+fn is_plain(source: &[u8], label: usize) -> bool
+    ensures { λ r. ⌜ (r ≡ true → Plain·at (now (source .entry)) label) ⌝ }
+{
+    if source.len() <= label {
+        return false;
+    }
+    if source.len() - label < 22 {
+        return false;
+    }
+    if (source[label] != b'\n') | (source[label + 7] != b'U') {
+        return false;
+    }
+    (source[label + 20] == b'0') & (source[label + 21] == b'\n')
+}
+
 // Puts the label that begins at a place, with a blank before it, if it is not empty.
 fn put_label(source: &[u8], at: usize, buffer: &mut [u8], n: usize) -> usize
     ensures { λ r. ⌜ Label·put (now (source .entry)) at (now (buffer .entry)) n (now (buffer .exit)) r ⌝ }
@@ -183,8 +199,12 @@ fn put_entries(
     let mut first = true;
     while k < characters.0 {
         let label = label_at(source, i);
-        let states = states_at(source, order_at(source, label));
         k += 1;
+        if is_plain(source, label) {
+            i = label + 22;
+            continue;
+        }
+        let states = states_at(source, order_at(source, label));
         if is_labelled(source, label, states) {
             let entry = put_entry(source, label, states, first, CharacterNumber(k), buffer, m);
             i = entry.at;
@@ -221,10 +241,16 @@ fn put_types(
     let mut m = n;
     let mut k: usize = 0;
     while k < characters.0 {
-        let order = order_at(source, label_at(source, i));
+        let label = label_at(source, i);
+        k += 1;
+        if is_plain(source, label) {
+            m = put_all(buffer, m, b" UNORD");
+            i = label + 22;
+            continue;
+        }
+        let order = order_at(source, label);
         m = put_type(source, order, buffer, m);
         i = next_at(source, states_at(source, order));
-        k += 1;
     }
     m
 }
