@@ -42,7 +42,7 @@ pub drop-next : (l : List ℕ) (i : ℕ) → i < length l → drop i l ≡ getD 
 drop-next l i h = rw add-one (drop-cons l i 0 h)
 
 -- A line's text with the LF behind it, in front of the rest.
-line-ended : (name rest : List ℕ) → escaped name ++ (10 ∷ rest) ≡ escaped name ++ (10 ∷ []) ++ rest
+pub line-ended : (name rest : List ℕ) → escaped name ++ (10 ∷ rest) ≡ escaped name ++ (10 ∷ []) ++ rest
 line-ended name rest = sym (append-snoc (escaped name) 10 rest)
 
 -- One text escaped behind another.
@@ -234,17 +234,3 @@ pub quoted-whole : (b : List ℕ) (at : ℕ) {before middle after : List ℕ} {n
     → Rest·quoted b at middle m after r → Quoted·put b at before n after r
 unfolding quoted
 quoted-whole b at f g name rest e = let s = g name rest e in record { next = s .next; put = puts-then f (s .put) }
-
--- So far a name is put up to a place: what puts the rest from there on puts the rest from the first place on.
-pub record Quoting (b : List ℕ) (at : ℕ) (before : List ℕ) (n : ℕ) (buffer : List ℕ) (i m : ℕ) : Type 0 where
-  pub kept : length buffer ≡ length before
-  pub ahead : at ≤ i
-  pub back : (after : List ℕ) (r : Putting) → Rest·quoted b i buffer m after r → Rest·quoted b at before n after r
-
-pub quoting-start : {b before : List ℕ} {at n : ℕ} → Quoting b at before n before at n
-quoting-start = record { kept = refl; ahead = omega arith; back = λ after r g. g }
-
--- One part more is put.
-pub quoting-turn : {b before buffer later : List ℕ} {at n i m j k : ℕ} → Quoting b at before n buffer i m → length later ≡ length buffer → i ≤ j
-    → ((after : List ℕ) (r : Putting) → Rest·quoted b j later k after r → Rest·quoted b i buffer m after r) → Quoting b at before n later j k
-quoting-turn q kept further on = record { kept = kept ∙ q .kept; ahead = omega (arith, q .ahead); back = λ after r g. q .back after r (on after r g) }

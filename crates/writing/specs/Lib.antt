@@ -4,3 +4,4 @@ pub mod Signs
 pub mod CellsPut
 pub mod QuotedNames
 pub mod RowsPut
+pub mod CharacterLines

@@ -1,5 +1,5 @@
 -- Names put in quotes byte by byte: bytes that stand as they are, and what is left of a name.
-use Prim.Native.Nat.{ℕ, _+_, _≤_}
+use Prim.Native.Nat.{ℕ, _+_}
 use Rattle.lexer.specs.Base.{byte}
 use Rattle.record.specs.Form.{quoted·from}
 use Rattle.record.specs.Spell.{escaped}
@@ -7,7 +7,7 @@ use Rattle.writing.specs.FormPut.{Put·line}
 use Rattle.writing.specs.declared.Putting.{Putting}
 use lib.Dec.{eqb}
 use lib.ListN.{length, drop}
-use mathlib.Core.Bool.{Bool, true, false, _||_, _&&_, not}
+use mathlib.Core.Bool.{Bool, true, _||_, _&&_, not}
 use mathlib.Core.List.{List, [], _∷_, _++_}
 use mathlib.Core.Path.{_≡_}
 

@@ -1,12 +1,15 @@
 // The written form of a record that was judged, put into a lent buffer or only measured. What each function means stands in specs/.
 
 mod cells;
+mod characters;
 mod formats;
 mod names;
 mod rows;
 mod signs;
 
 pub use cells::put_cells;
+pub use characters::put_assumptions;
+pub use characters::put_labels;
 pub use formats::put_dimensions;
 pub use formats::put_format;
 pub use names::put_quoted;

@@ -1,9 +1,11 @@
 -- The function `put_quoted` meets its contract. The measure is what is left of the bytes. Assumes nothing.
-use Prim.Native.Nat.{_-_}
+use Prim.Native.Nat.{_-_, _≤_}
 use Rattle.emit.proofs.PutLaws.{puts-as}
-use Rattle.writing.proofs.QuotedBytes.{Quoting, quoting-start, quoting-turn, quoted-whole, quoted-run, quoted-byte, quoted-end, quoted-slash, quoted-no-slash, quoted-past, run-inside, run-part}
+use Rattle.writing.proofs.PutWalks.{Going, going-start, going-turn}
+use Rattle.writing.proofs.QuotedBytes.{quoted-whole, quoted-run, quoted-byte, quoted-end, quoted-slash, quoted-no-slash, quoted-past, run-inside, run-part}
 use Rattle.writing.proofs.names.put_quoted.Statement.{statement}
 use Rattle.writing.proofs.names.put_quoted.Tie as tie
+use Rattle.writing.specs.QuotedNames.{Rest·quoted}
 use borrow.Author.Needs.{needs}
 use lib.ListN.{length}
 use mathlib.Core.List.{_++_}
@@ -11,7 +13,7 @@ use mathlib.Core.Path.{ap, refl}
 use native.Mathlib.Omega.{arith}
 
 abbrev Inv-loop : tie.InvT-loop
-Inv-loop source at buffer₀ n m₀ i₀ buffer m i = Quoting source i₀ buffer₀ m₀ buffer i m
+Inv-loop source at buffer₀ n m₀ i₀ buffer m i = (i₀ ≤ i) × Going buffer₀ (Rest·quoted source i₀ buffer₀ m₀) buffer (Rest·quoted source i buffer m)
 
 abbrev μ-loop : tie.MeasureT-loop
 μ-loop source at buffer₀ n m₀ i₀ buffer m i = length source - i
@@ -20,7 +22,7 @@ put-requires : tie.Need-put-requires Inv-loop μ-loop
 put-requires c κs = search needs
 
 loop-holds : tie.Need-loop-holds Inv-loop μ-loop
-loop-holds c = quoting-start
+loop-holds c = (omega arith, going-start)
 
 shared-slice-read-b : tie.Need-shared-slice-read-b Inv-loop μ-loop
 shared-slice-read-b c = search needs
@@ -37,8 +39,8 @@ same-length c = search needs
 returns : tie.Need-returns Inv-loop μ-loop
 returns c =
     let l = c .before .before .before .before .before .before .before in (
-      omega (arith, l .loop .inv .ahead),
-      quoted-whole _ _ (l .before .before .before .put .ensures) (l .loop .inv .back _ _ (quoted-end _ _ (c .before .before .before .before .before .before .loop-test .taken) (c .before .before .before .before .if1 .taken) (c .before .before .put2 .ensures) refl refl)),
+      omega (arith, l .loop .inv .0),
+      quoted-whole _ _ (l .before .before .before .put .ensures) (l .loop .inv .1 .finish _ _ (quoted-end _ _ (c .before .before .before .before .before .before .loop-test .taken) (c .before .before .before .before .if1 .taken) (c .before .before .put2 .ensures) refl refl)),
     )
 
 plain-run-requires : tie.Need-plain-run-requires Inv-loop μ-loop
@@ -62,9 +64,11 @@ loop-less c = search needs
 loop-again : tie.Need-loop-again Inv-loop μ-loop
 loop-again c =
     let l = c .before .before .before .before .before .before .before .before .before .before in
-    let run = c .before .before .before .before .before .before .plain-run .ensures in
-    quoting-turn (l .loop .inv) (c .before .before .put-all .ensures .kept) (omega (arith, c .before .before .before .before .before .if2 .taken))
-    (λ after r. quoted-run run (puts-as (c .before .before .put-all .ensures) (λ behind. ap (λ t. t ++ behind) (run-part _ _ _ run))))
+    let run = c .before .before .before .before .before .before .plain-run .ensures in (
+      omega (arith, c .before .before .before .before .before .if2 .taken),
+      going-turn (l .loop .inv .1) (c .before .before .put-all .ensures .kept)
+          (λ after r. quoted-run run (puts-as (c .before .before .put-all .ensures) (λ behind. ap (λ t. t ++ behind) (run-part _ _ _ run)))),
+    )
 
 put-byte-requires : tie.Need-put-byte-requires Inv-loop μ-loop
 put-byte-requires c κs = search needs
@@ -77,9 +81,11 @@ loop-less-2 c = search needs
 
 loop-again-2 : tie.Need-loop-again-2 Inv-loop μ-loop
 loop-again-2 c =
-    let l = c .before .before .before .before .before .before .before .before .before .before in
-    quoting-turn (l .loop .inv) (c .before .before .put-byte .ensures .kept) (omega arith)
-    (λ after r. quoted-byte _ _ (c .before .before .before .before .before .before .before .before .before .loop-test .taken) (c .before .before .before .before .before .before .before .if1 .left) (c .before .before .before .before .if3 .taken) (c .before .before .put-byte .ensures))
+    let l = c .before .before .before .before .before .before .before .before .before .before in (
+      omega arith,
+      going-turn (l .loop .inv .1) (c .before .before .put-byte .ensures .kept)
+          (λ after r. quoted-byte _ _ (c .before .before .before .before .before .before .before .before .before .loop-test .taken) (c .before .before .before .before .before .before .before .if1 .left) (c .before .before .before .before .if3 .taken) (c .before .before .put-byte .ensures)),
+    )
 
 sub-if4 : tie.Need-sub-if4 Inv-loop μ-loop
 sub-if4 c = search needs
@@ -90,8 +96,8 @@ same-length-2 c = search needs
 returns-2 : tie.Need-returns-2 Inv-loop μ-loop
 returns-2 c =
     let l = c .before .before .before .before .before .before .before in (
-      l .loop .inv .ahead,
-      quoted-whole _ _ (l .before .before .before .put .ensures) (l .loop .inv .back _ _ (quoted-no-slash _ _ (c .before .before .before .before .before .before .loop-test .taken) (omega arith) (c .before .if3 .left))),
+      l .loop .inv .0,
+      quoted-whole _ _ (l .before .before .before .put .ensures) (l .loop .inv .1 .finish _ _ (quoted-no-slash _ _ (c .before .before .before .before .before .before .loop-test .taken) (omega arith) (c .before .if3 .left))),
     )
 
 add-meant : tie.Need-add-meant Inv-loop μ-loop
@@ -114,9 +120,11 @@ loop-less-3 c = search needs
 
 loop-again-3 : tie.Need-loop-again-3 Inv-loop μ-loop
 loop-again-3 c =
-    let l = c .before .before .before .before .before .before .before .before .before .before .before .before .before in
-    quoting-turn (l .loop .inv) (c .before .before .put3 .ensures .kept) (omega arith)
-    (λ after r. quoted-slash _ _ (omega arith) (c .before .before .before .before .before .before .before .if3 .left) _ (c .before .before .before .meant .ensures) (c .before .before .put3 .ensures))
+    let l = c .before .before .before .before .before .before .before .before .before .before .before .before .before in (
+      omega arith,
+      going-turn (l .loop .inv .1) (c .before .before .put3 .ensures .kept)
+          (λ after r. quoted-slash _ _ (omega arith) (c .before .before .before .before .before .before .before .if3 .left) _ (c .before .before .before .meant .ensures) (c .before .before .put3 .ensures)),
+    )
 
 same-length-3 : tie.Need-same-length-3 Inv-loop μ-loop
 same-length-3 c = search needs
@@ -124,7 +132,7 @@ same-length-3 c = search needs
 returns-3 : tie.Need-returns-3 Inv-loop μ-loop
 returns-3 c =
     let l = c .before in
-    (l .loop .inv .ahead, quoted-whole _ _ (l .before .before .before .put .ensures) (l .loop .inv .back _ _ (quoted-past _ _ (c .loop-test .left))))
+    (l .loop .inv .0, quoted-whole _ _ (l .before .before .before .put .ensures) (l .loop .inv .1 .finish _ _ (quoted-past _ _ (c .loop-test .left))))
 
 pub put-quoted-spec : {M : Type 1} → statement M
 put-quoted-spec =
