@@ -1,6 +1,7 @@
 -- What the proofs of this crate rest on.
 mod CellPut
 mod EntryPuts
+mod FormLaws
 mod FormatLaws
 mod LinePlaces
 mod MembersPut

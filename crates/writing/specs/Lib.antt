@@ -5,3 +5,4 @@ pub mod CellsPut
 pub mod QuotedNames
 pub mod RowsPut
 pub mod CharacterLines
+pub mod FormParts

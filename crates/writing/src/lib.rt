@@ -3,6 +3,7 @@
 mod cells;
 mod characters;
 mod formats;
+mod forms;
 mod names;
 mod rows;
 mod signs;
@@ -12,6 +13,7 @@ pub use characters::put_assumptions;
 pub use characters::put_labels;
 pub use formats::put_dimensions;
 pub use formats::put_format;
+pub use forms::put_form;
 pub use names::put_quoted;
 pub use rows::put_rows;
 pub use signs::gap_sign;

@@ -1,0 +1,36 @@
+-- The function `put_form` meets its contract. Assumes nothing.
+use Rattle.emit.proofs.PutLaws.{puts-then}
+use Rattle.writing.proofs.FormLaws.{shape-assumptions}
+use Rattle.writing.specs.FormParts.{form·head, form·matrix}
+use Rattle.writing.specs.FormPut.{form·piece}
+use borrow.Author.Needs.{needs}
+use mathlib.Core.Path.{_∙_}
+use Rattle.writing.proofs.forms.put_form.Statement.{statement}
+use Rattle.writing.proofs.forms.put_form.Tie as tie
+
+put-head-requires : tie.Need-put-head-requires
+put-head-requires c κs = search needs
+
+put-matrix-requires : tie.Need-put-matrix-requires
+put-matrix-requires c κs = search needs
+
+put-assumptions-requires : tie.Need-put-assumptions-requires
+put-assumptions-requires c κs = search needs
+
+same-length : tie.Need-same-length
+same-length c = search needs
+
+returns : tie.Need-returns
+unfolding form·piece form·head form·matrix
+returns c =
+    let last = c .before .before in
+    let matrix = last .before .before .before .before in
+    let head = matrix .before .before .before .before in (
+      λ x of. puts-then (head .put-head .ensures x of) (puts-then (matrix .put-matrix .ensures x of) (shape-assumptions _ _ x of (last .put-assumptions .ensures))),
+      last .put-assumptions .kept .1 .1 .0 ∙ matrix .put-matrix .kept .1 .1 .0 ∙ head .put-head .kept .1 .1 .0,
+    )
+
+pub put-form-spec : {M : Type 1} → statement M
+put-form-spec =
+    tie.close
+    (tie.spec put-head-requires put-matrix-requires put-assumptions-requires same-length returns)
