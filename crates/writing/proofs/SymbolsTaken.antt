@@ -2,12 +2,13 @@
 use Prim.Native.Nat.{ℕ, zero, suc, _+_, _-_, _<_, _≤_}
 use Rattle.block.specs.Format.{valid·symbols}
 use Rattle.block.specs.declared.data.DataType.{DataType}
+use Rattle.judging.specs.declared.Shape.{Shape}
 use Rattle.lexer.proofs.Basics.{eqb-sym, or-both, or-left, or-right, or-first}
 use Rattle.lexer.proofs.ListLaws.{drop-next}
 use Rattle.lexer.proofs.TableLaws.{Filled}
 use Rattle.lexer.specs.Base.{among, bytes, pick}
 use Rattle.record.specs.Form.{first·free, gap·sign, missing·sign, sign}
-use Rattle.writing.specs.Signs.{Signed, sign·by, sign·of}
+use Rattle.writing.specs.Signs.{Signed, Signs·made, sign·by, sign·of, symbols·at}
 use borrow.Author.Tests.{eq-eqb, ne-eqb}
 use lib.Dec.{eqb}
 use lib.ListN.{length, drop, drop-of-length-le, getD, length-drop, length-take, take, List·getD-eq-default}
@@ -89,10 +90,10 @@ module _ (t : DataType) (symbols : List ℕ) where
   gap-dna e = rw e
 
 -- A table that is filled by these signs and the symbols holds the signs.
-pub table-signed : (t : DataType) (symbols table : List ℕ) (missing gap i : ℕ) → missing ≡ missing·sign t symbols → gap ≡ gap·sign t symbols
-    → Filled (sign·by missing gap symbols) 0 table i → 256 ≤ i → length symbols ≤ 74 → Signed t symbols table
+pub table-signed : (b : List ℕ) (s : Shape) (table : List ℕ) (missing gap i : ℕ) → Filled (sign·by missing gap (symbols·at b s)) 0 table i → 256 ≤ i
+    → Signs·made b s missing gap → length (symbols·at b s) ≤ 74 → Signed (s .«data_type») (symbols·at b s) table
 unfolding sign·of
-table-signed t symbols table missing gap i e f s h few = record { few = few; each = λ b low. rw (e, f) at (s .entry b (omega arith)) }
+table-signed b s table missing gap i f h made few = record { few = few; each = λ k low. rw (made .of·missing, made .of·gap) at (f .entry k (omega arith)) }
 
 -- The symbol of an index, and that there is none.
 module _ (b : List ℕ) (at count i : ℕ) where

@@ -7,6 +7,7 @@ use Rattle.judging.specs.Shapes.{Shape·of}
 use Rattle.judging.specs.declared.Shape.{Shape}
 use Rattle.lexer.specs.Base.{bytes}
 use Rattle.record.specs.Form.{form·dimensions, form·format, form·labels, form·rows}
+use Rattle.writing.specs.Signs.{Signs·made}
 use mathlib.Core.List.{List, _++_}
 
 -- The commands in front of the matrix.
@@ -18,6 +19,6 @@ form·head r behind =
 unfoldable pub form·matrix : Reading → List ℕ → List ℕ
 form·matrix r behind = bytes "MATRIX\n" ++ form·rows (r .data·type) (r .symbols) (r .taxa) (bytes ";\nEND;\n" ++ behind)
 
--- Where the record of a reading stands and has this shape, a part of its form is put.
-abbrev pub Part·put : (Reading → List ℕ → List ℕ) → List ℕ → Shape → List ℕ → ℕ → List ℕ → ℕ → Type 0
-Part·put piece b s before n after next = (x : Reading) → Shape·of b s x → Puts before n (piece x) after next
+-- Where the record of a reading stands and has this shape, and these are its signs, a part of its form is put.
+abbrev pub Part·put : (Reading → List ℕ → List ℕ) → List ℕ → Shape → ℕ → ℕ → List ℕ → ℕ → List ℕ → ℕ → Type 0
+Part·put piece b s missing gap before n after next = (x : Reading) → Shape·of b s x → Signs·made b s missing gap → Puts before n (piece x) after next

@@ -3,11 +3,9 @@
 ghost use Rattle.emit.specs.Puts.{Puts};
 ghost use Rattle.record.specs.Form.{form·format, gap·option};
 ghost use Rattle.writing.specs.RowsPut.{form·counts, form·standard};
-ghost use Rattle.writing.specs.Signs.{symbols·at};
+ghost use Rattle.writing.specs.Signs.{Signs·made, symbols·at};
 ghost use lib.ListN.{drop, take};
 ghost use mathlib.Core.List.{_++_};
-use super::signs::gap_sign;
-use super::signs::missing_sign;
 use block::DataType;
 use emit::put;
 use emit::put_all;
@@ -54,10 +52,10 @@ fn put_gap(buffer: &mut [u8], n: usize, sign: u8, gaps: bool) -> usize
 fn put_standard(
     source: &[u8],
     shape: Shape,
-    buffer: &mut [u8],
-    n: usize,
     missing: u8,
     gap: u8,
+    buffer: &mut [u8],
+    n: usize,
 ) -> usize
     ensures { λ r. ⌜ Puts (now (buffer .entry)) n (form·standard missing gap (symbols·at (now (source .entry)) shape) (shape .gaps)) (now (buffer .exit)) r ⌝ }
 {
@@ -69,17 +67,20 @@ fn put_standard(
     put_all(buffer, end, b"\";\n")
 }
 
-// Puts FORMAT.
-pub fn put_format(source: &[u8], shape: Shape, buffer: &mut [u8], n: usize) -> usize
-    ensures { λ r. ⌜ Puts (now (buffer .entry)) n (form·format (shape .«data_type») (symbols·at (now (source .entry)) shape) (shape .gaps)) (now (buffer .exit)) r ⌝ }
+// Puts FORMAT, by the signs of a missing cell and of a gap.
+pub fn put_format(
+    source: &[u8],
+    shape: Shape,
+    missing: u8,
+    gap: u8,
+    buffer: &mut [u8],
+    n: usize,
+) -> usize
+    ensures { λ r. ⌜ (Signs·made (now (source .entry)) shape missing gap → Puts (now (buffer .entry)) n (form·format (shape .«data_type») (symbols·at (now (source .entry)) shape) (shape .gaps)) (now (buffer .exit)) r) ⌝ }
 {
     let data_type = shape.data_type;
     match data_type {
-        DataType::Standard => {
-            let missing = missing_sign(source, shape);
-            let gap = gap_sign(source, shape);
-            put_standard(source, shape, buffer, n, missing, gap)
-        }
+        DataType::Standard => put_standard(source, shape, missing, gap, buffer, n),
         DataType::Dna => put_all(buffer, n, b"FORMAT DATATYPE=DNA MISSING=? GAP=-;\n"),
     }
 }

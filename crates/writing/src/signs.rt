@@ -3,8 +3,8 @@
 ghost use Prim.Native.Nat.{_≤_};
 ghost use Rattle.block.specs.Format.{valid·symbols};
 ghost use Rattle.lexer.specs.Base.{among};
-ghost use Rattle.record.specs.Form.{first·free, gap·sign, missing·sign, sign};
-ghost use Rattle.writing.specs.Signs.{Signed, sign·by, symbols·at};
+ghost use Rattle.record.specs.Form.{first·free, missing·sign, sign};
+ghost use Rattle.writing.specs.Signs.{Signed, Signs·made, sign·by, symbols·at};
 ghost use lib.ListN.{drop, length, take};
 ghost use mathlib.Core.List.{_∷_};
 ghost use mathlib.Core.Path.{_≡_};
@@ -70,11 +70,10 @@ pub fn missing_sign(source: &[u8], shape: Shape) -> u8
     }
 }
 
-// The sign of a gap.
-pub fn gap_sign(source: &[u8], shape: Shape) -> u8
-    ensures { λ r. ⌜ r ≡ gap·sign (shape .«data_type») (symbols·at (now (source .entry)) shape) ⌝ }
+// The sign of a gap, by that of a missing cell.
+pub fn gap_sign(source: &[u8], shape: Shape, missing: u8) -> u8
+    ensures { λ r. ⌜ (missing ≡ missing·sign (shape .«data_type») (symbols·at (now (source .entry)) shape) → Signs·made (now (source .entry)) shape missing r) ⌝ }
 {
-    let missing = missing_sign(source, shape);
     let data_type = shape.data_type;
     match data_type {
         DataType::Standard => free_sign(source, shape, missing),
@@ -117,12 +116,10 @@ fn byte_sign(source: &[u8], at: usize, count: usize, missing: u8, gap: u8, b: u8
     0
 }
 
-// The signs of a record's cells.
-pub fn sign_table(source: &[u8], shape: Shape) -> [u8; 256]
-    ensures { λ r. ⌜ (length (symbols·at (now (source .entry)) shape) ≤ 74 → Signed (shape .«data_type») (symbols·at (now (source .entry)) shape) r) ⌝ }
+// The signs of a record's cells, by those of a missing cell and of a gap.
+pub fn sign_table(source: &[u8], shape: Shape, missing: u8, gap: u8) -> [u8; 256]
+    ensures { λ r. ⌜ (Signs·made (now (source .entry)) shape missing gap → length (symbols·at (now (source .entry)) shape) ≤ 74 → Signed (shape .«data_type») (symbols·at (now (source .entry)) shape) r) ⌝ }
 {
-    let missing = missing_sign(source, shape);
-    let gap = gap_sign(source, shape);
     let mut table = [0u8; 256];
     let mut i = 0;
     while i < 256 {

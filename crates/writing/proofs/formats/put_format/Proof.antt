@@ -9,12 +9,6 @@ use Rattle.writing.proofs.formats.put_format.Tie as tie
 enum-told : tie.Need-enum-told
 enum-told c = search needs
 
-missing-sign-requires : tie.Need-missing-sign-requires
-missing-sign-requires c κs = search needs
-
-gap-sign-requires : tie.Need-gap-sign-requires
-gap-sign-requires c κs = search needs
-
 put-standard-requires : tie.Need-put-standard-requires
 put-standard-requires c κs = search needs
 
@@ -33,22 +27,20 @@ same-length c = search needs
 returns : tie.Need-returns
 returns c =
     let p = c .before .before in
-    puts-as (p .put-standard .ensures) (format-standard _ _ _ (p .before .before .before .before .enum-told .given .1) (p .before .before .before .missing-sign .ensures) (p .before .before .gap-sign .ensures))
+    λ made. puts-as (p .put-standard .ensures) (format-standard _ _ _ (p .before .before .enum-told .given .1) (made .of·missing) (made .of·gap))
 
 same-length-2 : tie.Need-same-length-2
 same-length-2 c = search needs
 
 returns-2 : tie.Need-returns-2
 unfolding bytes
-returns-2 c = let p = c .before .before in puts-as (p .put-all .ensures) (format-dna _ _ _ (p .before .before .before .enum-told2 .given .1))
+returns-2 c = let p = c .before .before in λ made. puts-as (p .put-all .ensures) (format-dna _ _ _ (p .before .before .before .enum-told2 .given .1))
 
 pub put-format-spec : {M : Type 1} → statement M
 put-format-spec =
     tie.close
     (tie.spec
     enum-told
-    missing-sign-requires
-    gap-sign-requires
     put-standard-requires
     enum-told-2
     slice-aggregate-put-all

@@ -8,6 +8,12 @@ use mathlib.Core.Path.{_∙_}
 use Rattle.writing.proofs.forms.put_form.Statement.{statement}
 use Rattle.writing.proofs.forms.put_form.Tie as tie
 
+missing-sign-requires : tie.Need-missing-sign-requires
+missing-sign-requires c κs = search needs
+
+gap-sign-requires : tie.Need-gap-sign-requires
+gap-sign-requires c κs = search needs
+
 put-head-requires : tie.Need-put-head-requires
 put-head-requires c κs = search needs
 
@@ -25,12 +31,20 @@ unfolding form·piece form·head form·matrix
 returns c =
     let last = c .before .before in
     let matrix = last .before .before .before .before in
-    let head = matrix .before .before .before .before in (
-      λ x of. puts-then (head .put-head .ensures x of) (puts-then (matrix .put-matrix .ensures x of) (shape-assumptions _ _ x of (last .put-assumptions .ensures))),
-      last .put-assumptions .kept .1 .1 .0 ∙ matrix .put-matrix .kept .1 .1 .0 ∙ head .put-head .kept .1 .1 .0,
+    let head = matrix .before .before .before .before in
+    let made = head .before .before .gap-sign .ensures (head .before .before .before .missing-sign .ensures) in (
+      λ x of. puts-then (head .put-head .ensures x of made) (puts-then (matrix .put-matrix .ensures x of made) (shape-assumptions _ _ x of (last .put-assumptions .ensures))),
+      last .put-assumptions .kept .1 .1 .0 ∙ matrix .put-matrix .kept .1 .1 .1 .1 .0 ∙ head .put-head .kept .1 .1 .1 .1 .0,
     )
 
 pub put-form-spec : {M : Type 1} → statement M
 put-form-spec =
     tie.close
-    (tie.spec put-head-requires put-matrix-requires put-assumptions-requires same-length returns)
+    (tie.spec
+    missing-sign-requires
+    gap-sign-requires
+    put-head-requires
+    put-matrix-requires
+    put-assumptions-requires
+    same-length
+    returns)

@@ -31,9 +31,9 @@ returns c =
     let labels = c .before .before in
     let format = labels .before .before .before .before in
     let counts = format .before .before .before .before in
-    λ x of. puts-then (counts .before .before .before .before .put-all .ensures)
+    λ x of made. puts-then (counts .before .before .before .before .put-all .ensures)
     (puts-then (puts-as (counts .put-dimensions .ensures) (shape-dimensions _ _ x of))
-    (puts-then (puts-as (format .put-format .ensures) (shape-format _ _ x of)) (shape-labels _ _ x of (labels .put-labels .ensures))))
+    (puts-then (puts-as (format .put-format .ensures made) (shape-format _ _ x of)) (shape-labels _ _ x of (labels .put-labels .ensures))))
 
 pub put-head-spec : {M : Type 1} → statement M
 put-head-spec =

@@ -34,7 +34,7 @@ returns c =
     let e = c .before .before in
     let rows = e .before .before .before .before .before in
     let begun = rows .before .before .before .before .before in
-    λ x of. puts-then (begun .put-all .ensures) (puts-then (shape-rows _ _ x of _ (begun .before .before .before .sign-table .ensures) (rows .put-rows .ensures)) (e .put-all2 .ensures))
+    λ x of made. puts-then (begun .put-all .ensures) (puts-then (shape-rows _ _ x of _ (begun .before .before .before .sign-table .ensures made) (rows .put-rows .ensures)) (e .put-all2 .ensures))
 
 pub put-matrix-spec : {M : Type 1} → statement M
 put-matrix-spec =

@@ -16,12 +16,6 @@ Inv-loop source shape missing gap table₀ i₀ table i = (length table ≡ 256)
 abbrev μ-loop : tie.MeasureT-loop
 μ-loop source shape missing gap table₀ i₀ table i = 256 - i
 
-missing-sign-requires : tie.Need-missing-sign-requires Inv-loop μ-loop
-missing-sign-requires c κs = search needs
-
-gap-sign-requires : tie.Need-gap-sign-requires Inv-loop μ-loop
-gap-sign-requires c κs = search needs
-
 loop-holds : tie.Need-loop-holds Inv-loop μ-loop
 loop-holds c = (refl, filled-start _ _ _)
 
@@ -46,7 +40,7 @@ loop-again c =
     (length-set (l .loop .table) (l .loop .i) (c .byte-sign .result) ∙ l .loop .inv .0, rw (c .byte-sign .ensures) (filled-turn _ _ _ _ (l .loop .inv .1) (omega arith)))
 
 returns : tie.Need-returns Inv-loop μ-loop
-returns c = table-signed _ _ _ _ _ _ (c .before .before .before .missing-sign .ensures) (c .before .before .gap-sign .ensures) (c .before .loop .inv .1) (c .loop-test .left)
+returns c = table-signed _ _ _ _ _ _ (c .before .loop .inv .1) (c .loop-test .left)
 
 pub sign-table-spec : {M : Type 1} → statement M
 sign-table-spec =
@@ -54,8 +48,6 @@ sign-table-spec =
     (tie.spec
     Inv-loop
     μ-loop
-    missing-sign-requires
-    gap-sign-requires
     loop-holds
     cast-byte-sign
     byte-sign-requires
