@@ -3,7 +3,7 @@ use Prim.Native.Nat.{ℕ, _+_, _/_, _%_, _<_, _≤_}
 use Rattle.block.specs.Cell.{Cell, state, uncertain, polymorphic, missing, gap}
 use Rattle.block.specs.Sound.{sound·cell}
 use Rattle.block.specs.declared.data.DataType.{DataType}
-use Rattle.emit.proofs.PutLaws.{puts-as, puts-then}
+use Rattle.emit.proofs.PutLaws.{puts-then}
 use Rattle.emit.specs.Puts.{Puts}
 use Rattle.lexer.proofs.Basics.{by-test}
 use Rattle.lexer.specs.Base.{pick}
@@ -12,7 +12,7 @@ use Rattle.record.specs.Form.{form·cell, form·set, sign}
 use Rattle.record.specs.Spell.{dotted, spell·cell}
 use Rattle.writing.proofs.MembersPut.{none-behind}
 use Rattle.writing.proofs.SignsRead.{front-byte, front-rest, one-digit, pair-digits, second-byte, sign-index, sign-one, signs-digit, signs-gap, signs-missing}
-use Rattle.writing.specs.CellsPut.{Cell·put, Set·put, Short·read, Sign·read, Text·put, form·within}
+use Rattle.writing.specs.CellsPut.{Cell·put, Set·put, Short·read, Sign·read, form·within}
 use Rattle.writing.specs.Signs.{Signed, sign·by, sign·of}
 use Rattle.writing.specs.declared.Putting.{Putting}
 use Rattle.writing.specs.declared.cells.Sign.{Sign}
@@ -20,7 +20,7 @@ use borrow.Author.Tests.{ltb-false, ltb-true}
 use lib.Dec.{ltb}
 use lib.ListN.{length, getD, drop}
 use mathlib.Core.Bool.{true}
-use mathlib.Core.List.{List, [], _∷_, _++_}
+use mathlib.Core.List.{List, _∷_, _++_}
 use mathlib.Core.Path.{_≡_, refl, sym, ap, _∙_}
 use native.Mathlib.Omega.{arith}
 

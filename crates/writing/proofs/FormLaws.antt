@@ -2,7 +2,6 @@
 use Prim.Native.Nat.{ℕ, _≤_}
 use Rattle.block.specs.Reading.{Reading}
 use Rattle.block.specs.Sound.{gap·in, most·symbols}
-use Rattle.emit.proofs.PutLaws.{puts-as}
 use Rattle.emit.specs.Puts.{Puts}
 use Rattle.judging.specs.Shapes.{Shape·of}
 use Rattle.judging.specs.declared.Shape.{Shape}
@@ -17,7 +16,7 @@ use lib.ListN.{length}
 use lib.Seq.{take-append-seam}
 use mathlib.Core.Bool.{Bool, true, false, false≢true}
 use mathlib.Core.List.{List, [], _∷_}
-use mathlib.Core.Path.{_≡_, refl, sym, ap, _∙_}
+use mathlib.Core.Path.{_≡_, sym}
 use native.Mathlib.Omega.{arith}
 
 -- There are at most 73 symbols.

@@ -7,8 +7,8 @@ use Rattle.writing.specs.RowsPut.{form·standard}
 use lib.ListN.{length, drop, drop-of-length-le, length-drop, take}
 use lib.Seq.{take-all, take-nil}
 use mathlib.Core.Bool.{Bool}
-use mathlib.Core.List.{List, [], _++_}
-use mathlib.Core.Path.{_≡_, refl, sym, ap, _∙_}
+use mathlib.Core.List.{List, _++_}
+use mathlib.Core.Path.{_≡_, sym, ap, _∙_}
 use native.Mathlib.Omega.{arith}
 
 -- FORMAT of a record with its own symbols, and of one of DNA.

@@ -3,10 +3,9 @@ use Prim.Native.Nat.{ℕ, _+_, _<_, _≤_}
 use Rattle.block.proofs.RisingLaws.{rising-first, rising-rest}
 use Rattle.block.specs.Sound.{rising, sound·set}
 use Rattle.block.specs.declared.data.DataType.{DataType}
-use Rattle.emit.proofs.PutLaws.{puts-as, puts-none, puts-then}
+use Rattle.emit.proofs.PutLaws.{puts-then}
 use Rattle.emit.specs.Puts.{Puts}
 use Rattle.judging.proofs.JudgeLaws.{drop-behind}
-use Rattle.lexer.proofs.Basics.{and-right, not-both}
 use Rattle.lexer.specs.Base.{empty?}
 use Rattle.record.specs.Decimal.{decimal}
 use Rattle.record.specs.Form.{form·set, sign}
@@ -17,7 +16,7 @@ use Rattle.writing.specs.Signs.{Signed}
 use Rattle.writing.specs.declared.Putting.{Putting}
 use Rattle.writing.specs.declared.cells.Sign.{Sign}
 use lib.ListN.{length, getD, drop, drop-of-length-le, length-append}
-use mathlib.Core.Bool.{true, false, false≢true, not, _&&_}
+use mathlib.Core.Bool.{true, false, false≢true}
 use mathlib.Core.List.{List, [], _∷_, _++_, append-assoc}
 use mathlib.Core.Path.{_≡_, refl, sym, ap, _∙_}
 use native.Mathlib.Omega.{arith}

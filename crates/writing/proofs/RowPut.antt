@@ -1,5 +1,5 @@
 -- The cells of a row, put one behind another: what is left of them, and whatever puts that makes all of them put. Assumes nothing.
-use Prim.Native.Nat.{ℕ, _+_, _<_, _≤_}
+use Prim.Native.Nat.{ℕ, _+_, _≤_}
 use Rattle.block.specs.Cell.{Cell}
 use Rattle.block.specs.Sound.{sound·cell, sound·cells}
 use Rattle.block.specs.declared.data.DataType.{DataType}
@@ -9,17 +9,16 @@ use Rattle.judging.proofs.JudgeLaws.{drop-behind}
 use Rattle.lexer.proofs.Basics.{and-left, and-right}
 use Rattle.record.specs.Form.{form·cell, form·cells}
 use Rattle.record.specs.Spell.{spell·cell, spell·cells}
-use Rattle.writing.proofs.CellPut.{Short, short-cell}
+use Rattle.writing.proofs.CellPut.{short-cell}
 use Rattle.writing.proofs.MembersPut.{none-behind}
 use Rattle.writing.proofs.SignsRead.{front-byte, front-rest}
-use Rattle.writing.specs.CellsPut.{Cell·put, Cells·put, Row·here, Row·left, Run·put, Short·read, Text·put}
-use Rattle.writing.specs.FormPut.{Put·line}
+use Rattle.writing.specs.CellsPut.{Cell·put, Cells·put, Row·here, Run·put, Short·read, Text·put}
 use Rattle.writing.specs.Signs.{Signed}
 use Rattle.writing.specs.declared.Putting.{Putting}
 use lib.ListN.{length, getD, drop, length-append}
 use mathlib.Core.Bool.{true}
 use mathlib.Core.List.{List, [], _∷_, _++_, append-assoc}
-use mathlib.Core.Path.{_≡_, refl, sym, ap, _∙_}
+use mathlib.Core.Path.{_≡_, refl, ap, _∙_}
 use native.Mathlib.Omega.{arith}
 
 -- All cells are left at the start.

@@ -9,20 +9,19 @@ use Rattle.emit.specs.Puts.{Puts, last·place}
 use Rattle.judging.proofs.JudgeLaws.{drop-behind}
 use Rattle.lexer.proofs.Basics.{and-left, and-right}
 use Rattle.lexer.specs.Base.{bytes}
-use Rattle.record.specs.Form.{form·cells, form·rows}
+use Rattle.record.specs.Form.{form·rows}
 use Rattle.record.specs.Spell.{escaped, line, spell·cells, spell·taxa}
 use Rattle.writing.proofs.SignsRead.{front-rest}
 use Rattle.writing.specs.CellsPut.{Cells·put}
 use Rattle.writing.specs.FormPut.{Quoted·put}
-use Rattle.writing.specs.RowsPut.{Row·put, Rows·put, Taxa·here, Taxon·put, form·row}
+use Rattle.writing.specs.RowsPut.{Row·put, Rows·put, Taxa·here, form·row}
 use Rattle.writing.specs.Signs.{Signed}
 use Rattle.writing.specs.declared.Putting.{Putting}
 use borrow.Author.Tests.{eqb-true}
 use lib.Dec.{eqb}
 use lib.ListN.{length, drop, length-append, length-drop}
-use mathlib.Core.Bool.{true}
 use mathlib.Core.List.{List, [], _∷_, _++_}
-use mathlib.Core.Path.{_≡_, refl, sym, ap, _∙_}
+use mathlib.Core.Path.{_≡_, sym, ap, _∙_}
 use native.Mathlib.Omega.{arith}
 
 -- Behind the key of a line stands its value, and behind its LF the rest.

@@ -2,7 +2,7 @@
 use Prim.Native.Nat.{ℕ, _+_, _*_, _-_, _/_, _%_, _<_, _≤_}
 use Rattle.block.specs.declared.data.DataType.{DataType}
 use Rattle.judging.proofs.JudgeLaws.{drop-behind}
-use Rattle.lexer.proofs.Basics.{all-four, all-under, and-assoc, and-both, and-left, and-right, by-test, same-true, under-at}
+use Rattle.lexer.proofs.Basics.{all-four, all-under, and-assoc, and-both, by-test, same-true, under-at}
 use Rattle.lexer.specs.Base.{pick, same}
 use Rattle.record.specs.Decimal.{decimal, decimal·from, digit}
 use Rattle.record.specs.Form.{gap·sign, missing·sign, sign}

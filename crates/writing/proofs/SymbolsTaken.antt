@@ -3,7 +3,7 @@ use Prim.Native.Nat.{ℕ, zero, suc, _+_, _-_, _<_, _≤_}
 use Rattle.block.specs.Format.{valid·symbols}
 use Rattle.block.specs.declared.data.DataType.{DataType}
 use Rattle.judging.specs.declared.Shape.{Shape}
-use Rattle.lexer.proofs.Basics.{eqb-sym, or-both, or-left, or-right, or-first}
+use Rattle.lexer.proofs.Basics.{eqb-sym, or-left, or-right, or-first}
 use Rattle.lexer.proofs.ListLaws.{drop-next}
 use Rattle.lexer.proofs.TableLaws.{Filled}
 use Rattle.lexer.specs.Base.{among, bytes, pick}

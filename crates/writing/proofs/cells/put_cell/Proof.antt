@@ -1,10 +1,10 @@
 -- The function `put_cell` meets its contract. Assumes nothing.
-use native.Mathlib.Omega.{arith}
 use Rattle.writing.proofs.CellPut.{cell-none, cell-polymorphic, cell-single, cell-uncertain}
 use Rattle.writing.proofs.SignsRead.{sign-ahead}
-use borrow.Author.Needs.{needs}
 use Rattle.writing.proofs.cells.put_cell.Statement.{statement}
 use Rattle.writing.proofs.cells.put_cell.Tie as tie
+use borrow.Author.Needs.{needs}
+use native.Mathlib.Omega.{arith}
 
 returns : tie.Need-returns
 returns c = (omega arith, cell-none _ _ _ _ _ _ _ (c .if1 .taken))

@@ -1,13 +1,13 @@
 -- The function `put_cells` meets its contract. A turn puts cells of one byte each, and one cell more. The measure is what is left of the bytes. Assumes nothing.
 use Prim.Native.Nat.{_-_}
 use Rattle.writing.proofs.RowPut.{cells-end, cells-none, cells-turn, run-all, run-start, run-then}
+use Rattle.writing.proofs.cells.put_cells.Statement.{statement}
+use Rattle.writing.proofs.cells.put_cells.Tie as tie
 use Rattle.writing.specs.CellsPut.{Run·put}
 use borrow.Author.Needs.{needs}
 use lib.ListN.{length}
 use mathlib.Core.Path.{_≡_, refl, _∙_}
 use native.Mathlib.Omega.{arith}
-use Rattle.writing.proofs.cells.put_cells.Statement.{statement}
-use Rattle.writing.proofs.cells.put_cells.Tie as tie
 
 abbrev Inv-loop : tie.InvT-loop
 Inv-loop source from signs buffer₀ n at₀ m₀ buffer at m = (length buffer ≡ length buffer₀) × Run·put source signs from buffer₀ n buffer (record { at = at; n = m })

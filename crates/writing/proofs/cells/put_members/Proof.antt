@@ -2,13 +2,13 @@
 use Prim.Native.Nat.{_-_, _≤_}
 use Rattle.writing.proofs.MembersPut.{Members, members-end, members-none, members-start, members-turn}
 use Rattle.writing.proofs.SignsRead.{byte-within, sign-ahead}
+use Rattle.writing.proofs.cells.put_members.Statement.{statement}
+use Rattle.writing.proofs.cells.put_members.Tie as tie
 use borrow.Author.Needs.{needs}
 use denote.Ref.{now}
 use lib.ListN.{length}
 use mathlib.Core.Path.{_≡_, refl, sym, _∙_}
 use native.Mathlib.Omega.{arith}
-use Rattle.writing.proofs.cells.put_members.Statement.{statement}
-use Rattle.writing.proofs.cells.put_members.Tie as tie
 
 abbrev Inv-loop : tie.InvT-loop
 Inv-loop source from signs buffer₀ n at₀ m₀ buffer at m = (from ≤ at) × (length buffer ≡ length buffer₀) × Members source signs from buffer₀ n buffer at m

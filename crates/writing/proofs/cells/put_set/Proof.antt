@@ -1,9 +1,9 @@
 -- The function `put_set` meets its contract. Assumes nothing.
-use native.Mathlib.Omega.{arith}
 use Rattle.writing.proofs.CellPut.{set-within}
-use borrow.Author.Needs.{needs}
 use Rattle.writing.proofs.cells.put_set.Statement.{statement}
 use Rattle.writing.proofs.cells.put_set.Tie as tie
+use borrow.Author.Needs.{needs}
+use native.Mathlib.Omega.{arith}
 
 put-requires : tie.Need-put-requires
 put-requires c κs = search needs

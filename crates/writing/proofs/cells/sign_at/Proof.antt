@@ -1,11 +1,11 @@
 -- The function `sign_at` meets its contract. Assumes nothing.
 use Rattle.writing.proofs.SignsRead.{read-one, read-two, two-bounds}
+use Rattle.writing.proofs.cells.sign_at.Statement.{statement}
+use Rattle.writing.proofs.cells.sign_at.Tie as tie
 use Rattle.writing.specs.CellsPut.{two·digits}
 use borrow.Author.Needs.{needs}
 use lib.ListN.{getD}
 use native.Mathlib.Omega.{arith}
-use Rattle.writing.proofs.cells.sign_at.Statement.{statement}
-use Rattle.writing.proofs.cells.sign_at.Tie as tie
 
 shared-slice-read-y : tie.Need-shared-slice-read-y
 shared-slice-read-y c = search needs

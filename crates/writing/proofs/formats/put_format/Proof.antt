@@ -2,9 +2,9 @@
 use Rattle.emit.proofs.PutLaws.{puts-as}
 use Rattle.lexer.specs.Base.{bytes}
 use Rattle.writing.proofs.FormatLaws.{format-dna, format-standard}
-use borrow.Author.Needs.{needs}
 use Rattle.writing.proofs.formats.put_format.Statement.{statement}
 use Rattle.writing.proofs.formats.put_format.Tie as tie
+use borrow.Author.Needs.{needs}
 
 enum-told : tie.Need-enum-told
 enum-told c = search needs

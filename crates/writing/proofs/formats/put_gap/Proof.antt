@@ -2,9 +2,9 @@
 use Rattle.emit.proofs.PutLaws.{puts-none, puts-then}
 use Rattle.lexer.specs.Base.{bytes}
 use Rattle.record.specs.Form.{gap·option}
-use borrow.Author.Needs.{needs}
 use Rattle.writing.proofs.formats.put_gap.Statement.{statement}
 use Rattle.writing.proofs.formats.put_gap.Tie as tie
+use borrow.Author.Needs.{needs}
 
 slice-aggregate-put-all : tie.Need-slice-aggregate-put-all
 slice-aggregate-put-all c = search needs

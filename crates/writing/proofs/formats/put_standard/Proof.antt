@@ -1,10 +1,10 @@
 -- The function `put_standard` meets its contract. Assumes nothing.
 use Rattle.emit.proofs.PutLaws.{puts-then}
 use Rattle.lexer.specs.Base.{bytes}
-use Rattle.writing.specs.RowsPut.{form·standard}
-use borrow.Author.Needs.{needs}
 use Rattle.writing.proofs.formats.put_standard.Statement.{statement}
 use Rattle.writing.proofs.formats.put_standard.Tie as tie
+use Rattle.writing.specs.RowsPut.{form·standard}
+use borrow.Author.Needs.{needs}
 
 slice-aggregate-put-all : tie.Need-slice-aggregate-put-all
 slice-aggregate-put-all c = search needs

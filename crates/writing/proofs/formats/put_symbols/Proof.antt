@@ -1,11 +1,11 @@
 -- The function `put_symbols` meets its contract. Assumes nothing.
 use Rattle.emit.proofs.PutLaws.{puts-as, puts-none}
 use Rattle.writing.proofs.FormatLaws.{part-left, part-none, part-whole}
+use Rattle.writing.proofs.formats.put_symbols.Statement.{statement}
+use Rattle.writing.proofs.formats.put_symbols.Tie as tie
 use borrow.Author.Needs.{needs}
 use denote.Ref.{now}
 use native.Mathlib.Omega.{arith}
-use Rattle.writing.proofs.formats.put_symbols.Statement.{statement}
-use Rattle.writing.proofs.formats.put_symbols.Tie as tie
 
 returns : tie.Need-returns
 returns c = let a = c .before .before .before .args in puts-as puts-none (λ behind. part-none (now (a .source)) (a .at) (a .count) behind (c .if1 .taken))

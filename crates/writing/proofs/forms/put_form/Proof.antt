@@ -1,12 +1,12 @@
 -- The function `put_form` meets its contract. Assumes nothing.
 use Rattle.emit.proofs.PutLaws.{puts-then}
 use Rattle.writing.proofs.FormLaws.{shape-assumptions}
+use Rattle.writing.proofs.forms.put_form.Statement.{statement}
+use Rattle.writing.proofs.forms.put_form.Tie as tie
 use Rattle.writing.specs.FormParts.{form·head, form·matrix}
 use Rattle.writing.specs.FormPut.{form·piece}
 use borrow.Author.Needs.{needs}
 use mathlib.Core.Path.{_∙_}
-use Rattle.writing.proofs.forms.put_form.Statement.{statement}
-use Rattle.writing.proofs.forms.put_form.Tie as tie
 
 missing-sign-requires : tie.Need-missing-sign-requires
 missing-sign-requires c κs = search needs

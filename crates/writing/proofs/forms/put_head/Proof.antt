@@ -2,10 +2,10 @@
 use Rattle.emit.proofs.PutLaws.{puts-as, puts-then}
 use Rattle.lexer.specs.Base.{bytes}
 use Rattle.writing.proofs.FormLaws.{shape-dimensions, shape-format, shape-labels}
-use Rattle.writing.specs.FormParts.{form·head}
-use borrow.Author.Needs.{needs}
 use Rattle.writing.proofs.forms.put_head.Statement.{statement}
 use Rattle.writing.proofs.forms.put_head.Tie as tie
+use Rattle.writing.specs.FormParts.{form·head}
+use borrow.Author.Needs.{needs}
 
 slice-aggregate-put-all : tie.Need-slice-aggregate-put-all
 slice-aggregate-put-all c = search needs

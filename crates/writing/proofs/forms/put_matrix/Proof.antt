@@ -2,10 +2,10 @@
 use Rattle.emit.proofs.PutLaws.{puts-then}
 use Rattle.lexer.specs.Base.{bytes}
 use Rattle.writing.proofs.FormLaws.{shape-rows}
-use Rattle.writing.specs.FormParts.{form·matrix}
-use borrow.Author.Needs.{needs}
 use Rattle.writing.proofs.forms.put_matrix.Statement.{statement}
 use Rattle.writing.proofs.forms.put_matrix.Tie as tie
+use Rattle.writing.specs.FormParts.{form·matrix}
+use borrow.Author.Needs.{needs}
 
 sign-table-requires : tie.Need-sign-table-requires
 sign-table-requires c κs = search needs

@@ -1,8 +1,8 @@
 -- The function `put_row` meets its contract. Assumes nothing.
 use Rattle.writing.proofs.RowsLaws.{row-put}
-use borrow.Author.Needs.{needs}
 use Rattle.writing.proofs.rows.put_row.Statement.{statement}
 use Rattle.writing.proofs.rows.put_row.Tie as tie
+use borrow.Author.Needs.{needs}
 
 further-requires : tie.Need-further-requires
 further-requires c κs = search needs

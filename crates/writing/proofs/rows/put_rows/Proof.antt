@@ -1,12 +1,11 @@
 -- The function `put_rows` meets its contract. A turn puts a row. The measure is how many are left. Assumes nothing.
 use Prim.Native.Nat.{_-_}
 use Rattle.writing.proofs.RowsLaws.{Rows, rows-end, rows-start, rows-turn}
+use Rattle.writing.proofs.rows.put_rows.Statement.{statement}
+use Rattle.writing.proofs.rows.put_rows.Tie as tie
 use borrow.Author.Needs.{needs}
 use lib.ListN.{length}
 use mathlib.Core.Path.{_≡_, refl, _∙_}
-use native.Mathlib.Omega.{arith}
-use Rattle.writing.proofs.rows.put_rows.Statement.{statement}
-use Rattle.writing.proofs.rows.put_rows.Tie as tie
 
 abbrev Inv-loop : tie.InvT-loop
 Inv-loop source from taxa signs buffer₀ n at₀ m₀ i₀ buffer at m i = (length buffer ≡ length buffer₀) × Rows source signs taxa from buffer₀ n buffer at m i

@@ -1,13 +1,12 @@
 -- The function `byte_sign` meets its contract. Assumes nothing.
 use Rattle.lexer.proofs.Basics.{and-left}
 use Rattle.lexer.specs.Base.{pick}
+use Rattle.writing.proofs.signs.byte_sign.Statement.{statement}
+use Rattle.writing.proofs.signs.byte_sign.Tie as tie
 use Rattle.writing.specs.Signs.{sign·by}
 use borrow.Author.Needs.{needs}
 use borrow.Author.Tests.{eq-eqb, leb-true, ne-eqb, lt-leb, le-leb}
 use lib.Dec.{leb}
-use native.Mathlib.Omega.{arith}
-use Rattle.writing.proofs.signs.byte_sign.Statement.{statement}
-use Rattle.writing.proofs.signs.byte_sign.Tie as tie
 
 sub-symbol-at : tie.Need-sub-symbol-at
 sub-symbol-at c = let b = c .before .before .args .b in leb-true 48 b (and-left (leb 48 b) (leb b 57) (c .if1 .taken))

@@ -2,15 +2,14 @@
 use Prim.Native.Nat.{_-_}
 use Rattle.record.specs.Form.{first·free}
 use Rattle.writing.proofs.SymbolsTaken.{free-found, free-next, free-past, taken-by}
+use Rattle.writing.proofs.signs.first_free.Statement.{statement}
+use Rattle.writing.proofs.signs.first_free.Tie as tie
 use borrow.Author.Needs.{needs}
 use borrow.Author.Tests.{not-false, not-true}
 use denote.Ref.{now}
 use lib.ListN.{drop, length, take}
 use mathlib.Core.List.{_∷_}
 use mathlib.Core.Path.{_≡_, refl, sym, _∙_}
-use native.Mathlib.Omega.{arith}
-use Rattle.writing.proofs.signs.first_free.Statement.{statement}
-use Rattle.writing.proofs.signs.first_free.Tie as tie
 
 abbrev Inv-loop : tie.InvT-loop
 Inv-loop source from count other bytes i₀ i = first·free (other ∷ take count (drop from source)) (drop i bytes) ≡ first·free (other ∷ take count (drop from source)) bytes

@@ -1,9 +1,9 @@
 -- The function `free_sign` meets its contract. Assumes nothing.
 use Rattle.block.specs.Format.{valid·symbols}
 use Rattle.lexer.specs.Base.{bytes}
-use borrow.Author.Needs.{needs}
 use Rattle.writing.proofs.signs.free_sign.Statement.{statement}
 use Rattle.writing.proofs.signs.free_sign.Tie as tie
+use borrow.Author.Needs.{needs}
 
 slice-aggregate-first-free : tie.Need-slice-aggregate-first-free
 slice-aggregate-first-free c = search needs

@@ -1,8 +1,8 @@
 -- The function `gap_sign` meets its contract. Assumes nothing.
 use Rattle.writing.proofs.SymbolsTaken.{gap-dna, gap-standard}
-use borrow.Author.Needs.{needs}
 use Rattle.writing.proofs.signs.gap_sign.Statement.{statement}
 use Rattle.writing.proofs.signs.gap_sign.Tie as tie
+use borrow.Author.Needs.{needs}
 
 enum-told : tie.Need-enum-told
 enum-told c = search needs

@@ -2,13 +2,12 @@
 use Prim.Native.Nat.{_-_}
 use Rattle.lexer.specs.Base.{among}
 use Rattle.writing.proofs.SymbolsTaken.{among-found, among-next, among-none, among-past}
+use Rattle.writing.proofs.signs.is_symbol.Statement.{statement}
+use Rattle.writing.proofs.signs.is_symbol.Tie as tie
 use borrow.Author.Needs.{needs}
 use denote.Ref.{now}
 use lib.ListN.{drop, length, take}
 use mathlib.Core.Path.{_≡_, refl, sym, _∙_}
-use native.Mathlib.Omega.{arith}
-use Rattle.writing.proofs.signs.is_symbol.Statement.{statement}
-use Rattle.writing.proofs.signs.is_symbol.Tie as tie
 
 abbrev Inv-loop : tie.InvT-loop
 Inv-loop source from count b at₀ left₀ at left = among b (take left (drop at source)) ≡ among b (take count (drop from source))

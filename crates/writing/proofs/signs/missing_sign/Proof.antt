@@ -1,8 +1,8 @@
 -- The function `missing_sign` meets its contract. Assumes nothing.
 use Rattle.writing.proofs.SymbolsTaken.{missing-dna, missing-standard}
-use borrow.Author.Needs.{needs}
 use Rattle.writing.proofs.signs.missing_sign.Statement.{statement}
 use Rattle.writing.proofs.signs.missing_sign.Tie as tie
+use borrow.Author.Needs.{needs}
 
 enum-told : tie.Need-enum-told
 enum-told c = search needs

@@ -2,13 +2,13 @@
 use Prim.Native.Nat.{_-_}
 use Rattle.lexer.proofs.TableLaws.{Filled, filled-start, filled-turn}
 use Rattle.writing.proofs.SymbolsTaken.{table-signed}
+use Rattle.writing.proofs.signs.sign_table.Statement.{statement}
+use Rattle.writing.proofs.signs.sign_table.Tie as tie
 use Rattle.writing.specs.Signs.{sign·by, symbols·at}
 use borrow.Author.Needs.{needs}
 use lib.ListN.{length, length-set}
 use mathlib.Core.Path.{_≡_, refl, _∙_}
 use native.Mathlib.Omega.{arith}
-use Rattle.writing.proofs.signs.sign_table.Statement.{statement}
-use Rattle.writing.proofs.signs.sign_table.Tie as tie
 
 abbrev Inv-loop : tie.InvT-loop
 Inv-loop source shape missing gap table₀ i₀ table i = (length table ≡ 256) × Filled (sign·by missing gap (symbols·at source shape)) 0 table i

@@ -1,11 +1,11 @@
 -- The function `symbol_at` meets its contract. Assumes nothing.
-use native.Mathlib.Omega.{arith}
 use Rattle.writing.proofs.SymbolsTaken.{symbol-here, symbol-none, symbol-past}
+use Rattle.writing.proofs.signs.symbol_at.Statement.{statement}
+use Rattle.writing.proofs.signs.symbol_at.Tie as tie
 use borrow.Author.Needs.{needs}
 use denote.Ref.{now}
 use mathlib.Core.Path.{sym}
-use Rattle.writing.proofs.signs.symbol_at.Statement.{statement}
-use Rattle.writing.proofs.signs.symbol_at.Tie as tie
+use native.Mathlib.Omega.{arith}
 
 returns : tie.Need-returns
 returns c = let a = c .before .args in sym (symbol-none (now (a .source)) (a .at) (a .count) (a .i) (c .if1 .taken))
