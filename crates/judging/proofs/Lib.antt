@@ -1,4 +1,5 @@
--- What other crates may cite: laws of judging parts of a record, one behind another.
+-- What other crates may cite: lines of escaped bytes by their first byte, and laws of judging parts of a record, one behind another.
+pub mod EscapedLines
 pub mod JudgeLaws
 -- What the proofs of this crate alone rest on.
 mod CellBytes
@@ -9,7 +10,6 @@ mod CellsJudged
 mod CellsRun
 mod CharactersTold
 mod DecimalEnds
-mod EscapedLines
 mod HollowTexts
 mod KeyLaws
 mod LinesTold
