@@ -2,3 +2,4 @@
 pub mod DecimalMade
 pub mod DigitsStored
 pub mod PutLaws
+pub mod Delivery

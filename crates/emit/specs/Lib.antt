@@ -1,2 +1,3 @@
 -- What putting bytes means.
 pub mod Puts
+pub mod Delivered

@@ -1,4 +1,3 @@
 -- What the proofs of this crate rest on, and what other crates may cite.
-pub mod Delivery
 pub mod ReadLaws
 pub mod TokenPlaces

@@ -21,7 +21,8 @@ use Rattle.lexer.specs.declared.refusal.Refusal.{Refusal}
 use Rattle.parser.proofs.ParseRead.{parse-lexed}
 use Rattle.parser.specs.ParsedHeld.{parsed·held}
 use Rattle.parser.specs.Steps.{Parse·made}
-use Rattle.read.specs.Call.{Delivered, Held·delivered, Lexed·so, Read·call, Tokens·call}
+use Rattle.emit.specs.Delivered.{Delivered}
+use Rattle.read.specs.Call.{Held·delivered, Lexed·so, Read·call, Tokens·call}
 use Rattle.record.specs.Calls.{Result, refusal, refuse, answer, leaves, recorded, read·result, read·answer, read·leaves}
 use Rattle.record.specs.declared.Answer.{Answer}
 use borrow.Author.Tests.{leb-true}

@@ -3,10 +3,11 @@ use Prim.Native.Nat.{ℕ, _≤_}
 use Rattle.block.specs.Parse.{read}
 use Rattle.commands.specs.MatrixHeld.{format·held, reading·held}
 use Rattle.commands.specs.declared.state.Held.{Held}
+use Rattle.emit.specs.Delivered.{Delivered}
 use Rattle.lexer.specs.Lexing.{lexed}
 use Rattle.lexer.specs.Stored.{Stored}
 use Rattle.lexer.specs.declared.Lexed.{Lexed}
-use Rattle.record.specs.Calls.{Result, bytes·of, answer, leaves, recorded, read·answer, read·leaves}
+use Rattle.record.specs.Calls.{bytes·of, recorded, read·answer, read·leaves}
 use Rattle.record.specs.Spell.{spell}
 use Rattle.record.specs.declared.Answer.{Answer}
 use lib.ListN.{length, take}
@@ -17,11 +18,6 @@ use mathlib.Core.Path.{_≡_}
 pub record Lexed·so (text work : List ℕ) (count : ℕ) : Type 0 where
   pub told : Lexed.Tokens count ≡ lexed text (length work)
   pub held : Stored text work count
-
--- What a call comes to is answered, and the buffer is left as that says.
-pub record Delivered (x : Result) (before after : List ℕ) (r : Answer) : Type 0 where
-  pub answered : r ≡ answer x (length before)
-  pub left : after ≡ leaves x before
 
 -- If the format of a matrix that work memory holds has no more symbols than the code's format can hold, its record is delivered.
 abbrev pub Held·delivered : List ℕ → List ℕ → ℕ → Held → List ℕ → List ℕ → Answer → Type 0

@@ -1,6 +1,8 @@
 -- The function deliver meets its contract: the place behind the record, in a scratch of one byte, measures it. Assumes nothing.
 use Rattle.lexer.specs.Places.{nowhere}
-use Rattle.read.proofs.Delivery.{short-delivered, whole-delivered}
+use Rattle.emit.proofs.Delivery.{short-delivered, whole-delivered}
+use Rattle.reading.specs.RecordPut.{record·piece}
+use Rattle.record.specs.Spell.{spell}
 use Rattle.read.proofs.deliver.Statement.{statement}
 use Rattle.read.proofs.deliver.Tie as tie
 use borrow.Author.Needs.{needs}
@@ -13,7 +15,7 @@ put-record-requires : tie.Need-put-record-requires
 put-record-requires c κs = search needs
 
 returns : tie.Need-returns
-unfolding nowhere
+unfolding nowhere record·piece spell
 returns c few =
     let p = c .before .before in
     let s = p .before .before .before .before .before in
@@ -26,6 +28,7 @@ same-length : tie.Need-same-length
 same-length c = search needs
 
 returns-2 : tie.Need-returns-2
+unfolding record·piece spell
 returns-2 c few =
     let q = c .before .before in
     let p = q .before .before .before .before in

@@ -1,0 +1,2 @@
+-- What is promised of the write call.
+pub mod Call
