@@ -38,8 +38,8 @@ fn sign_at(source: &[u8], at: usize, signs: &[u8; 256]) -> Sign
 {
     let y = source[at];
     let z = byte_at(source, at + 1);
-    if (48 <= y) & (y <= 57) & ((48 <= z) & (z <= 57)) {
-        let i = (y - 48) * 10 + (z - 48);
+    if (b'0' <= y) & (y <= b'9') & ((b'0' <= z) & (z <= b'9')) {
+        let i = (y - b'0') * 10 + (z - b'0');
         return Sign {
             sign: sign_of(signs, 128 + i),
             at: at + 2,
@@ -67,7 +67,7 @@ fn put_members(
         let s = sign_at(source, at, signs);
         m = put(buffer, m, s.sign);
         at = s.at;
-        if byte_at(source, at) != 46 {
+        if byte_at(source, at) != b'.' {
             return Putting { at, n: m };
         }
         at += 1;
@@ -102,11 +102,11 @@ fn put_cell(source: &[u8], at: usize, signs: &[u8; 256], buffer: &mut [u8], n: u
         return Putting { at, n };
     }
     let b = source[at];
-    if b == 117 {
-        return put_set(source, at, signs, buffer, n, 123, 125);
+    if b == b'u' {
+        return put_set(source, at, signs, buffer, n, b'{', b'}');
     }
-    if b == 112 {
-        return put_set(source, at, signs, buffer, n, 40, 41);
+    if b == b'p' {
+        return put_set(source, at, signs, buffer, n, b'(', b')');
     }
     let s = sign_at(source, at, signs);
     let end = put(buffer, n, s.sign);
@@ -123,7 +123,7 @@ fn short_sign(source: &[u8], at: usize, signs: &[u8; 256]) -> u8
     if source.len() - 2 < at {
         return 0;
     }
-    if source[at + 1] != 32 {
+    if source[at + 1] != b' ' {
         return 0;
     }
     sign_of(signs, source[at])
@@ -165,7 +165,7 @@ pub fn put_cells(
         if source.len() <= at {
             return Putting { at, n: m };
         }
-        if source[at] != 32 {
+        if source[at] != b' ' {
             return Putting { at: at + 1, n: m };
         }
         at += 1;

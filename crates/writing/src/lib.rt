@@ -8,17 +8,10 @@ mod names;
 mod rows;
 mod signs;
 
-pub use cells::put_cells;
 pub use characters::put_assumptions;
 pub use characters::put_labels;
-pub use formats::put_dimensions;
-pub use formats::put_format;
 pub use forms::put_form;
 pub use names::put_quoted;
-pub use rows::put_rows;
-pub use signs::gap_sign;
-pub use signs::missing_sign;
-pub use signs::sign_table;
 
 // How far a record was read, and how far its form was put: the next place of each.
 pub struct Putting {

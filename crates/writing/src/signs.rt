@@ -101,13 +101,13 @@ fn symbol_at(source: &[u8], at: usize, count: usize, i: usize) -> u8
 fn byte_sign(source: &[u8], at: usize, count: usize, missing: u8, gap: u8, b: u8) -> u8
     ensures { λ r. ⌜ r ≡ sign·by missing gap (take count (drop at (now (source .entry)))) b ⌝ }
 {
-    if (48 <= b) & (b <= 57) {
-        return symbol_at(source, at, count, (b - 48) as usize);
+    if (b'0' <= b) & (b <= b'9') {
+        return symbol_at(source, at, count, (b - b'0') as usize);
     }
-    if b == 109 {
+    if b == b'm' {
         return missing;
     }
-    if b == 103 {
+    if b == b'g' {
         return gap;
     }
     if 128 <= b {
