@@ -1,0 +1,2 @@
+-- What finding a taxon's cells answers.
+pub mod Finding
