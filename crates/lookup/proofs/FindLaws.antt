@@ -1,14 +1,14 @@
 -- The cells of a name's row: what the first row answers, and the rows behind it. Assumes nothing.
-use Prim.Native.Nat.{ℕ, suc, _+_, _-_, _<_}
+use Prim.Native.Nat.{ℕ, _+_, _-_, _<_}
 use Rattle.block.specs.Reading.{Taxon}
 use Rattle.lexer.specs.Base.{pick, alike}
 use Rattle.lookup.specs.Finding.{sought·of, Cells·sought}
 use Rattle.lookup.specs.declared.find.Sought.{Sought}
-use Rattle.naming.proofs.RowLaws.{row-before, name-stands, row-ended, rows-behind}
+use Rattle.naming.proofs.RowLaws.{row-before, row-like, row-ended, rows-behind}
 use Rattle.naming.specs.Rows.{Rows·stand, Cells·begin, Cells·end, Name·like, Row·passed}
 use Rattle.record.specs.Lookup.{before·cells, find·cells}
-use Rattle.record.specs.Spell.{spell·cells, spell·taxa}
-use lib.ListN.{length, drop, length-drop}
+use Rattle.record.specs.Spell.{spell·cells}
+use lib.ListN.{length, length-drop}
 use mathlib.Core.Bool.{Bool, true, false}
 use mathlib.Core.List.{List, [], _∷_}
 use mathlib.Core.Path.{_≡_, refl, sym, ap, _∙_}
@@ -43,11 +43,6 @@ module _ (b : List ℕ) (at taxa characters : ℕ) (name : List ℕ) (here left 
       go (t ∷ ts) rest size s = absurd (omega arith)
 
   module _ (some : 0 < left) {n : ℕ} {test : Bool} (begins : here < length b → n ≡ here + 5) (like : Name·like b n name test) where
-    -- The test compares the name of the first row.
-    first-like : (t : Taxon) (ts : List Taxon) (rest : List ℕ) → Rows·stand b here characters (t ∷ ts) rest → test ≡ alike name (t .name)
-    first-like t ts rest s =
-        like (t .name) _ (ap (λ i. drop i b) (begins (row-before b here t ts rest (s .here))) ∙ name-stands b here t ts rest (s .here))
-
     -- The first row has the name.
     pub seeking-found : test ≡ true → {begin end : ℕ} → Cells·begin b here begin → Cells·end b begin characters end
         → Cells·sought b at taxa characters name (Sought.At begin end)
@@ -57,7 +52,7 @@ module _ (b : List ℕ) (at taxa characters : ℕ) (name : List ℕ) (here left 
         go : Cells·sought b here left characters name (Sought.At begin end)
         go [] rest size s = absurd (omega arith)
         go (t ∷ ts) rest size s =
-            let is : alike name (t .name) ≡ true = sym (first-like t ts rest s) ∙ hit in
+            let is : alike name (t .name) ≡ true = sym (row-like b here t ts rest (s .here) begins name like) ∙ hit in
             rw (is, starts t ts rest (s .here), row-ended b here characters starts ends t ts rest s)
 
     -- It has not: the rows behind it are left.
@@ -68,7 +63,7 @@ module _ (b : List ℕ) (at taxa characters : ℕ) (name : List ℕ) (here left 
         go : (r : Sought) → Cells·sought b next (left - 1) characters name r → Cells·sought b here left characters name r
         go r answer [] rest size s = absurd (omega arith)
         go r answer (t ∷ ts) rest size s =
-            let other : alike name (t .name) ≡ false = sym (first-like t ts rest s) ∙ miss in
+            let other : alike name (t .name) ≡ false = sym (row-like b here t ts rest (s .here) begins name like) ∙ miss in
             let there = passed t ts rest s in
             let same = find-place b next (here + before·cells t + length (spell·cells (t .cells)) + 1) characters name ts rest there (rows-behind s) in
             rw (other, ← same) (answer ts rest (omega arith) there)

@@ -1,2 +1,2 @@
--- What finding a taxon's cells answers.
+-- What is promised of the lookup call.
 pub mod Finding
