@@ -1,0 +1,3 @@
+-- What the proofs of this crate alone rest on.
+mod FindLaws
+mod LookLaws

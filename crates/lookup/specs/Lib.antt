@@ -1,0 +1,2 @@
+-- What is promised of the lookup call.
+pub mod Finding
