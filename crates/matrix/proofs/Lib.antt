@@ -15,6 +15,7 @@ pub mod RowNames
 pub mod RowWalk
 pub mod RowsTaken
 pub mod SequentialWalk
+pub mod SetLaws
 pub mod ShapeLaws
 pub mod StoredLines
 pub mod StoredRows

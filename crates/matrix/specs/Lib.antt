@@ -1,6 +1,7 @@
 -- What the rows of a matrix mean, as the code holds them.
 pub mod RowShape
 pub mod Taken
+pub mod WholeSets
 pub mod Lines
 pub mod OrderHeld
 pub mod RowIndex

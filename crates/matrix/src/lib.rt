@@ -5,6 +5,7 @@ pub mod interleaved;
 pub mod matrix;
 pub mod order;
 pub mod rows;
+pub mod sets;
 
 pub use matrix::Rows;
 pub use order::arrange;

@@ -69,7 +69,7 @@ pub enum Rows {
 }
 
 // The code of a byte.
-fn code_of(codes: &[u8; 256], b: u8) -> u8
+pub fn code_of(codes: &[u8; 256], b: u8) -> u8
     ensures { λ r. ⌜ r ≡ getD (now (codes .entry)) b 0 ⌝ }
 {
     codes[b as usize]

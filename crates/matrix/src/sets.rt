@@ -1,0 +1,125 @@
+// Words and sets that are told by their bytes at once.
+
+ghost use Prim.Native.Nat.{_+_, _<_, _≤_};
+ghost use Rattle.matrix.specs.WholeSets.{Plain·word, Set·bytes, Set·closed, bracket·of, ends?, part, rising, simple?};
+ghost use lib.ListN.{length, getD};
+ghost use mathlib.Core.Bool.{true};
+ghost use mathlib.Core.Path.{_≡_};
+use super::matrix::code_of;
+use block::Bracket;
+use lexer::Cursor;
+use lexer::Mode;
+use lexer::plain_run;
+use lexer::start_of;
+
+// Does the byte end a word, whatever comes next? Not all that do are told.
+fn ends_word(b: u8) -> bool
+    ensures { λ r. ⌜ r ≡ ends? b ⌝ }
+{
+    let bracket = (b == 40) | (b == 41) | (b == 59) | (b == 123) | (b == 125);
+    (b == 10) | (b == 13) | (b == 32) | bracket
+}
+
+// Is the byte a letter or a digit?
+fn simple(b: u8) -> bool
+    ensures { λ r. ⌜ r ≡ simple? b ⌝ }
+{
+    let digit = (48 <= b) & (b <= 57);
+    let capital = (65 <= b) & (b <= 90);
+    digit | capital | ((97 <= b) & (b <= 122))
+}
+
+// Where the word at a place ends, if it is of plain bytes alone and what ends it is told by one byte; else the place itself.
+pub fn word_stop(text: &[u8], start: usize) -> usize
+    ensures { λ r. ⌜ (start < r → Plain·word (now (text .entry)) start r) ⌝ }
+{
+    let run = plain_run(
+        text,
+        Cursor {
+            at: start,
+            mode: Mode::Word,
+        },
+    );
+    let end = run.at;
+    if end < text.len() {
+        if ends_word(text[end]) {
+            return end;
+        }
+    }
+    start
+}
+
+// The kind of a set by its opening mark.
+pub fn bracket_of(b: u8) -> Bracket
+    ensures { λ r. ⌜ r ≡ bracket·of b ⌝ }
+{
+    if b == 123 {
+        return Bracket::Brace;
+    }
+    Bracket::Parenthesis
+}
+
+// Where letters and digits of rising states below 10 end, from a place on.
+fn states_end(text: &[u8], from: usize, codes: &[u8; 256]) -> usize
+    requires { ⌜ from ≤ length (now text) ⌝ }
+    ensures { λ r. ⌜ (from ≤ r) × (r ≤ length (now (text .entry))) × (rising (now (codes .entry)) 0 (part (now (text .entry)) from r) ≡ true) ⌝ }
+{
+    let mut least = 0;
+    let mut i = from;
+    while i < text.len() {
+        let b = text[i];
+        let code = code_of(codes, b);
+        if (code < least) | (9 < code) | !simple(b) {
+            return i;
+        }
+        least = code + 1;
+        i += 1;
+    }
+    i
+}
+
+// Where the set that begins at a place ends, if its bytes are its marks and rising states below 10 alone; else 0.
+fn set_bytes(text: &[u8], start: usize, codes: &[u8; 256]) -> usize
+    ensures { λ r. ⌜ (0 < r → Set·bytes (now (codes .entry)) (now (text .entry)) start r) ⌝ }
+{
+    if text.len() <= start {
+        return 0;
+    }
+    let b = text[start];
+    if (b != 123) & (b != 40) {
+        return 0;
+    }
+    let from = start + 1;
+    let end = states_end(text, from, codes);
+    if end == from {
+        return 0;
+    }
+    if text.len() <= end {
+        return 0;
+    }
+    if (b == 123) & (text[end] == 125) | (b == 40) & (text[end] == 41) {
+        return end;
+    }
+    0
+}
+
+// Where the set closes that begins with the word of an index, if it and the two words behind it are a whole set, told by its bytes; else 0.
+pub fn set_closes(text: &[u8], work: &[u32], i: usize, to: usize, codes: &[u8; 256]) -> usize
+    ensures { λ r. ⌜ (0 < r → Set·closed (now (codes .entry)) (now (text .entry)) (now (work .entry)) i to r) ⌝ }
+{
+    let start = start_of(work, i);
+    let end = set_bytes(text, start, codes);
+    if end == 0 {
+        return 0;
+    }
+    if to <= i {
+        return 0;
+    }
+    if to - i < 3 {
+        return 0;
+    }
+    if (start_of(work, i + 1) != start + 1) | (start_of(work, i + 2) != end) {
+        return 0;
+    }
+    end
+}
