@@ -13,6 +13,7 @@ use Rattle.lexer.specs.Words.{punct, word?}
 use Rattle.lexer.specs.declared.Cursor.{Cursor}
 use Rattle.lexer.specs.declared.Kind.{Kind}
 use Rattle.matrix.specs.RowShape.{coded, symbols·coded}
+use Rattle.matrix.specs.WholeSets.{Plain·word, part}
 use Rattle.matrix.specs.declared.matrix.Cells.{Cells}
 use borrow.Author.Tests.{eq-eqb, ne-eqb}
 use lib.Dec.{eqb, ltb}
@@ -113,6 +114,9 @@ module _ (text work codes : List ℕ) (i start : ℕ) (at : start ≡ getD work 
   pub symbols-word : Kind.Word ≡ token·at text start .kind → coded codes 0 true (token·at text start .text) ≡ symbols·coded codes (word·of text work i)
   unfolding symbols·coded word·of word? pick
   symbols-word e = rw (← at, ← e)
+
+  pub symbols-told : (end : ℕ) → Plain·word text start end → coded codes 0 true (part text start end) ≡ symbols·coded codes (word·of text work i)
+  symbols-told end p = ap (λ t. coded codes 0 true (t .text)) (sym (p .told)) ∙ symbols-word (sym (ap (λ t. t .kind) (p .told)))
 
   module _ (other : word? (token·at text start .kind) ≡ false) where
     pub symbols-plus : punct 43 (word·of text work i) ≡ true → coded codes 0 true (token·at text start .text) ≡ symbols·coded codes (word·of text work i)

@@ -16,6 +16,7 @@ pub mod RowWalk
 pub mod RowsTaken
 pub mod SequentialWalk
 pub mod SetLaws
+pub mod SetTurns
 pub mod ShapeLaws
 pub mod StoredLines
 pub mod StoredRows

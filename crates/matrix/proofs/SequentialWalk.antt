@@ -14,7 +14,7 @@ use Rattle.matrix.proofs.StoredRows.{cleared-front, word-kept, range-ke
 use Rattle.matrix.proofs.WalkedRows.{Walked, walked-start, walked-newline, walked-on, walked-full, walked-refused, walked-end, refused-rows, end-count}
 use Rattle.matrix.specs.Lines.{Rows·room, row·at, stored, names·stored, rows·sequential}
 use Rattle.matrix.specs.RowIndex.{Indexed, Row·room, Row·put}
-use Rattle.matrix.specs.SequentialShape.{Rows·read, cells·of·row, turn·shape, end·shape, sequenced}
+use Rattle.matrix.specs.SequentialShape.{Rows·read, Turns, cells·of·row, end·shape, last, on, sequenced, turn·shape}
 use Rattle.matrix.specs.declared.matrix.Rows.{Rows}
 use Rattle.matrix.specs.declared.matrix.Sequence.{Sequence}
 use Rattle.matrix.specs.declared.matrix.Turned.{Turned}
@@ -175,6 +175,29 @@ module _ {text codes before : List ℕ} {at from to taxa n head : ℕ} {t : Tabl
         below = λ x y. refused-rows y;
         read = λ f c few. walked-refused text before from to taxa n head f (stored work at rows) line i (k .each f c few) (j .below) c few (j .small) word m p (as-before ∙ d);
       }
+
+-- Several words that were judged: the last of them, and the index behind it.
+pub record Judged·last (text codes before : List ℕ) (at from to taxa n head : ℕ) (t : Table) (work : List ℕ) (rows : ℕ) (r : Turned) (j : ℕ) : Type 0 where
+  pub line : Sequence
+  pub i : ℕ
+  pub judging : Judging text codes before at from to taxa n head t work rows line i r
+  pub next : j ≡ i + 1
+
+module _ {text codes before : List ℕ} {at from to taxa n head : ℕ} {t : Table} {work : List ℕ} {rows : ℕ} (room : Rows·room text before at to) (small : Small text) where
+  pub turns-judged : {line : Sequence} {i : ℕ} {r : Turned} {j : ℕ} → Sequencing text codes before at from to taxa n head t work rows line i → i < to
+      → newline (word·of text work i) ≡ false → Turns text work codes to taxa n (names·stored text work (stored work at rows)) line i r j
+      → Judged·last text codes before at from to taxa n head t work rows r j
+  turns-judged {line} {i} p h w (last e d) =
+      record { line = line; i = i; judging = record { room = room; place = p; below = h; small = small; word = w; turned = d }; next = e }
+  turns-judged {line} {i} p h w (on next k e d l v more) =
+      turns-judged (rw e (sequencing-on (record { room = room; place = p; below = h; small = small; word = w; turned = sym d }) next refl)) l v more
+
+module _ {text codes before : List ℕ} {at from to taxa n head : ℕ} {t : Table} {work : List ℕ} {rows : ℕ} {r : Turned} {j : ℕ} (l : Judged·last text codes before at from to taxa n head t work rows r j) where
+  pub judged-on : (next : Sequence) → r ≡ Turned.On next → Sequencing text codes before at from to taxa n head t work rows next j
+  judged-on next d = rw (l .next) (sequencing-on (l .judging) next d)
+
+  pub judged-full : (s : ℕ) → r ≡ Turned.Full s → {after : List ℕ} → Row·put text work after at rows s t true → Sequencing text codes before at from to taxa n head t after (rows + 1) Sequence.Between j
+  judged-full s d p = rw (l .next) (sequencing-full (l .judging) s d p)
 
 -- A table was cleared behind the rows before they were read.
 pub read-cleared : {text codes before work after : List ℕ} {at from to taxa n head : ℕ} {r : Rows} → Rows·room text before at to → Cleared before work (at + to)

@@ -273,7 +273,7 @@ module _ (codes text work : List ℕ) (i to end : ℕ) where
       let within = s .within in
       let size : length states ≡ end - (start + 1) = length-take (end - (start + 1)) (drop (start + 1) text) ∙ rw (length-drop (start + 1) text) (min-eq-left (omega arith)) in
       let each : (j : ℕ) → j < end - (start + 1) → class (getD text (start + 1 + j) 0) ≡ Class.Other = λ j h.
-          rw (getD-take (end - (start + 1)) (drop (start + 1) text) j 0 h, getD-drop (start + 1) text j 0) at (rising-class codes 0 states (s .rises) j (omega (arith, size))) in
+      rw (getD-take (end - (start + 1)) (drop (start + 1) text) j 0 h, getD-drop (start + 1) text j 0) at (rising-class codes 0 states (s .rises) j (omega (arith, size))) in
       let word = word-told text (start + 1) end (s .some) (s .within) (rw (s .closes) (close-ends k)) each in
       record {
         bytes = s;

@@ -1,14 +1,14 @@
 -- A sequential matrix as the code judges it: by the shape of its rows, and by the names of those that are stored.
-use Prim.Native.Nat.{ℕ, _≤_}
+use Prim.Native.Nat.{ℕ, _+_, _≤_, _<_}
 use Rattle.block.specs.Codes.{Coded}
-use Rattle.block.specs.Commands.{words}
+use Rattle.block.specs.Commands.{newline, words}
 use Rattle.block.specs.Format.{Format}
 use Rattle.block.specs.Names.{known}
 use Rattle.block.specs.Outcome.{Outcome, done, refused}
 use Rattle.block.specs.Reading.{Taxon}
 use Rattle.block.specs.Sequential.{sequential}
 use Rattle.lexer.specs.Base.{pick}
-use Rattle.lexer.specs.Stored.{range}
+use Rattle.lexer.specs.Stored.{range, word·of}
 use Rattle.lexer.specs.Words.{Numbered, label}
 use Rattle.lexer.specs.declared.refusal.Refusal.{Refusal}
 use Rattle.matrix.specs.Lines.{stored, rows·sequential}
@@ -20,6 +20,7 @@ use Rattle.matrix.specs.declared.matrix.Sequence.{Sequence}
 use Rattle.matrix.specs.declared.matrix.Turned.{Turned}
 use lib.Dec.{ltb, eqb}
 use lib.ListN.{length, take}
+use mathlib.Core.Bool.{false}
 use mathlib.Core.List.{List}
 use mathlib.Core.Option.{Option, none, some}
 use mathlib.Core.Path.{_≡_}
@@ -50,6 +51,12 @@ grown·shape characters s i (done (Chunk.Plain n)) =
 unfoldable pub turn·shape : List ℕ → ℕ → ℕ → List (List ℕ) → Sequence → Numbered → Turned
 turn·shape codes taxa characters names Sequence.Between w = begun·shape taxa names w
 turn·shape codes taxa characters names (Sequence.Inside s row) w = grown·shape characters s (w .index) (chunk·shape codes row w)
+
+-- What one word or more come to, from an index on up to another: each but the last goes on.
+pub data Turns (text work codes : List ℕ) (to taxa characters : ℕ) (names : List (List ℕ)) : Sequence → ℕ → Turned → ℕ → Type 0 where
+  last : {line : Sequence} {i j : ℕ} {r : Turned} → j ≡ i + 1 → r ≡ turn·shape codes taxa characters names line (word·of text work i) → Turns text work codes to taxa characters names line i r j
+  on : {line : Sequence} {i : ℕ} (next : Sequence) (k : ℕ) {r : Turned} {j : ℕ} → k ≡ i + 1 → turn·shape codes taxa characters names line (word·of text work i) ≡ Turned.On next
+      → k < to → newline (word·of text work k) ≡ false → Turns text work codes to taxa characters names next k r j → Turns text work codes to taxa characters names line i r j
 
 -- At the end of the matrix all rows must be there and whole.
 unfoldable pub open·shape : ℕ → Chunk → Rows

@@ -1,6 +1,6 @@
 // MATRIX, after matrix.rs.
 
-ghost use Prim.Native.Nat.{_+_, _-_, _^_, _≤_};
+ghost use Prim.Native.Nat.{ℕ, _+_, _-_, _^_, _≤_, _<_};
 ghost use Rattle.block.specs.Chunk.{closer};
 ghost use Rattle.block.specs.Names.{known};
 ghost use Rattle.lexer.specs.Lexing.{token·at};
@@ -8,13 +8,18 @@ ghost use Rattle.lexer.specs.Stored.{word·of};
 ghost use Rattle.matrix.specs.Lines.{Rows·room, name·at, names·stored, stored};
 ghost use Rattle.matrix.specs.RowIndex.{Rows·tabled};
 ghost use Rattle.matrix.specs.RowShape.{coded, symbols·coded, chunk·shape, chunked·of, so·far};
-ghost use Rattle.matrix.specs.SequentialShape.{Rows·read, begun·shape, cells·of·row, end·shape, grown·shape, turn·shape};
+ghost use Rattle.matrix.specs.SequentialShape.{Rows·read, Turns, begun·shape, cells·of·row, end·shape, grown·shape};
 ghost use Rattle.slots.specs.Filling.{Table·fits};
 ghost use lib.ListN.{length, getD, take, drop};
+ghost use Rattle.matrix.specs.declared.matrix.Chunk.{Chunk};
+ghost use Rattle.matrix.specs.declared.matrix.Sequence.{Sequence};
 ghost use mathlib.Core.Bool.{true};
+ghost use mathlib.Core.List.{List};
 ghost use mathlib.Core.Path.{_≡_};
 use super::index::put_row;
 use super::index::row_found;
+use super::sets::set_closes;
+use super::sets::word_stop;
 use block::Bracket;
 use block::Index;
 use block::named;
@@ -60,6 +65,12 @@ pub enum Turned {
     On(Sequence),
     Full(usize),
     Refused(Refusal, usize),
+}
+
+// What one word or more come to, and the index behind them.
+pub struct Turn {
+    pub turned: Turned,
+    pub next: usize,
 }
 
 // Rows that are stored, so many; or the refusal of the token with an index.
@@ -134,11 +145,15 @@ fn word_cells(text: &[u8], start: usize, codes: &[u8; 256]) -> Cells
     }
 }
 
-// What the symbols of a word come to. Besides a word only the mark `+` can be a symbol.
+// What the symbols of a word come to. Besides a word only the mark `+` can be a symbol. Most words are told at once by their bytes.
 fn symbols(text: &[u8], work: &[u32], i: usize, codes: &[u8; 256]) -> Cells
     ensures { λ r. ⌜ r ≡ symbols·coded (now (codes .entry)) (word·of (now (text .entry)) (now (work .entry)) i) ⌝ }
 {
     let start = start_of(work, i);
+    let end = word_stop(text, start);
+    if start < end {
+        return run_cells(text, start, end, codes, 0, true);
+    }
     match kind_at(text, start) {
         Kind::Word => word_cells(text, start, codes),
         _ => {
@@ -296,30 +311,68 @@ fn sequential_end(line: Sequence, taxa: u64, head: usize, rows: usize) -> Rows
     }
 }
 
-// One word of a sequential matrix, behind so many rows.
+// One word more of a row whose name has an index; or the three of a set at once, where they are told by their bytes.
+fn row_turn(
+    text: &[u8],
+    work: &[u32],
+    i: usize,
+    to: usize,
+    characters: u64,
+    codes: &[u8; 256],
+    s: usize,
+    row: Chunk,
+) -> Turn
+    requires { ⌜ (i < to) × (so·far row ≤ 2 ^ 41) ⌝ }
+    ensures { λ r. ⌜ ((taxa : ℕ) (names : List (List ℕ)) → Turns (now (text .entry)) (now (work .entry)) (now (codes .entry)) to taxa characters names (Sequence.Inside s row) i (r .turned) (r .next)) ⌝ }
+{
+    match row {
+        Chunk::Plain(n) => {
+            if set_closes(text, work, i, to, codes) == 0 {
+                let chunk = plain_chunk(text, work, i, codes, n);
+                return Turn {
+                    turned: row_grown(chunk, characters, s, i),
+                    next: i + 1,
+                };
+            }
+            let whole = Chunked::Row(Chunk::Plain(n + 1));
+            Turn {
+                turned: row_grown(whole, characters, s, i + 2),
+                next: i + 3,
+            }
+        }
+        Chunk::Within(n, kind, mark, none) => {
+            let chunk = set_chunk(text, work, i, codes, n, kind, mark, none);
+            Turn {
+                turned: row_grown(chunk, characters, s, i),
+                next: i + 1,
+            }
+        }
+    }
+}
+
+// One word of a sequential matrix, behind so many rows, or several of a row.
 fn sequential_turn(
     text: &[u8],
     work: &[u32],
     at: usize,
     rows: usize,
     i: usize,
+    to: usize,
     taxa: u64,
     characters: u64,
     codes: &[u8; 256],
     line: Sequence,
     table: Table,
-) -> Turned
-    requires { ⌜ Rows·tabled (now text) (now work) at rows table × (cells·of·row line ≤ 2 ^ 41) ⌝ }
-    ensures { λ r. ⌜ r ≡ turn·shape (now (codes .entry)) taxa characters (names·stored (now (text .entry)) (now (work .entry)) (stored (now (work .entry)) at rows)) line (word·of (now (text .entry)) (now (work .entry)) i) ⌝ }
+) -> Turn
+    requires { ⌜ Rows·tabled (now text) (now work) at rows table × (cells·of·row line ≤ 2 ^ 41) × (i < to) ⌝ }
+    ensures { λ r. ⌜ Turns (now (text .entry)) (now (work .entry)) (now (codes .entry)) to taxa characters (names·stored (now (text .entry)) (now (work .entry)) (stored (now (work .entry)) at rows)) line i (r .turned) (r .next) ⌝ }
 {
     match line {
-        Sequence::Between => row_begins(text, work, at, rows, i, taxa, table),
-        Sequence::Inside(s, row) => row_grown(
-            chunk_at(text, work, i, codes, row),
-            characters,
-            s,
-            i,
-        ),
+        Sequence::Between => Turn {
+            turned: row_begins(text, work, at, rows, i, taxa, table),
+            next: i + 1,
+        },
+        Sequence::Inside(s, row) => row_turn(text, work, i, to, characters, codes, s, row),
     }
 }
 
@@ -354,32 +407,36 @@ fn sequential_rows(
     let mut line = Sequence::Between;
     let mut i = from;
     while i < to {
-        let k = i;
-        i += 1;
-        if !newline(text, work, k) {
-            match sequential_turn(
-                text,
-                work,
-                at,
-                rows,
-                k,
-                taxa,
-                characters,
-                codes,
-                line,
-                table,
-            ) {
-                Turned::On(next) => {
-                    line = next;
-                }
-                Turned::Full(s) => {
-                    put_row(text, work, at, rows, s, table, true);
-                    rows += 1;
-                    line = Sequence::Between;
-                }
-                Turned::Refused(n, j) => {
-                    return Rows::Refused(n, j);
-                }
+        if newline(text, work, i) {
+            i += 1;
+            continue;
+        }
+        let turn = sequential_turn(
+            text,
+            work,
+            at,
+            rows,
+            i,
+            to,
+            taxa,
+            characters,
+            codes,
+            line,
+            table,
+        );
+        let turned = turn.turned;
+        i = turn.next;
+        match turned {
+            Turned::On(next) => {
+                line = next;
+            }
+            Turned::Full(s) => {
+                put_row(text, work, at, rows, s, table, true);
+                rows += 1;
+                line = Sequence::Between;
+            }
+            Turned::Refused(n, j) => {
+                return Rows::Refused(n, j);
             }
         }
     }
