@@ -23,4 +23,5 @@ mod SetPieces
 mod ShortLaws
 mod TaxaCounts
 mod TaxonPieces
+mod WholePuts
 mod WordCells

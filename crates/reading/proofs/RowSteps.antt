@@ -31,21 +31,21 @@ module _ (f : Format) (cells : List Cell) (w : Numbered) where
   unfolding taken pick
   taken-parenthesis e d = rw (e, d)
 
-  taken-word : punct 123 w ≡ false → punct 40 w ≡ false → taken f (plain cells) w ≡ plain (cells ++ word·taken f w)
+  pub taken-word : punct 123 w ≡ false → punct 40 w ≡ false → taken f (plain cells) w ≡ plain (cells ++ word·taken f w)
   unfolding taken pick
   taken-word e d = rw (e, d)
 
   module _ (k : Bracket) (i : ℕ) (s : List ℕ) where
-    taken-closer : punct (closer k) w ≡ true → taken f (within cells k i s) w ≡ plain (cells ++ (set·cell k s ∷ []))
+    pub taken-closer : punct (closer k) w ≡ true → taken f (within cells k i s) w ≡ plain (cells ++ (set·cell k s ∷ []))
     unfolding taken pick
     taken-closer e = rw e
 
-    taken-states : punct (closer k) w ≡ false → taken f (within cells k i s) w ≡ within cells k i (insert·all (states·taken (word·taken f w)) s)
+    pub taken-states : punct (closer k) w ≡ false → taken f (within cells k i s) w ≡ within cells k i (insert·all (states·taken (word·taken f w)) s)
     unfolding taken pick
     taken-states e = rw e
 
 -- No set is open where one is.
-none-set : {X : Type 0} (o : Open) (k : Bracket) → o ≡ Open.None → o ≡ Open.Set k → X
+pub none-set : {X : Type 0} (o : Open) (k : Bracket) → o ≡ Open.None → o ≡ Open.Set k → X
 none-set o k p q = let z : _≡_ {A = ℕ} 0 1 = cc in absurd (omega arith)
 
 module _ {codes buffer set : List ℕ} {walk : Walk} (w : Numbered) (low : walk .top ≤ 96) where

@@ -24,7 +24,7 @@ use mathlib.Core.Path.{_≡_, refl, sym, ap, _∙_}
 use native.Mathlib.Omega.{arith}
 
 -- A number below 10 is one digit.
-digit-alone : (n : ℕ) → n < 10 → decimal n ≡ (48 + n) ∷ []
+pub digit-alone : (n : ℕ) → n < 10 → decimal n ≡ (48 + n) ∷ []
 unfolding all-under decimal decimal·from digit same pick
 digit-alone n h = same-true (decimal n) ((48 + n) ∷ []) (under-at (λ n. same (decimal n) ((48 + n) ∷ [])) 10 n refl h)
 

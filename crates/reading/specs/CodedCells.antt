@@ -1,5 +1,5 @@
 -- The cells of a row by the codes of a format's symbols, and what the code keeps of a row while it is put.
-use Prim.Native.Nat.{ℕ, suc, _+_, _-_, _/_, _%_}
+use Prim.Native.Nat.{ℕ, suc, _+_, _-_, _/_, _%_, _≤_, _<_}
 use Rattle.block.specs.Cell.{Cell, state, uncertain, missing, gap}
 use Rattle.emit.specs.Puts.{Puts}
 use Rattle.lexer.specs.Base.{pick, byte, empty?}
@@ -80,3 +80,23 @@ topped (i ∷ r) top = topped r (pick (ltb i top) top (i + 1))
 pub record Cleared (before : List ℕ) (top : ℕ) (after : List ℕ) : Type 0 where
   pub kept : length after ≡ length before
   pub marks : (k : ℕ) → getD after k 0 ≡ pick (ltb k top) 0 (getD before k 0)
+
+-- The codes of bytes.
+unfoldable pub codes·of : List ℕ → List ℕ → List ℕ
+codes·of codes [] = []
+codes·of codes (b ∷ r) = getD codes b 0 ∷ codes·of codes r
+
+-- States below 10 by the bytes of a word: a mark and a digit each, and the mark of all but the first is a dot.
+unfoldable pub marked·digits : List ℕ → ℕ → List ℕ → List ℕ → List ℕ
+marked·digits codes m [] behind = behind
+marked·digits codes m (b ∷ r) behind = m ∷ (byte "0" + getD codes b 0) ∷ marked·digits codes (byte ".") r behind
+
+-- The codes of the bytes of a text from a place up to an end are below 10.
+pub record Digits (codes text : List ℕ) (from end : ℕ) : Type 0 where
+  pub ahead : from ≤ end
+  pub within : end ≤ length text
+  pub each : (k : ℕ) → from ≤ k → k < end → getD codes (getD text k 0) 0 < 10
+
+-- The letter of a set by its opening mark.
+unfoldable pub letter·of : ℕ → ℕ
+letter·of b = pick (eqb b (byte "{")) (byte "u") (byte "p")

@@ -1,17 +1,20 @@
 -- A row that is put word by word: what the code keeps of it stands for the row of the definition.
-use Prim.Native.Nat.{ℕ, _≤_}
-use Rattle.block.specs.Chunk.{Row, plain, within}
+use Prim.Native.Nat.{ℕ, _+_, _≤_}
+use Rattle.block.specs.Chunk.{Row, plain, within, set·cell}
 use Rattle.block.specs.Format.{Format}
+use Rattle.block.specs.declared.kinds.Bracket.{Bracket}
+use Rattle.lexer.specs.Stored.{word·of}
 use Rattle.lexer.specs.Words.{Numbered}
 use Rattle.matrix.specs.Taken.{cells·in, taken, word·taken}
-use Rattle.reading.specs.CodedCells.{Row·put, members, word·coded}
+use Rattle.matrix.specs.WholeSets.{Whole·set}
+use Rattle.reading.specs.CodedCells.{Row·put, codes·of, members, word·coded}
 use Rattle.reading.specs.declared.cells.Putting.{Putting}
 use Rattle.reading.specs.declared.lines.Open.{Open}
 use Rattle.reading.specs.declared.lines.Walk.{Walk}
 use lib.Dec.{eqb}
 use lib.ListN.{length, getD}
 use mathlib.Core.Bool.{Bool, false}
-use mathlib.Core.List.{List, []}
+use mathlib.Core.List.{List, [], _∷_}
 use mathlib.Core.Path.{_≡_}
 
 -- A row before its first word: so many cells are lacking, and no set is open.
@@ -55,3 +58,19 @@ pub record Word·put (codes : List ℕ) (w : Numbered) (buffer set : List ℕ) (
   pub within : next .top ≤ 96
   pub grown : (f : Format) → word·coded codes w ≡ word·taken f w → (before : List ℕ) (from : Putting) (row : Row) → Walking before from row buffer set walk
       → Walking before from (taken f row w) after marks next
+
+-- A whole set was put, which the word of an index and the two behind it are.
+pub record Set·put (codes text starts : List ℕ) (to i : ℕ) (buffer set : List ℕ) (walk : Walk) (after marks : List ℕ) (next : Walk) : Type 0 where
+  pub kind : Bracket
+  pub states : List ℕ
+  pub words : Whole·set codes text starts i to kind states
+  pub none : walk .opened ≡ Open.None
+  pub put : Row·put buffer (walk .row) (set·cell kind (codes·of codes states) ∷ []) after (next .row)
+  pub opened : next .opened ≡ Open.None
+  pub top : next .top ≡ walk .top
+  pub same : marks ≡ set
+
+-- One word was put, or the three of a whole set.
+pub data Step·put (codes text starts : List ℕ) (to i : ℕ) (buffer set : List ℕ) (walk : Walk) (after marks : List ℕ) (next : Walk) : ℕ → Type 0 where
+  one·word : {j : ℕ} → j ≡ i + 1 → Word·put codes (word·of text starts i) buffer set walk after marks next → Step·put codes text starts to i buffer set walk after marks next j
+  whole·set : {j : ℕ} → j ≡ i + 3 → Set·put codes text starts to i buffer set walk after marks next → Step·put codes text starts to i buffer set walk after marks next j

@@ -8,7 +8,8 @@ ghost use Rattle.lexer.specs.Base.{given, pick};
 ghost use Rattle.lexer.specs.Lexing.{token·at};
 ghost use Rattle.lexer.specs.Stored.{word·of};
 ghost use Rattle.matrix.specs.Taken.{also, states·taken};
-ghost use Rattle.reading.specs.CodedCells.{Cleared, Row·put, cell·byte, cells·coded, decoded, dotted·on, has·cells, marked, marks, members, spell·maybe, topped, word·coded};
+ghost use Rattle.matrix.specs.WholeSets.{Set·bytes, bracket·of, part};
+ghost use Rattle.reading.specs.CodedCells.{Cleared, Digits, Row·put, cell·byte, cells·coded, codes·of, decoded, dotted·on, has·cells, letter·of, marked, marked·digits, marks, members, spell·maybe, topped, word·coded};
 ghost use Rattle.reading.specs.ShortCells.{Ran·put, Short·room, Short·run, Short·written};
 ghost use Rattle.record.specs.Spell.{spell·cell};
 ghost use lib.ListN.{length, getD, take, drop};
@@ -26,6 +27,7 @@ use lexer::next_byte;
 use lexer::plain_run;
 use lexer::start_of;
 use lexer::text_start;
+use matrix::sets::word_stop;
 
 // A row that is put: the next place, whether a cell was put, and how many cells are lacking.
 pub struct Putting {
@@ -321,6 +323,64 @@ pub fn put_set_cell(buffer: &mut [u8], row: Putting, kind: Bracket, set: &[u8]) 
     }
 }
 
+// The letter of a set by its opening mark.
+fn set_letter(b: u8) -> u8
+    ensures { λ r. ⌜ r ≡ letter·of b ⌝ }
+{
+    if b == 123 {
+        return 117;
+    }
+    112
+}
+
+// Puts states below 10, from a place of a text up to an end, each behind a mark: the first behind this one, the others behind a dot.
+fn put_digits(
+    text: &[u8],
+    from: usize,
+    end: usize,
+    buffer: &mut [u8],
+    n: usize,
+    letter: u8,
+    codes: &[u8; 256],
+) -> usize
+    requires { ⌜ Digits (now codes) (now text) from end ⌝ }
+    ensures { λ r. ⌜ Puts (now (buffer .entry)) n (marked·digits (now (codes .entry)) letter (part (now (text .entry)) from end)) (now (buffer .exit)) r ⌝ }
+{
+    let mut at = n;
+    let mut mark = letter;
+    let mut i = from;
+    while i < end {
+        let code = code_of(codes, text[i]);
+        let behind = put(buffer, at, mark);
+        at = put(buffer, behind, 48 + code);
+        mark = 46;
+        i += 1;
+    }
+    at
+}
+
+// Puts a whole set behind the cells of a row, from its opening mark up to the mark that closes it.
+pub fn put_whole_set(
+    text: &[u8],
+    start: usize,
+    end: usize,
+    buffer: &mut [u8],
+    row: Putting,
+    codes: &[u8; 256],
+) -> Putting
+    requires { ⌜ Set·bytes (now codes) (now text) start end ⌝ }
+    ensures { λ r. ⌜ Row·put (now (buffer .entry)) row (set·cell (bracket·of (getD (now (text .entry)) start 0)) (codes·of (now (codes .entry)) (part (now (text .entry)) (start + 1) end)) ∷ []) (now (buffer .exit)) r ⌝ }
+{
+    let at = put_blank(buffer, row.at, row.started);
+    let letter = set_letter(text[start]);
+    let next = put_digits(text, start + 1, end, buffer, at, letter, codes);
+    Putting {
+        at: next,
+        started: true,
+        left: fewer(row.left),
+    }
+}
+
 // Puts the cells of a token's text behind those of a row: those of a run of plain bytes, then of the next byte, and so on.
 fn put_cells(
     text: &[u8],
@@ -413,7 +473,7 @@ pub fn clear(set: &mut [u8; 96], top: usize)
     }
 }
 
-// Puts the cells of a word behind those of a row.
+// Puts the cells of a word behind those of a row. Most words are told at once by their bytes.
 pub fn put_word(
     text: &[u8],
     starts: &[u32],
@@ -424,10 +484,15 @@ pub fn put_word(
 ) -> Putting
     ensures { λ r. ⌜ Row·put (now (buffer .entry)) row (word·coded (now (codes .entry)) (word·of (now (text .entry)) (now (starts .entry)) i)) (now (buffer .exit)) r ⌝ }
 {
+    let start = start_of(starts, i);
+    let end = word_stop(text, start);
+    if start < end {
+        return put_run(text, start, end, buffer, row, codes);
+    }
     if !has_cells(text, starts, i) {
         return row;
     }
-    put_cells(text, start_of(starts, i), buffer, row, codes)
+    put_cells(text, start, buffer, row, codes)
 }
 
 // Puts the states of a word into a set.

@@ -1,6 +1,6 @@
 // The cells of a row, put from its words: those of a line, and those of a row that ends when it is full.
 
-ghost use Prim.Native.Nat.{ℕ, _≤_};
+ghost use Prim.Native.Nat.{ℕ, _≤_, _<_};
 ghost use Rattle.block.specs.Chunk.{closer, plain, set·cell};
 ghost use Rattle.block.specs.Commands.{words};
 ghost use Rattle.block.specs.Interleaved.{to·newline};
@@ -10,7 +10,7 @@ ghost use Rattle.matrix.specs.Taken.{line·taken, row·taken};
 ghost use Rattle.reading.specs.CodedCells.{Row·put, members};
 ghost use Rattle.reading.specs.Pieces.{spell·on};
 ghost use Rattle.reading.specs.RowLines.{Coded·puts};
-ghost use Rattle.reading.specs.RowWalk.{Word·put, begun, full};
+ghost use Rattle.reading.specs.RowWalk.{Step·put, Word·put, begun, full};
 ghost use Rattle.reading.specs.declared.lines.Open.{Open};
 ghost use lib.ListN.{length, take};
 ghost use mathlib.Core.Bool.{false};
@@ -20,10 +20,13 @@ use super::cells::Putting;
 use super::cells::clear;
 use super::cells::mark_word;
 use super::cells::put_set_cell;
+use super::cells::put_whole_set;
 use super::cells::put_word;
 use block::Bracket;
 use block::newline;
 use block::punct;
+use lexer::start_of;
+use matrix::sets::set_closes;
 
 // The set that is open in a row: none, or one of a kind.
 pub enum Open {
@@ -36,6 +39,12 @@ pub struct Walk {
     pub row: Putting,
     pub opened: Open,
     pub top: usize,
+}
+
+// A row behind one word or several, and the index of the next.
+pub struct Step {
+    pub walk: Walk,
+    pub next: usize,
 }
 
 // A row before its first word: so many cells are lacking, and no set is open.
@@ -139,23 +148,62 @@ fn put_within(
     }
 }
 
-// Puts one word more of a row.
-fn put_token(
+// Puts a word where no set is open, or a whole set at once, where it is told by its bytes.
+fn put_next(
+    text: &[u8],
+    starts: &[u32],
+    buffer: &mut [u8],
+    i: usize,
+    to: usize,
+    walk: Walk,
+    codes: &[u8; 256],
+) -> Step
+    requires { ⌜ (walk .top ≤ 96) × (i < to) ⌝ }
+    ensures { λ r. ⌜ (walk .opened ≡ Open.None → (set : List ℕ) → Step·put (now (codes .entry)) (now (text .entry)) (now (starts .entry)) to i (now (buffer .entry)) set walk (now (buffer .exit)) set (r .walk) (r .next)) ⌝ }
+{
+    let end = set_closes(text, starts, i, to, codes);
+    if end == 0 {
+        let next = put_plain(text, starts, buffer, i, walk, codes);
+        return Step {
+            walk: next,
+            next: i + 1,
+        };
+    }
+    let row = put_whole_set(text, start_of(starts, i), end, buffer, walk.row, codes);
+    Step {
+        walk: Walk {
+            row,
+            opened: Open::None,
+            top: walk.top,
+        },
+        next: i + 3,
+    }
+}
+
+// Puts one word more of a row, or the words of a whole set.
+fn put_step(
     text: &[u8],
     starts: &[u32],
     buffer: &mut [u8],
     set: &mut [u8; 96],
     i: usize,
+    to: usize,
     walk: Walk,
     codes: &[u8; 256],
-) -> Walk
-    requires { ⌜ walk .top ≤ 96 ⌝ }
-    ensures { λ r. ⌜ Word·put (now (codes .entry)) (word·of (now (text .entry)) (now (starts .entry)) i) (now (buffer .entry)) (now (set .entry)) walk (now (buffer .exit)) (now (set .exit)) r ⌝ }
+) -> Step
+    requires { ⌜ (walk .top ≤ 96) × (i < to) ⌝ }
+    ensures { λ r. ⌜ Step·put (now (codes .entry)) (now (text .entry)) (now (starts .entry)) to i (now (buffer .entry)) (now (set .entry)) walk (now (buffer .exit)) (now (set .exit)) (r .walk) (r .next) ⌝ }
 {
     let opened = walk.opened;
     match opened {
-        Open::None => put_plain(text, starts, buffer, i, walk, codes),
-        Open::Set(kind) => put_within(text, starts, buffer, set, i, walk, kind, codes),
+        Open::None => put_next(text, starts, buffer, i, to, walk, codes),
+        Open::Set(kind) => {
+            let next = put_within(text, starts, buffer, set, i, walk, kind, codes);
+            Step {
+                walk: next,
+                next: i + 1,
+            }
+        }
     }
 }
 
@@ -190,8 +238,9 @@ pub fn put_line(
         if newline(text, starts, i) {
             return walk.row.at;
         }
-        walk = put_token(text, starts, buffer, &mut set, i, walk, codes);
-        i += 1;
+        let step = put_step(text, starts, buffer, &mut set, i, to, walk, codes);
+        walk = step.walk;
+        i = step.next;
     }
     walk.row.at
 }
@@ -213,13 +262,15 @@ pub fn put_sequence(
     let mut walk = begin_row(n, false, characters);
     let mut i = from;
     while i < to {
-        let k = i;
-        i += 1;
-        if !newline(text, starts, k) {
-            walk = put_token(text, starts, buffer, &mut set, k, walk, codes);
-            if is_full(walk) {
-                return walk.row.at;
-            }
+        if newline(text, starts, i) {
+            i += 1;
+            continue;
+        }
+        let step = put_step(text, starts, buffer, &mut set, i, to, walk, codes);
+        walk = step.walk;
+        i = step.next;
+        if is_full(walk) {
+            return walk.row.at;
         }
     }
     walk.row.at

@@ -1,13 +1,15 @@
--- The function `put_line` meets its contract: a turn puts one word more, up to the newline. The measure is what is left of the tokens. Assumes nothing.
+-- The function `put_line` meets its contract: a turn puts one word more or a whole set, up to the newline. The measure is what is left of the tokens. Assumes
+-- nothing.
 use Prim.Native.Nat.{_-_}
 use Rattle.block.specs.Chunk.{plain}
-use Rattle.reading.proofs.RowWalks.{Line·left, Rowing, line-newline, line-over, line-turn, rowing-end, rowing-start}
+use Rattle.reading.proofs.RowWalks.{Line·left, Rowing, line-newline, line-over, line-step, rowing-end, rowing-start, step-ahead}
 use Rattle.reading.proofs.lines.put_line.Statement.{statement}
 use Rattle.reading.proofs.lines.put_line.Tie as tie
 use Rattle.reading.specs.RowWalk.{begun}
 use borrow.Author.Needs.{needs}
 use mathlib.Core.List.{[]}
 use mathlib.Core.Path.{sym, _∙_}
+use native.Mathlib.Omega.{arith}
 
 abbrev Inv-loop : tie.InvT-loop
 Inv-loop text starts from to codes buffer₀ n started set₀ walk₀ i₀ buffer set walk i =
@@ -33,20 +35,17 @@ returns c =
     let t = c .before .before in
     rowing-end (t .before .loop .inv) (λ f row g. line-newline _ _ _ _ (t .loop-test .taken) (sym (c .before .newline .ensures) ∙ c .if1 .taken) f row)
 
-put-token-requires : tie.Need-put-token-requires Inv-loop μ-loop
-put-token-requires c κs = c .before .before .before .before .before .loop .inv .low
-
-add-i : tie.Need-add-i Inv-loop μ-loop
-add-i c = search needs
+put-step-requires : tie.Need-put-step-requires Inv-loop μ-loop
+put-step-requires c κs = (c .before .before .before .before .before .loop .inv .low, c .before .before .before .before .loop-test .taken)
 
 loop-less : tie.Need-loop-less Inv-loop μ-loop
-loop-less c = search needs
+loop-less c = let a = step-ahead (c .before .before .before .put-step .ensures) in omega (arith, c .before .before .before .before .before .before .before .before .loop-test .taken)
 
 loop-again : tie.Need-loop-again Inv-loop μ-loop
 loop-again c =
-    let j = c .before .before .before .before .before in
-    let t = j .before .before in
-    line-turn _ _ _ _ (t .loop-test .taken) (λ b. t .before .before .before .before .before .shared-slice-known .given b .fits) (sym (j .before .newline .ensures) ∙ j .if1 .left) (c .before .before .put-token .ensures) (t .before .loop .inv)
+    let t = c .before .before .before .before .before .before .before .before in
+    line-step (t .loop-test .taken) (λ b. t .before .before .before .before .before .shared-slice-known .given b .fits) (sym (c .before .before .before .before .before .before .before .newline .ensures) ∙ c .before .before .before .before .before .before .if1 .left)
+    (c .before .before .before .put-step .ensures) (t .before .loop .inv)
 
 same-length-2 : tie.Need-same-length-2 Inv-loop μ-loop
 same-length-2 c = c .before .loop .inv .kept
@@ -65,8 +64,7 @@ put-line-spec =
     newline-requires
     same-length
     returns
-    put-token-requires
-    add-i
+    put-step-requires
     loop-less
     loop-again
     same-length-2
