@@ -23,5 +23,6 @@ mod SetPieces
 mod ShortLaws
 mod TaxaCounts
 mod TaxonPieces
+mod ToldRows
 mod WholePuts
 mod WordCells

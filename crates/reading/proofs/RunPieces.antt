@@ -42,6 +42,11 @@ module _ (codes text : List ℕ) where
       ∙ cells-append codes (take (j - i) (drop i text)) (take (e - j) (drop (j - i) (drop i text)))
       ∙ ap (λ l. run·cells codes text i j ++ cells·coded codes (take (e - j) l)) second
 
+  -- Two parts.
+  pub part-both : {a b c : List ℕ} {row s t : Putting} (i j e : ℕ) → i ≤ j → j ≤ e → Row·put a row (run·cells codes text i j) b s → Row·put b s (run·cells codes text j e) c t
+      → Row·put a row (run·cells codes text i e) c t
+  part-both i j e h k p q = rw (part-split i j e h k) (row-then p q)
+
   -- An empty part, and a part of one byte.
   pub part-none : (i : ℕ) {buffer : List ℕ} {row : Putting} → Row·put buffer row (run·cells codes text i i) buffer row
   unfolding cells·coded

@@ -1,6 +1,7 @@
 -- A row that is put word by word: what the code keeps of it stands for the row of the definition.
-use Prim.Native.Nat.{ℕ, _+_, _≤_}
+use Prim.Native.Nat.{ℕ, _+_, _≤_, _<_}
 use Rattle.block.specs.Chunk.{Row, plain, within, set·cell}
+use Rattle.block.specs.Commands.{newline}
 use Rattle.block.specs.Format.{Format}
 use Rattle.block.specs.declared.kinds.Bracket.{Bracket}
 use Rattle.lexer.specs.Stored.{word·of}
@@ -74,3 +75,20 @@ pub record Set·put (codes text starts : List ℕ) (to i : ℕ) (buffer set : Li
 pub data Step·put (codes text starts : List ℕ) (to i : ℕ) (buffer set : List ℕ) (walk : Walk) (after marks : List ℕ) (next : Walk) : ℕ → Type 0 where
   one·word : {j : ℕ} → j ≡ i + 1 → Word·put codes (word·of text starts i) buffer set walk after marks next → Step·put codes text starts to i buffer set walk after marks next j
   whole·set : {j : ℕ} → j ≡ i + 3 → Set·put codes text starts to i buffer set walk after marks next → Step·put codes text starts to i buffer set walk after marks next j
+
+-- A row in which no set is open.
+abbrev pub plain·walk : Putting → ℕ → Walk
+plain·walk row top = record { row = row; opened = Open.None; top = top }
+
+-- Words and whole sets were put behind a row, from an index on up to another, and behind each of them cells are lacking.
+pub data Told·put (codes text starts : List ℕ) (to : ℕ) (before : List ℕ) (row : Putting) (from : ℕ) : List ℕ → Putting → ℕ → Type 0 where
+  none·told : Told·put codes text starts to before row from before row from
+  more·told : {b : List ℕ} {r : Putting} {i : ℕ} {c : List ℕ} {s : Putting} {j : ℕ} → Told·put codes text starts to before row from b r i → i < to
+      → newline (word·of text starts i) ≡ false → ((set : List ℕ) (top : ℕ) → top ≤ 96 → Step·put codes text starts to i b set (plain·walk r top) c set (plain·walk s top) j)
+      → (s .left ≡ 0 → ⊥) → Told·put codes text starts to before row from c s j
+
+-- Such words and sets were put where no set is open; or nothing was.
+pub data Ahead·put (codes text starts : List ℕ) (to i : ℕ) (buffer : List ℕ) (walk : Walk) : List ℕ → Walk → ℕ → Type 0 where
+  nothing·put : Ahead·put codes text starts to i buffer walk buffer walk i
+  told·put : {row : Putting} {top : ℕ} {after : List ℕ} {next : Putting} {j : ℕ} → walk ≡ plain·walk row top → Told·put codes text starts to buffer row i after next j
+      → Ahead·put codes text starts to i buffer walk after (plain·walk next top) j

@@ -10,6 +10,7 @@ ghost use Rattle.lexer.specs.Stored.{word·of};
 ghost use Rattle.matrix.specs.Taken.{also, states·taken};
 ghost use Rattle.matrix.specs.WholeSets.{Set·bytes, bracket·of, part};
 ghost use Rattle.reading.specs.CodedCells.{Cleared, Digits, Row·put, cell·byte, cells·coded, codes·of, decoded, dotted·on, has·cells, letter·of, marked, marked·digits, marks, members, spell·maybe, topped, word·coded};
+ghost use Rattle.reading.specs.RowWalk.{Told·put};
 ghost use Rattle.reading.specs.ShortCells.{Ran·put, Short·room, Short·run, Short·written};
 ghost use Rattle.record.specs.Spell.{spell·cell};
 ghost use lib.ListN.{length, getD, take, drop};
@@ -27,6 +28,7 @@ use lexer::next_byte;
 use lexer::plain_run;
 use lexer::start_of;
 use lexer::text_start;
+use matrix::sets::set_closes;
 use matrix::sets::word_stop;
 
 // A row that is put: the next place, whether a cell was put, and how many cells are lacking.
@@ -288,7 +290,7 @@ fn put_short(
 }
 
 // Puts the cells of a text from a place up to an end behind those of a row: one, then those of one byte each that follow it, and so on.
-fn put_run(
+fn put_rest(
     text: &[u8],
     from: usize,
     end: usize,
@@ -308,6 +310,22 @@ fn put_run(
         i = ran.next;
     }
     last
+}
+
+// The same, with those of one byte each first, which mostly are all.
+fn put_run(
+    text: &[u8],
+    from: usize,
+    end: usize,
+    buffer: &mut [u8],
+    row: Putting,
+    codes: &[u8; 256],
+) -> Putting
+    requires { ⌜ (from ≤ end) × (end - from ≤ length (now text) - from) ⌝ }
+    ensures { λ r. ⌜ Row·put (now (buffer .entry)) row (cells·coded (now (codes .entry)) (take (end - from) (drop from (now (text .entry))))) (now (buffer .exit)) r ⌝ }
+{
+    let ran = put_short(text, from, end, buffer, row, codes);
+    put_rest(text, ran.next, end, buffer, ran.row, codes)
 }
 
 // Puts a set behind the cells of a row.
@@ -511,4 +529,42 @@ pub fn mark_word(
         return top;
     }
     mark_states(text, start_of(starts, i), set, top, codes)
+}
+
+// Puts the words and whole sets that are told by their bytes at once, from the word of an index on, as long as cells are lacking behind each.
+pub fn put_told(
+    text: &[u8],
+    starts: &[u32],
+    from: usize,
+    to: usize,
+    buffer: &mut [u8],
+    row: Putting,
+    codes: &[u8; 256],
+) -> Ran
+    ensures { λ r. ⌜ Told·put (now (codes .entry)) (now (text .entry)) (now (starts .entry)) to (now (buffer .entry)) row from (now (buffer .exit)) (r .row) (r .next) ⌝ }
+{
+    let mut last = row;
+    let mut i = from;
+    while i < to {
+        let start = start_of(starts, i);
+        let close = set_closes(text, starts, i, to, codes);
+        if close == 0 {
+            let end = word_stop(text, start);
+            if end <= start {
+                return Ran { row: last, next: i };
+            }
+            if last.left <= end - start {
+                return Ran { row: last, next: i };
+            }
+            last = put_run(text, start, end, buffer, last, codes);
+            i += 1;
+            continue;
+        }
+        if last.left <= 1 {
+            return Ran { row: last, next: i };
+        }
+        last = put_whole_set(text, start, close, buffer, last, codes);
+        i += 3;
+    }
+    Ran { row: last, next: i }
 }

@@ -10,7 +10,7 @@ ghost use Rattle.matrix.specs.Taken.{line·taken, row·taken};
 ghost use Rattle.reading.specs.CodedCells.{Row·put, members};
 ghost use Rattle.reading.specs.Pieces.{spell·on};
 ghost use Rattle.reading.specs.RowLines.{Coded·puts};
-ghost use Rattle.reading.specs.RowWalk.{Step·put, Word·put, begun, full};
+ghost use Rattle.reading.specs.RowWalk.{Ahead·put, Step·put, Word·put, begun, full};
 ghost use Rattle.reading.specs.declared.lines.Open.{Open};
 ghost use lib.ListN.{length, take};
 ghost use mathlib.Core.Bool.{false};
@@ -20,6 +20,7 @@ use super::cells::Putting;
 use super::cells::clear;
 use super::cells::mark_word;
 use super::cells::put_set_cell;
+use super::cells::put_told;
 use super::cells::put_whole_set;
 use super::cells::put_word;
 use block::Bracket;
@@ -207,6 +208,36 @@ fn put_step(
     }
 }
 
+// Puts more words and whole sets, as long as they are told by their bytes at once and the row is not full.
+fn put_ahead(
+    text: &[u8],
+    starts: &[u32],
+    buffer: &mut [u8],
+    i: usize,
+    to: usize,
+    walk: Walk,
+    codes: &[u8; 256],
+) -> Step
+    ensures { λ r. ⌜ Ahead·put (now (codes .entry)) (now (text .entry)) (now (starts .entry)) to i (now (buffer .entry)) walk (now (buffer .exit)) (r .walk) (r .next) ⌝ }
+{
+    let opened = walk.opened;
+    match opened {
+        Open::None => {
+            let ran = put_told(text, starts, i, to, buffer, walk.row, codes);
+            let row = ran.row;
+            Step {
+                walk: Walk {
+                    row,
+                    opened: Open::None,
+                    top: walk.top,
+                },
+                next: ran.next,
+            }
+        }
+        Open::Set(_) => Step { walk, next: i },
+    }
+}
+
 // Is a row full, with no set open?
 fn is_full(walk: Walk) -> bool
     ensures { λ r. ⌜ r ≡ full walk ⌝ }
@@ -272,6 +303,9 @@ pub fn put_sequence(
         if is_full(walk) {
             return walk.row.at;
         }
+        let ahead = put_ahead(text, starts, buffer, i, to, walk, codes);
+        walk = ahead.walk;
+        i = ahead.next;
     }
     walk.row.at
 }

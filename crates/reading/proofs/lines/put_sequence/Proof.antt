@@ -1,8 +1,9 @@
--- The function `put_sequence` meets its contract: a turn passes a newline, or puts one word more or a whole set and stops where the row is full. The measure
--- is what is left of the tokens. Assumes nothing.
+-- The function `put_sequence` meets its contract: a turn passes a newline, or puts a word or a whole set, stops where the row is full, and puts those that
+-- follow and are told at once. The measure is what is left of the tokens. Assumes nothing.
 use Prim.Native.Nat.{_-_}
 use Rattle.block.specs.Chunk.{plain}
 use Rattle.reading.proofs.RowWalks.{Rowing, Words·left, rowing-as, rowing-end, rowing-start, step-ahead, step-kept, step-on, step-stop, words-over, words-pass}
+use Rattle.reading.proofs.ToldRows.{ahead-on, ahead-rowing}
 use Rattle.reading.proofs.lines.put_sequence.Statement.{statement}
 use Rattle.reading.proofs.lines.put_sequence.Tie as tie
 use Rattle.reading.specs.RowWalk.{begun}
@@ -50,20 +51,23 @@ same-length c = step-kept (c .before .before .before .before .before .put-step .
 
 returns : tie.Need-returns Inv-loop μ-loop
 returns c =
-    let t = c .before .before .before .before .before .before .before .before .before .before in
-    let s = c .before .before .before .before .before in
-    step-stop (t .loop-test .taken) (λ b. t .before .before .before .before .before .shared-slice-known .given b .fits) (sym (c .before .before .before .before .before .before .before .before .before .newline .ensures) ∙ c .before .before .before .before .before .before .before .before .if1 .left)
-    (s .put-step .ensures) (t .before .loop .inv) (sym (c .before .is-full .ensures) ∙ c .if2 .taken)
+    step-stop (c .before .before .before .before .before .before .before .before .before .before .loop-test .taken) (λ b. c .before .before .before .before .before .before .before .before .before .before .before .before .before .before .before .shared-slice-known .given b .fits) (sym (c .before .before .before .before .before .before .before .before .before .newline .ensures) ∙ c .before .before .before .before .before .before .before .before .if1 .left)
+    (c .before .before .before .before .before .put-step .ensures) (c .before .before .before .before .before .before .before .before .before .before .before .loop .inv) (sym (c .before .is-full .ensures) ∙ c .if2 .taken)
+
+put-ahead-requires : tie.Need-put-ahead-requires Inv-loop μ-loop
+put-ahead-requires c κs = search needs
 
 loop-less-2 : tie.Need-loop-less-2 Inv-loop μ-loop
-loop-less-2 c = let a = step-ahead (c .before .before .before .before .before .put-step .ensures) in omega (arith, c .before .before .before .before .before .before .before .before .before .before .loop-test .taken)
+loop-less-2 c =
+    let a = step-ahead (c .before .before .before .before .before .before .before .before .before .before .put-step .ensures) in
+    let b = ahead-on (c .before .before .before .put-ahead .ensures) in
+    omega (arith, c .before .before .before .before .before .before .before .before .before .before .before .before .before .before .before .loop-test .taken)
 
 loop-again-2 : tie.Need-loop-again-2 Inv-loop μ-loop
 loop-again-2 c =
-    let t = c .before .before .before .before .before .before .before .before .before .before in
-    let s = c .before .before .before .before .before in
-    step-on (t .loop-test .taken) (λ b. t .before .before .before .before .before .shared-slice-known .given b .fits) (sym (c .before .before .before .before .before .before .before .before .before .newline .ensures) ∙ c .before .before .before .before .before .before .before .before .if1 .left)
-    (s .put-step .ensures) (t .before .loop .inv) (sym (c .before .is-full .ensures) ∙ c .if2 .left)
+    ahead-rowing (λ b. c .before .before .before .before .before .before .before .before .before .before .before .before .before .before .before .before .before .before .before .before .shared-slice-known .given b .fits) (c .before .before .before .put-ahead .ensures)
+    (step-on (c .before .before .before .before .before .before .before .before .before .before .before .before .before .before .before .loop-test .taken) (λ b. c .before .before .before .before .before .before .before .before .before .before .before .before .before .before .before .before .before .before .before .before .shared-slice-known .given b .fits) (sym (c .before .before .before .before .before .before .before .before .before .before .before .before .before .before .newline .ensures) ∙ c .before .before .before .before .before .before .before .before .before .before .before .before .before .if1 .left)
+    (c .before .before .before .before .before .before .before .before .before .before .put-step .ensures) (c .before .before .before .before .before .before .before .before .before .before .before .before .before .before .before .before .loop .inv) (sym (c .before .before .before .before .before .before .is-full .ensures) ∙ c .before .before .before .before .before .if2 .left))
 
 same-length-2 : tie.Need-same-length-2 Inv-loop μ-loop
 same-length-2 c = c .before .loop .inv .kept
@@ -87,6 +91,7 @@ put-sequence-spec =
     is-full-requires
     same-length
     returns
+    put-ahead-requires
     loop-less-2
     loop-again-2
     same-length-2
