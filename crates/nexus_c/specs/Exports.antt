@@ -1,7 +1,7 @@
 -- What a call answers, in numbers: a length, and the number, the line and the column of a refusal, each 0 where there is none.
 use Prim.Native.Nat.{ℕ}
 use Rattle.lexer.specs.Refusals.{number}
-use Rattle.record.specs.Calls.{read·answer, read·leaves}
+use Rattle.record.specs.Calls.{lookup·answer, read·answer, read·leaves, write·answer, write·leaves}
 use Rattle.record.specs.declared.Answer.{Answer}
 use lib.ListN.{length}
 use mathlib.Core.List.{List}
@@ -37,3 +37,15 @@ pub record Read·exported (text work work·after buffer after : List ℕ) (n l c
   pub answer : In·numbers (read·answer text (length work) (length buffer)) r n l c
   pub left : after ≡ read·leaves text (length work) buffer
   pub size : length work·after ≡ length work
+
+-- The write call: its answer in numbers, and what it leaves in the buffer.
+pub record Write·exported (b buffer after : List ℕ) (n r : ℕ) : Type 0 where
+  pub result : r ≡ length·of (write·answer b (length buffer))
+  pub number : n ≡ number·of (write·answer b (length buffer))
+  pub left : after ≡ write·leaves b buffer
+
+-- The lookup: the refusal's number, and the stretch of the record where the cells stand.
+pub record Lookup·exported (b name : List ℕ) (n start size : ℕ) : Type 0 where
+  pub number : n ≡ lookup·answer name b .refused
+  pub start : start ≡ lookup·answer name b .stretch .start
+  pub size : size ≡ lookup·answer name b .stretch .size
