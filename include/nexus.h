@@ -6,7 +6,8 @@
  * A call works in the memory that it is lent and nowhere else, allocates nothing and keeps nothing,
  * so several threads may call at once, each with memory of its own. Whatever the memory held before
  * does not matter. Of the caller it asks only that no pointer is NULL, even where its length is 0,
- * that each is aligned for its type, and that no two stretches overlap.
+ * that each is aligned for its type, and that nothing that the call may write overlaps anything else
+ * that it is lent.
  */
 #ifndef NEXUS_H
 #define NEXUS_H
@@ -18,7 +19,7 @@
 extern "C" {
 #endif
 
-/* The longest text that is read, in bytes. */
+/* The longest text that is read, and the longest form that is written, in bytes. */
 #define NEXUS_TEXT_LIMIT 1048576
 
 /* How many numbers of work memory a text of so many bytes needs. */
@@ -43,6 +44,40 @@ size_t nexus_read(
     uint32_t *number,     /* set to the refusal's number, 0 where there is none */
     size_t *line,         /* set to its line, from 1; 0 where it has no place */
     size_t *column        /* set to its column, from 1, in characters; 0 where it has no place */
+);
+
+/*
+ * Writes the form of a record to the start of the buffer: a NEXUS text whose record is this one.
+ *
+ * Answers the form's length in bytes, which is never 0, and leaves the rest of the buffer as it was.
+ * Where the record is refused it answers 0 and leaves all of the buffer as it was; then *number says
+ * why: in order 31 for bytes that are no text's record or have a count above 1,048,576, 32 for a
+ * form that is longer than NEXUS_TEXT_LIMIT, and 30 for one that is longer than the buffer.
+ */
+size_t nexus_write(
+    const uint8_t *record, /* the record */
+    size_t record_length,  /* how many bytes it has */
+    uint8_t *buffer,       /* the form's buffer */
+    size_t buffer_length,  /* how many bytes it has */
+    uint32_t *number       /* set to the refusal's number, 0 where there is none */
+);
+
+/*
+ * Finds the cells of the taxon with a name: the stretch of the record that stands behind `cells=`,
+ * without the LF that ends the line. A name is given as it is, and not as the record escapes it; the
+ * case of ASCII letters does not matter.
+ *
+ * Answers the stretch's length in bytes, which is never 0. Where the name is refused it answers 0;
+ * then *number says why: in order 31 for bytes that are no text's record or have a count above
+ * 1,048,576, and 33 for a name that no taxon has.
+ */
+size_t nexus_lookup(
+    const uint8_t *record, /* the record */
+    size_t record_length,  /* how many bytes it has */
+    const uint8_t *name,   /* the name; it may be any bytes */
+    size_t name_length,    /* how many bytes it has */
+    uint32_t *number,      /* set to the refusal's number, 0 where there is none */
+    size_t *start          /* set to where the stretch begins in the record; 0 where there is none */
 );
 
 #ifdef __cplusplus

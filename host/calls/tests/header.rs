@@ -56,7 +56,7 @@ fn the_header_compiles() {
 
 #[test]
 #[cfg_attr(not(archive), ignore = "no archive; tools/test-calls makes it")]
-fn a_program_of_c_reads() {
+fn a_program_of_c_makes_every_call() {
     let folder = Folder::new("linked");
     let archive = repository().join("target/staticlib/libnexus_c.a");
     let archive = archive.to_str().expect("a path in UTF-8");
@@ -82,6 +82,21 @@ fn a_program_of_c_reads() {
         ] {
             let right = answer::read(text.as_bytes(), ENOUGH, ENOUGH).into_bytes();
             assert_eq!(printed(&program, &[], text.as_bytes()), right, "{text:?}");
+        }
+        let form = printed(&program, &["form"], text);
+        assert_eq!(form, example::FORM.as_bytes());
+        // The form's own record and form are the same.
+        assert_eq!(printed(&program, &[], &form), example::RECORD.as_bytes());
+        assert_eq!(printed(&program, &["form"], &form), form);
+        for (name, cells) in [
+            ("a b", "0 u0.1 m"),
+            ("A B", "0 u0.1 m"),
+            ("c", "1 p1 0"),
+            ("a_b", "refused=33\n"),
+            ("", "refused=33\n"),
+        ] {
+            let printed = printed(&program, &["cells", name], text);
+            assert_eq!(printed, cells.as_bytes(), "{name:?}");
         }
     }
 }

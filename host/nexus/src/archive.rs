@@ -10,7 +10,7 @@ pub const NOT_LINKED: &str = "target/staticlib/libnexus_c.a is not there; \
 /// The function as include/nexus.h has it: the record's length, 0 where the text is refused. What
 /// the three numbers held before does not matter.
 ///
-/// Panics where the archive is not linked.
+/// Panics where the archive is not linked, as the others do.
 pub fn nexus_read(
     text: &[u8],
     work: &mut [u32],
@@ -42,6 +42,49 @@ pub fn nexus_read(
     }
 }
 
+/// The function as include/nexus.h has it: the form's length, 0 where the record is refused. What
+/// the number held before does not matter.
+pub fn nexus_write(record: &[u8], buffer: &mut [u8], number: &mut u32) -> usize {
+    #[cfg(archive)]
+    // SAFETY: as for `nexus_read`.
+    unsafe {
+        functions::nexus_write(
+            record.as_ptr(),
+            record.len(),
+            buffer.as_mut_ptr(),
+            buffer.len(),
+            number,
+        )
+    }
+    #[cfg(not(archive))]
+    {
+        let _ = (record, buffer, number);
+        panic!("{NOT_LINKED}")
+    }
+}
+
+/// The function as include/nexus.h has it: the length of the stretch that has the cells, 0 where the
+/// name is refused. What the two numbers held before does not matter.
+pub fn nexus_lookup(record: &[u8], name: &[u8], number: &mut u32, start: &mut usize) -> usize {
+    #[cfg(archive)]
+    // SAFETY: as for `nexus_read`; the record and the name may overlap, since both are only read.
+    unsafe {
+        functions::nexus_lookup(
+            record.as_ptr(),
+            record.len(),
+            name.as_ptr(),
+            name.len(),
+            number,
+            start,
+        )
+    }
+    #[cfg(not(archive))]
+    {
+        let _ = (record, name, number, start);
+        panic!("{NOT_LINKED}")
+    }
+}
+
 #[cfg(archive)]
 mod functions {
     unsafe extern "C" {
@@ -55,6 +98,23 @@ mod functions {
             number: *mut u32,
             line: *mut usize,
             column: *mut usize,
+        ) -> usize;
+
+        pub fn nexus_write(
+            record: *const u8,
+            record_length: usize,
+            buffer: *mut u8,
+            buffer_length: usize,
+            number: *mut u32,
+        ) -> usize;
+
+        pub fn nexus_lookup(
+            record: *const u8,
+            record_length: usize,
+            name: *const u8,
+            name_length: usize,
+            number: *mut u32,
+            start: *mut usize,
         ) -> usize;
     }
 }

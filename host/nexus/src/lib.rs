@@ -10,6 +10,18 @@
 //!     Err(refusal) => eprintln!("{refusal}"),
 //! }
 //! ```
+//!
+//! A record can be written as a text again, and has a taxon's cells by its name.
+//!
+//! ```no_run
+//! # fn main() -> Result<(), nexus::Refusal> {
+//! # let text = b"#NEXUS BEGIN DATA; DIMENSIONS NTAX=1 NCHAR=2; MATRIX a 01; END;";
+//! let record = nexus::read(text)?;
+//! assert_eq!(record.cells(b"A")?, b"0 1");
+//! assert_eq!(nexus::read(&record.write()?)?, record);
+//! # Ok(())
+//! # }
+//! ```
 
 pub mod archive;
 mod record;
@@ -18,7 +30,7 @@ mod refusal;
 pub use record::Record;
 pub use refusal::Refusal;
 
-/// The longest text that is read, in bytes.
+/// The longest text that is read, and the longest form that is written, in bytes.
 pub const TEXT_LIMIT: usize = 1_048_576;
 
 /// How many numbers of work memory a text needs.
@@ -70,4 +82,27 @@ pub fn read(text: &[u8]) -> Result<Record, Refusal> {
 /// name or label, with its share of that line, 9; and what is left is shorter than 256.
 fn longest_record(text: &[u8]) -> usize {
     64 * text.len() + 256
+}
+
+/// Writes the form of a record into lent memory: its length; it then begins the buffer. The rest of
+/// the buffer is as it was, and all of it where the record is refused: by 31 where it is none, by 32
+/// where its form is longer than a text may be, by 30 where it is longer than the buffer. Whatever
+/// the memory held before does not matter.
+pub fn write_into(record: &[u8], buffer: &mut [u8]) -> Result<usize, Refusal> {
+    let mut number = 0;
+    match archive::nexus_write(record, buffer, &mut number) {
+        0 => Err(Refusal::nowhere(number)),
+        length => Ok(length),
+    }
+}
+
+/// The cells of the taxon with this name: the stretch of the record behind `cells=`. It is refused by
+/// 31 where this is no record, and by 33 where no taxon has the name. The case of ASCII letters does
+/// not matter; the name is given as it is, and not as the record escapes it.
+pub fn lookup<'record>(record: &'record [u8], name: &[u8]) -> Result<&'record [u8], Refusal> {
+    let (mut number, mut start) = (0, 0);
+    match archive::nexus_lookup(record, name, &mut number, &mut start) {
+        0 => Err(Refusal::nowhere(number)),
+        length => Ok(&record[start..start + length]),
+    }
 }

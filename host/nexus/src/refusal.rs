@@ -16,6 +16,24 @@ impl Refusal {
     /// The refusal that says that a result is longer than its buffer.
     pub const NO_ROOM: u32 = 30;
 
+    /// The refusal of bytes that are no record.
+    pub const NO_RECORD: u32 = 31;
+
+    /// The refusal of a record whose form is longer than a text may be.
+    pub const FORM_TOO_LONG: u32 = 32;
+
+    /// The refusal of a name that no taxon has.
+    pub const NO_NAME: u32 = 33;
+
+    /// A refusal without a place.
+    pub(crate) fn nowhere(number: u32) -> Self {
+        Self {
+            number,
+            line: 0,
+            column: 0,
+        }
+    }
+
     /// What the number stands for, in a few words.
     pub fn reason(&self) -> &'static str {
         match self.number {
@@ -49,6 +67,9 @@ impl Refusal {
             28 => "character list",
             29 => "ordered DNA",
             Self::NO_ROOM => "the result is longer than its buffer",
+            Self::NO_RECORD => "not a record",
+            Self::FORM_TOO_LONG => "the written form is too long",
+            Self::NO_NAME => "no taxon has the name",
             _ => "unknown refusal",
         }
     }
@@ -86,18 +107,10 @@ mod tests {
 
     #[test]
     fn every_number_has_its_own_reason() {
-        let reason = |number| {
-            let (line, column) = (0, 0);
-            let refusal = Refusal {
-                number,
-                line,
-                column,
-            };
-            refusal.reason()
-        };
-        let mut reasons: Vec<_> = (0..=Refusal::NO_ROOM).map(reason).collect();
+        let reason = |number| Refusal::nowhere(number).reason();
+        let mut reasons: Vec<_> = (0..=Refusal::NO_NAME).map(reason).collect();
         reasons.sort_unstable();
         reasons.dedup();
-        assert_eq!(reasons.len(), 31);
+        assert_eq!(reasons.len(), 34);
     }
 }

@@ -1,7 +1,7 @@
 //! The plain calls.
 
-use inputs::example::{RECORD, TEXT};
-use nexus::{Refusal, TEXT_LIMIT, read, read_into, work_needed};
+use inputs::example::{FORM, RECORD, TEXT};
+use nexus::{Record, Refusal, TEXT_LIMIT, lookup, read, read_into, work_needed, write_into};
 
 fn refusal(number: u32, line: usize, column: usize) -> Refusal {
     Refusal {
@@ -68,4 +68,80 @@ fn a_record_may_be_much_longer_than_its_text() {
         );
         assert!(record == expected.as_bytes(), "{count} characters");
     }
+}
+
+fn record(lines: &str) -> Record {
+    Record::from_bytes(lines.as_bytes().to_vec()).expect("a record")
+}
+
+#[test]
+#[cfg_attr(not(archive), ignore = "no archive; tools/test-calls makes it")]
+fn the_example_is_written() {
+    let form = record(RECORD).write().expect("a form");
+    assert_eq!(form, FORM.as_bytes());
+    assert_eq!(read(&form), Ok(record(RECORD)));
+    let mut buffer = vec![b'#'; FORM.len() + 3];
+    let written = write_into(RECORD.as_bytes(), &mut buffer);
+    assert_eq!(written, Ok(FORM.len()));
+    assert_eq!(buffer, [FORM.as_bytes(), b"###"].concat());
+    let short = &mut buffer[..FORM.len() - 1];
+    let written = write_into(RECORD.as_bytes(), short);
+    assert_eq!(written, Err(refusal(30, 0, 0)));
+}
+
+#[test]
+#[cfg_attr(not(archive), ignore = "no archive; tools/test-calls makes it")]
+fn cells_are_found_by_name() {
+    let example = record(RECORD);
+    assert_eq!(example.cells(b"a b"), Ok(&b"0 u0.1 m"[..]));
+    assert_eq!(example.cells(b"A B"), Ok(&b"0 u0.1 m"[..]));
+    assert_eq!(example.cells(b"c"), Ok(&b"1 p1 0"[..]));
+    for name in [&b"a_b"[..], b"", b"a", b"a b ", b"'C'", b"\xff"] {
+        assert_eq!(example.cells(name), Err(refusal(33, 0, 0)), "{name:?}");
+    }
+    // The cells are those of the record, and no copy.
+    let bytes = example.as_bytes();
+    let cells = lookup(bytes, b"C").expect("cells");
+    let start = RECORD.find("1 p1 0").expect("the cells of C");
+    assert_eq!(cells.as_ptr(), bytes[start..].as_ptr());
+    // A name may be a part of the record.
+    let name = RECORD.find("a b").expect("the first name");
+    assert_eq!(lookup(bytes, &bytes[name..name + 3]), Ok(&b"0 u0.1 m"[..]));
+}
+
+#[test]
+#[cfg_attr(not(archive), ignore = "no archive; tools/test-calls makes it")]
+fn other_bytes_are_no_record() {
+    let not = Err(refusal(31, 0, 0));
+    for bytes in [
+        String::new(),
+        TEXT.to_string(),
+        RECORD.replace("taxa=2", "taxa=02"),
+        RECORD.replace("name=C", "name=A B"),
+        RECORD.trim_end().to_string(),
+    ] {
+        let bytes = bytes.into_bytes();
+        assert_eq!(write_into(&bytes, &mut []).map(|_| ()), not);
+        assert_eq!(lookup(&bytes, b"a b").map(|_| ()), not);
+        assert_eq!(Record::from_bytes(bytes).map(|_| ()), not);
+    }
+}
+
+/// The longest forms for their records: names of nothing but quotes, and sets of one state.
+#[test]
+#[cfg_attr(not(archive), ignore = "no archive; tools/test-calls makes it")]
+fn a_form_may_be_longer_than_its_record() {
+    for quotes in [1, 10, 1_000, 500_000] {
+        let name = "'".repeat(quotes);
+        let lines = RECORD.replace("name=C", &format!("name={name}"));
+        let form = record(&lines).write().expect("a form");
+        let doubled = FORM.replace("'C'", &format!("'{name}{name}'"));
+        assert!(form == doubled.as_bytes(), "{quotes} quotes");
+    }
+    let cells = RECORD.replace("1 p1 0", "u1 p1 u0");
+    let form = FORM.replace("1(1)0", "{1}(1){0}");
+    assert_eq!(record(&cells).write(), Ok(form.into_bytes()));
+    let name = "'".repeat(TEXT_LIMIT / 2);
+    let long = record(&RECORD.replace("name=C", &format!("name={name}")));
+    assert_eq!(long.write(), Err(refusal(32, 0, 0)));
 }
