@@ -99,6 +99,11 @@ pub fn damaged_record(seed: u64, number: u64, damage: usize) -> (Vec<u8>, Option
     records::damaged(&mut Rng::new(seed, number), damage)
 }
 
+/// A sound record with the damage of this number in `DAMAGES`, if it can have it.
+pub fn with_damage(seed: u64, number: u64, record: &[u8], damage: usize) -> Option<Vec<u8>> {
+    records::with_damage(&mut Rng::new(seed, number), record, damage)
+}
+
 /// The lookup with this number: a name and a record.
 pub fn lookup(seed: u64, number: u64) -> (Vec<u8>, Vec<u8>) {
     lookups::lookup(&mut Rng::new(seed, number))

@@ -1,7 +1,8 @@
 //! The damages: each breaks a single condition of refusal 31.
 
 use super::lines::{
-    Lines, add, edit_cell, edit_name, edit_value, insert_in_name, key_of, places, swapped_case,
+    Lines, add, edit_cell, edit_name, edit_value, insert_in_name, insert_within_name, key_of,
+    places, swapped_case,
 };
 use crate::generate::reading::valid_symbols;
 use crate::generate::rng::Rng;
@@ -31,6 +32,15 @@ const fn damage_of_bytes(what: &'static str, change: fn(&mut Rng, &mut Vec<u8>))
         way: Way::Bytes(change),
     }
 }
+
+/// White_Space but U+0020 and CR, LF as it is escaped.
+const BLANKS: &[&str] = &[
+    "\\0", "\t", "\u{b}", "\u{c}", "\u{85}", "\u{a0}", "\u{1680}", "\u{2000}", "\u{2001}",
+    "\u{2002}", "\u{2003}", "\u{2004}", "\u{2005}", "\u{2006}", "\u{2007}", "\u{2008}", "\u{2009}",
+    "\u{200a}", "\u{2028}", "\u{2029}", "\u{202f}", "\u{205f}", "\u{3000}",
+];
+
+const COUNTS: &[&str] = &["taxa=", "characters=", "character=", "states="];
 
 pub const DAMAGES: &[Damage] = &[
     damage("a leading zero in a count", |rng, lines| {
@@ -255,7 +265,7 @@ pub const DAMAGES: &[Damage] = &[
     }),
     damage("characters in another order", |rng, lines| {
         edit_value(rng, lines, "character=", |rng, value| {
-            add(value, rng.between(1, 3) as i64)
+            add(value, rng.between(1, 3) as i128)
         })
     }),
     damage("another type of a character", |rng, lines| {
@@ -286,6 +296,122 @@ pub const DAMAGES: &[Damage] = &[
         let last = rng.pick(&["", "x", "state=x", "character=1", "name=q"]);
         lines.push(last.as_bytes().to_vec());
         true
+    }),
+    damage("another key", |rng, lines| {
+        let at = rng.below(lines.len());
+        let key = key_of(&lines[at]).to_vec();
+        let other = rng.pick(&[
+            "datatype",
+            "taxa",
+            "taxon",
+            "characters",
+            "character",
+            "symbols",
+            "symbol",
+            "name",
+            "names",
+            "cells",
+            "cell",
+            "label",
+            "labels",
+            "order",
+            "type",
+            "states",
+            "state",
+            "",
+        ]);
+        lines[at].splice(..key.len(), other.bytes());
+        other.as_bytes() != key
+    }),
+    damage("more behind a count", |rng, lines| {
+        let key = rng.pick(COUNTS);
+        edit_value(rng, lines, key, |rng, value| {
+            let more = rng.pick(&[" ", "x", ".", ".0", "\t", "\u{661}", "\u{0}", "="]);
+            value.extend(more.bytes());
+        })
+    }),
+    damage(
+        "a count that is right but for a power of two",
+        |rng, lines| {
+            let key = rng.pick(COUNTS);
+            edit_value(rng, lines, key, |rng, value| {
+                add(value, 1 << rng.choose(&[8, 16, 31, 32, 63, 64]))
+            })
+        },
+    ),
+    damage(
+        "an index that is right but for a power of two",
+        |rng, lines| {
+            let index = 1_i128 << rng.choose(&[7, 8, 16, 31, 32, 63, 64]);
+            let prefix = rng.pick(&["", "u", "p", "u0.", "p0."]);
+            let low = i128::from(prefix.ends_with('.'));
+            let cell = format!("{prefix}{}", index + low);
+            edit_cell(rng, lines, move |_, old| *old = cell.clone().into_bytes())
+        },
+    ),
+    damage("a _ within a name", |rng, lines| {
+        insert_within_name(rng, lines, b"_")
+    }),
+    damage("a CR within a name", |rng, lines| {
+        insert_within_name(rng, lines, b"\r")
+    }),
+    damage("a wrong escape within a name", |rng, lines| {
+        let wrong: &[&[u8]] = &[b"\\2", b"\\n", b"\\ ", b"\\9", b"\\_", b"\\/", b"\\\\"];
+        let wrong = rng.pick(wrong);
+        insert_within_name(rng, lines, wrong)
+    }),
+    damage("bytes within a name that are not UTF-8", |rng, lines| {
+        let wrong: &[&[u8]] = &[
+            b"\xff",
+            b"\x80",
+            b"\xbf",
+            b"\xc0\x80",
+            b"\xc1\xbf",
+            b"\xe0\x9f\xbf",
+            b"\xed\xbf\xbf",
+            b"\xf0\x8f\xbf\xbf",
+            b"\xf4\x90\x80\x80",
+            b"\xf5\x80\x80\x80",
+            b"\xe2\x82",
+            b"\xc3\\0",
+        ];
+        let wrong = rng.pick(wrong);
+        insert_within_name(rng, lines, wrong)
+    }),
+    damage("a name of any blanks without U+0020", |rng, lines| {
+        edit_name(rng, lines, |rng, name| {
+            let count = rng.between(1, 3);
+            *name = (0..count).flat_map(|_| rng.pick(BLANKS).bytes()).collect();
+        })
+    }),
+    damage(
+        "two of many names equal, but for one letter's case",
+        |rng, lines| {
+            let names = places(lines, "name=");
+            if names.len() < 3 {
+                return false;
+            }
+            let from = rng.between(0, names.len() - 2);
+            let to = rng.between(from + 1, names.len() - 1);
+            lines[names[to]] = lines[names[from]].clone();
+            let name = &mut lines[names[to]]["name=".len()..];
+            if let Some(letter) = name.iter_mut().find(|byte| byte.is_ascii_alphabetic()) {
+                *letter = swapped_case(*letter);
+            }
+            true
+        },
+    ),
+    damage("another byte between cells", |rng, lines| {
+        let byte = rng.choose(b"\t,.\r\x00;");
+        let mut parted = false;
+        for at in places(lines, "cells=") {
+            let blank = lines[at].iter().rposition(|&byte| byte == b' ');
+            if let Some(blank) = blank {
+                lines[at][blank] = byte;
+                parted = true;
+            }
+        }
+        parted
     }),
     damage_of_bytes("no LF at the end", |_, record| {
         record.pop();

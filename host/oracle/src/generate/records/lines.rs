@@ -84,6 +84,28 @@ pub fn insert_in_name(rng: &mut Rng, lines: &mut Lines, what: &'static [u8]) -> 
     })
 }
 
+/// Put something between two characters of a name, or at its ends; an escape stays whole.
+pub fn insert_within_name(rng: &mut Rng, lines: &mut Lines, what: &'static [u8]) -> bool {
+    edit_name(rng, lines, |rng, name| {
+        let at = rng.choose(&boundaries(name));
+        name.splice(at..at, what.iter().copied());
+    })
+}
+
+/// Where the characters and escapes of a name begin, and its end.
+fn boundaries(name: &[u8]) -> Vec<usize> {
+    let mut boundaries = Vec::new();
+    let mut escaped = false;
+    for (at, &byte) in name.iter().enumerate() {
+        if !escaped && !(0x80..0xc0).contains(&byte) {
+            boundaries.push(at);
+        }
+        escaped = !escaped && byte == b'\\';
+    }
+    boundaries.push(name.len());
+    boundaries
+}
+
 pub fn edit_cell(
     rng: &mut Rng,
     lines: &mut Lines,
@@ -97,9 +119,9 @@ pub fn edit_cell(
     })
 }
 
-pub fn add(value: &mut Vec<u8>, change: i64) {
+pub fn add(value: &mut Vec<u8>, change: i128) {
     let text = std::str::from_utf8(value).expect("digits");
-    let number: i64 = text.parse().expect("a count");
+    let number: i128 = text.parse().expect("a count");
     *value = (number + change).to_string().into_bytes();
 }
 

@@ -48,21 +48,25 @@ fn unusual(rng: &mut Rng) -> crate::data::Matrix {
 /// A sound record, and the same with this damage, if it can have it.
 pub fn damaged(rng: &mut Rng, damage: usize) -> (Vec<u8>, Option<Vec<u8>>) {
     let record = sound(rng);
-    let mut damaged = record.clone();
-    let done = match DAMAGES[damage].way {
+    let damaged = with_damage(rng, &record, damage);
+    (record, damaged)
+}
+
+/// A record with this damage, if it can have it.
+pub fn with_damage(rng: &mut Rng, record: &[u8], damage: usize) -> Option<Vec<u8>> {
+    let (done, damaged) = match DAMAGES[damage].way {
         Way::Bytes(change) => {
+            let mut damaged = record.to_vec();
             change(rng, &mut damaged);
-            true
+            (true, damaged)
         }
         Way::Lines(change) => {
-            let mut lines = split(&record);
+            let mut lines = split(record);
             let done = change(rng, &mut lines);
-            damaged = join(&lines);
-            done
+            (done, join(&lines))
         }
     };
-    let done = done && damaged != record;
-    (record, done.then_some(damaged))
+    (done && damaged != record).then_some(damaged)
 }
 
 /// Damage at the record's bytes, which may or may not leave it sound.
