@@ -27,6 +27,13 @@ impl Element for u32 {
     }
 }
 
+impl Element for usize {
+    fn of(rubbish: Rubbish, at: usize) -> Self {
+        let half = |at| u32::of(rubbish, at) as usize;
+        half(2 * at) << 32 | half(2 * at + 1)
+    }
+}
+
 impl Element for u8 {
     fn of(rubbish: Rubbish, at: usize) -> Self {
         (u32::of(rubbish, at) >> 24) as u8
@@ -85,13 +92,25 @@ impl<T: Element> Lent<T> {
         mark(&self.all[self.from + self.length..], state);
     }
 
+    /// What has changed on the sides of what is lent, in words.
+    pub fn changed_beside(&self, what: &str) -> Vec<String> {
+        let sides = [
+            ("before", self.kept_before()),
+            ("behind", self.kept_behind()),
+        ];
+        let changed = sides.into_iter().filter(|(_, kept)| !kept);
+        changed
+            .map(|(side, _)| format!("memory {side} {what} has changed"))
+            .collect()
+    }
+
     /// Is everything before what is lent as it was?
-    pub fn kept_before(&self) -> bool {
+    fn kept_before(&self) -> bool {
         self.kept(0, self.from)
     }
 
     /// Is everything behind what is lent as it was?
-    pub fn kept_behind(&self) -> bool {
+    fn kept_behind(&self) -> bool {
         self.kept(self.from + self.length, self.all.len())
     }
 
@@ -133,6 +152,7 @@ mod tests {
         for at in 0..10_000 {
             assert_eq!(u8::of(one, at), !u8::of(other, at));
             assert_eq!(u32::of(one, at), !u32::of(other, at));
+            assert_eq!(usize::of(one, at), !usize::of(other, at));
         }
     }
 }

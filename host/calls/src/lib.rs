@@ -1,15 +1,19 @@
-//! Holds the calls of the archive against the oracle. `check` makes many calls for one text and
-//! compares all that they answer and leave; `texts` gives the texts. `cases` has those that the
-//! program crates/cases replays, and what it is to print.
+//! Holds the calls of the archive against the oracle. `check` makes many calls for one text, record
+//! or lookup and compares all that they answer and leave; `texts` and `records` give these. `cases`
+//! has the texts that the program crates/cases replays, and what it is to print.
 
 pub mod cases;
 pub mod check;
+mod fewer;
 pub mod lent;
+pub mod question;
+pub mod records;
 pub mod smallest;
 pub mod texts;
 mod traps;
 mod valgrind;
 
 pub use check::{Checker, Difference, Met};
+pub use question::Question;
 pub use smallest::explained;
 pub use valgrind::running as under_valgrind;

@@ -14,16 +14,26 @@ pub fn text(seed: u64, number: u64) -> Vec<u8> {
             let site = turn as usize % fault_sites().len();
             generate::faulty_text(seed, number, site).into_bytes()
         }
-        _ => larger(seed, turn),
+        _ => larger_or_damaged(seed, turn),
     }
 }
 
 /// A text with some tens of taxa, characters or entries; half of them are damaged.
-fn larger(seed: u64, turn: u64) -> Vec<u8> {
+fn larger_or_damaged(seed: u64, turn: u64) -> Vec<u8> {
+    let text = larger(seed, turn);
+    if turn.is_multiple_of(2) {
+        return text;
+    }
+    let text = String::from_utf8(text).expect("long inputs are ASCII");
+    generate::damaged_text(seed, turn, text)
+}
+
+/// A text with some tens of taxa, characters or entries.
+pub fn larger(seed: u64, turn: u64) -> Vec<u8> {
     let mixed = (seed ^ turn).wrapping_mul(0x9e37_79b9_7f4a_7c15);
     let part = |from: u32, most: usize| 1 + (mixed >> from) as usize % most;
     let (taxa, characters) = (part(10, 30), part(20, 40));
-    let text = match mixed >> 60 {
+    match mixed >> 60 {
         0..3 => inputs::pages(taxa, characters, part(30, 20)),
         3..5 => inputs::rows(taxa, characters),
         5 => inputs::standard(taxa, characters, false),
@@ -32,10 +42,5 @@ fn larger(seed: u64, turn: u64) -> Vec<u8> {
         12..14 => inputs::labels(characters),
         14 => inputs::listed(characters),
         _ => inputs::vector(characters),
-    };
-    if turn.is_multiple_of(2) {
-        return text;
     }
-    let text = String::from_utf8(text).expect("long inputs are ASCII");
-    generate::damaged_text(seed, turn, text)
 }

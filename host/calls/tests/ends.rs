@@ -81,7 +81,7 @@ fn lengths_of_texts() {
     }
     // The same text read, and one byte too long.
     let text = inputs::row(MEGABYTE);
-    assert_eq!(checked("a row", &text), Met::Read);
+    assert_eq!(checked("a row", &text), Met::Taken);
     let long = [text, b"\n".to_vec()].concat();
     assert_eq!(checked("a row and one byte", &long), Met::Refused(1));
 }
@@ -109,7 +109,7 @@ fn texts_of_a_megabyte() {
     ] {
         assert!(text.len() <= MEGABYTE, "{name}: {} bytes", text.len());
         let met = checked(name, &text);
-        assert_eq!(met == Met::Read, read, "{name}: {met:?}");
+        assert_eq!(met == Met::Taken, read, "{name}: {met:?}");
     }
 }
 
@@ -185,8 +185,11 @@ fn all_short_texts() {
             [text.as_slice(), b"x;"].concat(),
         ] {
             match checker.check_long(&text) {
-                Ok(met) => read += u32::from(met == Met::Read),
-                Err(difference) => panic!("{}", calls::explained(&text, &difference)),
+                Ok(met) => read += u32::from(met == Met::Taken),
+                Err(difference) => {
+                    let question = calls::Question::Text(text);
+                    panic!("{}", calls::explained(&question, &difference))
+                }
             }
         }
     }

@@ -1,4 +1,4 @@
-//! Holds the calls against the oracle on many texts. See `USAGE`.
+//! Holds the calls against the oracle on many texts, records and lookups. See `USAGE`.
 
 use std::io::{self, IsTerminal, Write};
 use std::process::ExitCode;
@@ -7,17 +7,19 @@ use std::sync::mpsc::{Receiver, Sender, channel};
 use std::thread;
 use std::time::Instant;
 
-use calls::{Checker, Difference, Met, explained, texts, under_valgrind};
+use calls::question::{KINDS, Kind};
+use calls::{Checker, Difference, Met, Question, explained, under_valgrind};
 use nexus::archive::{LINKED, NOT_LINKED};
 
 const USAGE: &str = "\
-usage: compare --generate N [--seed S]
-Gives N generated texts to some twenty calls each, with memory of different lengths and contents.
-Where an answer or a byte is not the oracle's, a smallest example is printed, and the exit status
-is 1. The seed is 1 if none is given.
+usage: compare --generate N [--seed S] [--only texts|records|lookups]
+Gives N generated texts to some twenty calls each, N records to some fifteen and N lookups to three,
+with memory of different lengths and contents; or the N of one kind alone. What is read is written,
+and what is written read again. Where an answer or a byte is not the oracle's, a smallest example is
+printed, and the exit status is 1. The seed is 1 if none is given.
 ";
 
-/// How many texts a thread takes at a time.
+/// How many numbers a thread takes at a time.
 const BLOCK: u64 = 100;
 
 fn main() -> ExitCode {
@@ -33,16 +35,26 @@ fn main() -> ExitCode {
     match run(&options) {
         None => ExitCode::SUCCESS,
         Some(found) => {
-            println!("text {} of seed {} differs:", found.number, options.seed);
-            println!("{}", explained(&found.text, &found.difference));
+            let (kind, number, seed) = (found.kind, found.number, options.seed);
+            println!("{} {number} of seed {seed} differs:", word(kind));
+            println!("{}", explained(&found.question, &found.difference));
             ExitCode::FAILURE
         }
     }
 }
 
+fn word(kind: Kind) -> &'static str {
+    match kind {
+        Kind::Text => "text",
+        Kind::Record => "record",
+        Kind::Lookup => "lookup",
+    }
+}
+
 struct Options {
-    texts: u64,
+    numbers: u64,
     seed: u64,
+    kinds: Vec<Kind>,
     threads: usize,
 }
 
@@ -52,51 +64,65 @@ fn options(words: &[String]) -> Option<Options> {
         false => thread::available_parallelism().map_or(1, usize::from),
     };
     let mut options = Options {
-        texts: 0,
+        numbers: 0,
         seed: 1,
+        kinds: KINDS.to_vec(),
         threads,
     };
     let mut words = words.chunks(2);
     let number = |text: &String| text.parse::<u64>().ok();
     words.try_for_each(|pair| {
         match pair {
-            [word, value] if word == "--generate" => options.texts = number(value)?,
-            [word, value] if word == "--seed" => options.seed = number(value)?,
+            [option, value] if option == "--generate" => options.numbers = number(value)?,
+            [option, value] if option == "--seed" => options.seed = number(value)?,
+            [option, value] if option == "--only" => {
+                options
+                    .kinds
+                    .retain(|kind| format!("{}s", word(*kind)) == *value);
+            }
             _ => return None,
         }
         Some(())
     })?;
-    (options.texts > 0).then_some(options)
+    (options.numbers > 0 && !options.kinds.is_empty()).then_some(options)
 }
 
-/// A text that differs.
+/// A question that differs.
 struct Found {
+    kind: Kind,
     number: u64,
-    text: Vec<u8>,
+    question: Question,
     difference: Difference,
 }
 
-/// What was met so far.
-#[derive(Default)]
-struct Tally {
-    texts: u64,
-    read: u64,
+/// What was met so far of each kind.
+#[derive(Clone, Copy, Default)]
+struct Count {
+    taken: u64,
     refused: u64,
     beyond: u64,
+}
+
+#[derive(Default)]
+struct Tally {
+    numbers: u64,
+    counts: [Count; KINDS.len()],
     calls: u64,
 }
 
 impl Tally {
     fn add(&mut self, other: &Self) {
-        self.texts += other.texts;
-        self.read += other.read;
-        self.refused += other.refused;
-        self.beyond += other.beyond;
+        self.numbers += other.numbers;
         self.calls += other.calls;
+        for (count, other) in self.counts.iter_mut().zip(&other.counts) {
+            count.taken += other.taken;
+            count.refused += other.refused;
+            count.beyond += other.beyond;
+        }
     }
 }
 
-/// Checks all texts, or up to one that differs; of several that are found at once, the first.
+/// Checks all questions, or up to one that differs; of several that are found at once, the first.
 fn run(options: &Options) -> Option<Found> {
     let (next, stop) = (AtomicU64::new(0), AtomicBool::new(false));
     thread::scope(|scope| {
@@ -110,7 +136,7 @@ fn run(options: &Options) -> Option<Found> {
     })
 }
 
-/// One thread: takes a block of texts after another, until there are none or one differs.
+/// One thread: takes a block of numbers after another, until there are none or a question differs.
 fn work(
     options: &Options,
     next: &AtomicU64,
@@ -120,34 +146,42 @@ fn work(
     let mut checker = Checker::default();
     while !stop.load(Relaxed) {
         let from = next.fetch_add(BLOCK, Relaxed);
-        if from >= options.texts {
+        if from >= options.numbers {
             return;
         }
-        let numbers = from..options.texts.min(from + BLOCK);
-        let tally = block(&mut checker, options.seed, numbers);
+        let numbers = from..options.numbers.min(from + BLOCK);
+        let tally = block(&mut checker, options, numbers);
         stop.fetch_or(tally.is_err(), Relaxed);
         sender.send(tally).expect("the main thread listens");
     }
 }
 
-fn block(checker: &mut Checker, seed: u64, numbers: std::ops::Range<u64>) -> Result<Tally, Found> {
+fn block(
+    checker: &mut Checker,
+    options: &Options,
+    numbers: std::ops::Range<u64>,
+) -> Result<Tally, Found> {
     let mut tally = Tally::default();
     let before = checker.calls;
     for number in numbers {
-        let text = texts::text(seed, number);
-        tally.texts += 1;
-        match checker.check(&text) {
-            Ok(Met::Read) => tally.read += 1,
-            Ok(Met::Refused(_)) => tally.refused += 1,
-            Ok(Met::Beyond) => tally.beyond += 1,
-            Err(difference) => {
-                return Err(Found {
-                    number,
-                    text,
-                    difference,
-                });
+        for &kind in &options.kinds {
+            let question = Question::generated(kind, options.seed, number);
+            let count = &mut tally.counts[kind as usize];
+            match question.check(checker) {
+                Ok(Met::Taken) => count.taken += 1,
+                Ok(Met::Refused(_)) => count.refused += 1,
+                Ok(Met::Beyond) => count.beyond += 1,
+                Err(difference) => {
+                    return Err(Found {
+                        kind,
+                        number,
+                        question,
+                        difference,
+                    });
+                }
             }
         }
+        tally.numbers += 1;
     }
     tally.calls = checker.calls - before;
     Ok(tally)
@@ -155,7 +189,7 @@ fn block(checker: &mut Checker, seed: u64, numbers: std::ops::Range<u64>) -> Res
 
 /// Adds up what the threads have met, and shows how far they are.
 fn follow(options: &Options, receiver: Receiver<Result<Tally, Found>>) -> Option<Found> {
-    let mut progress = Progress::new(options.texts);
+    let mut progress = Progress::new(options.numbers);
     let mut tally = Tally::default();
     let mut found: Option<Found> = None;
     for met in receiver {
@@ -166,27 +200,42 @@ fn follow(options: &Options, receiver: Receiver<Result<Tally, Found>>) -> Option
                 found = earlier.or(Some(new));
             }
         }
-        progress.show(tally.texts);
+        progress.show(tally.numbers);
     }
     progress.end();
     if found.is_none() {
-        println!(
-            "{} texts of seed {}: {} read, {} refused, {} skipped as beyond the oracle; {} calls{}, \
-            none differs",
-            tally.texts,
-            options.seed,
-            tally.read,
-            tally.refused,
-            tally.beyond,
-            tally.calls,
-            if under_valgrind() {
-                " under valgrind"
-            } else {
-                ""
-            },
-        );
+        print(options, &tally);
     }
     found
+}
+
+fn print(options: &Options, tally: &Tally) {
+    for &kind in &options.kinds {
+        let count = tally.counts[kind as usize];
+        let taken = match kind {
+            Kind::Text => "read",
+            Kind::Record => "written",
+            Kind::Lookup => "found",
+        };
+        let beyond = match kind {
+            Kind::Text => format!(", {} skipped as beyond the oracle", count.beyond),
+            _ => String::new(),
+        };
+        println!(
+            "{} {}s of seed {}: {} {taken}, {} refused{beyond}",
+            tally.numbers,
+            word(kind),
+            options.seed,
+            count.taken,
+            count.refused,
+        );
+    }
+    let under = if under_valgrind() {
+        " under valgrind"
+    } else {
+        ""
+    };
+    println!("{} calls{under}, none differs", tally.calls);
 }
 
 /// How far a run is: a bar on a terminal, and elsewhere a line for each tenth.
@@ -218,7 +267,7 @@ impl Progress {
         let seconds = self.start.elapsed().as_secs_f64();
         let all = self.all;
         let speed = done as f64 / seconds;
-        let line = format!("{done} of {all} texts, {seconds:.0} s, {speed:.0} a second");
+        let line = format!("{done} of {all}, {seconds:.0} s, {speed:.0} a second");
         if self.terminal {
             let bar = "#".repeat(part as usize / 4);
             print!("\r[{bar:25}] {line} ");

@@ -7,9 +7,7 @@ use crate::record::{escape, unspell};
 
 pub fn lookup(rng: &mut Rng) -> (Vec<u8>, Vec<u8>) {
     let record = records::sound(rng);
-    let taxa = unspell(&record).expect("a sound record").taxa;
-    let own = taxa[rng.below(taxa.len())].clone();
-    let name = name(rng, own);
+    let name = name_near(rng, &record);
     if rng.percent(80) {
         return (name, record);
     }
@@ -19,6 +17,13 @@ pub fn lookup(rng: &mut Rng) -> (Vec<u8>, Vec<u8>) {
             return (name, record);
         }
     }
+}
+
+/// A name near one of a sound record's taxa.
+pub fn name_near(rng: &mut Rng, record: &[u8]) -> Vec<u8> {
+    let taxa = unspell(record).expect("a sound record").taxa;
+    let own = taxa[rng.below(taxa.len())].clone();
+    name(rng, own)
 }
 
 /// A name near a taxon's own.

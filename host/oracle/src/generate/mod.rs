@@ -108,3 +108,8 @@ pub fn with_damage(seed: u64, number: u64, record: &[u8], damage: usize) -> Opti
 pub fn lookup(seed: u64, number: u64) -> (Vec<u8>, Vec<u8>) {
     lookups::lookup(&mut Rng::new(seed, number))
 }
+
+/// A name that a taxon of a sound record has, or one near it.
+pub fn name_near(seed: u64, number: u64, record: &[u8]) -> Vec<u8> {
+    lookups::name_near(&mut Rng::new(seed, number), record)
+}

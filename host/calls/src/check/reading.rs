@@ -1,21 +1,12 @@
-//! The check of one text: what the calls answer and leave is what the oracle says.
-
-use std::fmt;
+//! The check of one text.
 
 use nexus::archive::nexus_read;
 use nexus::work_needed;
 use oracle::answer::{self, Answer, ENOUGH, Refusal};
 
+use super::difference::{compared, judged, shown, words};
+use super::{Checker, Difference, Met};
 use crate::lent::{Lent, Rubbish};
-
-/// What the oracle says of a text.
-#[derive(Clone, Copy, Debug, Eq, PartialEq)]
-pub enum Met {
-    Read,
-    Refused(u32),
-    /// The oracle cannot bear it, so that nothing was compared.
-    Beyond,
-}
 
 /// How many numbers of work memory and bytes of a buffer a call is lent.
 #[derive(Clone, Copy, Debug)]
@@ -33,34 +24,10 @@ struct Given {
     column: usize,
 }
 
-/// A call whose answer is not the oracle's, or that has left something else behind.
-#[derive(Clone, Debug, Eq, PartialEq)]
-pub struct Difference {
-    /// The call.
-    pub call: String,
-    pub expected: String,
-    pub given: String,
-}
-
-impl fmt::Display for Difference {
-    fn fmt(&self, f: &mut fmt::Formatter<'_>) -> fmt::Result {
-        writeln!(f, "call      {}", self.call)?;
-        writeln!(f, "expected  {}", self.expected)?;
-        write!(f, "given     {}", self.given)
-    }
-}
-
-/// Checks texts, one after another.
-#[derive(Default)]
-pub struct Checker {
-    /// Work memory as the last text has left it.
-    left: Vec<u32>,
-    pub calls: u64,
-}
-
 impl Checker {
     /// All calls for a text, each with two kinds of rubbish: work memory just long enough, longer
-    /// and one number short; buffers long enough, full, one byte short and empty.
+    /// and one number short; buffers long enough, full, one byte short and empty. Then, if it is read,
+    /// its record is written, and what is written read again.
     pub fn check(&mut self, text: &[u8]) -> Result<Met, Difference> {
         let needed = work_needed(text);
         self.check_with(text, |enough| {
@@ -94,7 +61,7 @@ impl Checker {
     ) -> Result<Met, Difference> {
         let full = answer::read(text, ENOUGH, ENOUGH);
         let (met, enough) = match &full {
-            Answer::Bytes(record) => (Met::Read, record.len()),
+            Answer::Bytes(record) => (Met::Taken, record.len()),
             Answer::Refused(refusal) => (Met::Refused(refusal.number), text.len()),
             Answer::Beyond(_) => return Ok(Met::Beyond),
         };
@@ -105,7 +72,10 @@ impl Checker {
             self.call(text, &full, lengths, rubbish.complement())?;
         }
         self.call_on_left(text, &full, enough)?;
-        self.plain_call(text, &full)?;
+        compared("the plain call that reads", &full, &self.plain_read(text))?;
+        if let Answer::Bytes(record) = &full {
+            self.check_again(record)?;
+        }
         Ok(met)
     }
 
@@ -134,21 +104,17 @@ impl Checker {
 
         let expected = expected(text, full, lengths);
         let mut wrong = wrong(&expected, given, &buffer.slice()[..length]);
-        let mut say = |kept: bool, what: &str| {
-            if !kept {
-                wrong.push(format!("{what} has changed"));
-            }
-        };
-        say(buffer.kept_from(length), "the buffer behind the record");
-        say(buffer.kept_before(), "memory before the buffer");
-        say(buffer.kept_behind(), "memory behind the buffer");
-        say(work.kept_before(), "memory before work memory");
-        say(work.kept_behind(), "memory behind work memory");
-        say(held.slice() == text, "the text");
-        say(held.kept_before(), "memory before the text");
-        say(held.kept_behind(), "memory behind the text");
+        if !buffer.kept_from(length) {
+            wrong.push("the buffer behind the record has changed".to_string());
+        }
+        if held.slice() != text {
+            wrong.push("the text has changed".to_string());
+        }
+        wrong.extend(buffer.changed_beside("the buffer"));
+        wrong.extend(work.changed_beside("work memory"));
+        wrong.extend(held.changed_beside("the text"));
         let call = || format!("{lengths:?}, {rubbish:?}");
-        judged(call, &expected, given, wrong)
+        judged(call, || words(&expected), given, wrong)
     }
 
     /// One call whose work memory is as the last one has left it.
@@ -170,7 +136,7 @@ impl Checker {
         let expected = expected(text, full, lengths);
         let wrong = wrong(&expected, given, &buffer[..given.length.min(enough)]);
         let call = || format!("{lengths:?}, work memory as another call has left it");
-        judged(call, &expected, given, wrong)
+        judged(call, || words(&expected), given, wrong)
     }
 
     fn given(
@@ -193,25 +159,22 @@ impl Checker {
     }
 
     /// The call that lends memory itself.
-    fn plain_call(&mut self, text: &[u8], full: &Answer) -> Result<(), Difference> {
+    pub(super) fn plain_read(&mut self, text: &[u8]) -> Answer {
         self.calls += 1;
-        let given = match nexus::read(text) {
+        match nexus::read(text) {
             Ok(record) => Answer::Bytes(record.into_bytes()),
-            Err(refusal) => Answer::Refused(Refusal {
-                number: refusal.number,
-                line: refusal.line,
-                column: refusal.column,
-            }),
-        };
-        if given == *full {
-            return Ok(());
+            Err(refusal) => refused(refusal),
         }
-        Err(Difference {
-            call: "the plain call".to_string(),
-            expected: words(full),
-            given: words(&given),
-        })
     }
+}
+
+/// A refusal, as the oracle has it.
+pub(super) fn refused(refusal: nexus::Refusal) -> Answer {
+    Answer::Refused(Refusal {
+        number: refusal.number,
+        line: refusal.line,
+        column: refusal.column,
+    })
 }
 
 /// What the oracle answers to a call with so much memory.
@@ -257,36 +220,4 @@ fn wrong(expected: &Answer, given: Given, bytes: &[u8]) -> Vec<String> {
         wrong.push(format!("the record is another: {escaped}"));
     }
     wrong
-}
-
-fn judged(
-    call: impl FnOnce() -> String,
-    expected: &Answer,
-    given: Given,
-    wrong: Vec<String>,
-) -> Result<(), Difference> {
-    if wrong.is_empty() {
-        return Ok(());
-    }
-    Err(Difference {
-        call: call(),
-        expected: words(expected),
-        given: format!("{given:?}; {}", wrong.join("; ")),
-    })
-}
-
-fn words(answer: &Answer) -> String {
-    match answer {
-        Answer::Bytes(record) => format!("{} bytes: {}", record.len(), shown(record)),
-        Answer::Refused(refusal) => format!("{refusal:?}"),
-        Answer::Beyond(beyond) => format!("{beyond:?}"),
-    }
-}
-
-/// Bytes, escaped; of many, the first.
-fn shown(bytes: &[u8]) -> String {
-    const MOST: usize = 2_000;
-    let dots = if bytes.len() > MOST { ".." } else { "" };
-    let first = bytes[..bytes.len().min(MOST)].escape_ascii();
-    format!("\"{first}\"{dots}")
 }
