@@ -1,5 +1,5 @@
-//! Long texts, for times and for tests near the limit, each given by its numbers alone; and the
-//! worked example.
+//! Long texts and records, for times and for tests near the limit, each given by its numbers alone;
+//! and the worked example.
 
 pub mod clock;
 pub mod example;
@@ -157,6 +157,24 @@ pub fn vector(characters: usize) -> Vec<u8> {
         characters,
         &format!("* t (VECTOR) = {}", "ORD ".repeat(characters)),
     )
+}
+
+// Records.
+
+/// The record of so many taxa, named by their numbers, and so many characters. There may be
+/// more of them than a text has room for.
+pub fn record(taxa: usize, characters: usize) -> Vec<u8> {
+    let mut record =
+        format!("datatype=STANDARD\ntaxa={taxa}\ncharacters={characters}\nsymbols=01\n");
+    let cells = vec!["0"; characters].join(" ");
+    for taxon in 0..taxa {
+        record.push_str(&format!("name={taxon:x}\ncells={cells}\n"));
+    }
+    for character in 1..=characters {
+        let lines = format!("character={character}\nlabel=\norder=UNORD\nstates=0\n");
+        record.push_str(&lines);
+    }
+    record.into_bytes()
 }
 
 // What is no text.
