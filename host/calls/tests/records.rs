@@ -387,7 +387,7 @@ fn records_of_a_megabyte() {
             let found = Checker::default().check_lookup(name.as_bytes(), &record);
             assert_eq!(found, Ok(Met::Taken), "{what}");
         }
-        let found = Checker::default().check_lookup(b"none", &record);
+        let found = Checker::default().check_lookup(b"no such taxon", &record);
         assert_eq!(found, Ok(Met::Refused(33)), "{what}");
         // A fault in the last line, and one name that two taxa have.
         let end = record.len();
