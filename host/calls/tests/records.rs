@@ -65,8 +65,8 @@ fn record_of(text: &[u8]) -> Vec<u8> {
 fn with_line(record: &str, from: &str, line: &[u8]) -> Vec<u8> {
     let start = record.find(from).expect("the line");
     let end = start + record[start..].find('\n').expect("its end");
-    let (before, behind) = (record[..start].as_bytes(), record[end..].as_bytes());
-    [before, line, behind].concat()
+    let record = record.as_bytes();
+    [&record[..start], line, &record[end..]].concat()
 }
 
 /// All strings of at most so many of these bytes.

@@ -123,7 +123,7 @@ impl Tally {
 }
 
 /// Checks all questions, or up to one that differs; of several that are found at once, the first.
-fn run(options: &Options) -> Option<Found> {
+fn run(options: &Options) -> Option<Box<Found>> {
     let (next, stop) = (AtomicU64::new(0), AtomicBool::new(false));
     thread::scope(|scope| {
         let (sender, receiver) = channel();
@@ -141,7 +141,7 @@ fn work(
     options: &Options,
     next: &AtomicU64,
     stop: &AtomicBool,
-    sender: Sender<Result<Tally, Found>>,
+    sender: Sender<Result<Tally, Box<Found>>>,
 ) {
     let mut checker = Checker::default();
     while !stop.load(Relaxed) {
@@ -160,7 +160,7 @@ fn block(
     checker: &mut Checker,
     options: &Options,
     numbers: std::ops::Range<u64>,
-) -> Result<Tally, Found> {
+) -> Result<Tally, Box<Found>> {
     let mut tally = Tally::default();
     let before = checker.calls;
     for number in numbers {
@@ -172,12 +172,12 @@ fn block(
                 Ok(Met::Refused(_)) => count.refused += 1,
                 Ok(Met::Beyond) => count.beyond += 1,
                 Err(difference) => {
-                    return Err(Found {
+                    return Err(Box::new(Found {
                         kind,
                         number,
                         question,
                         difference,
-                    });
+                    }));
                 }
             }
         }
@@ -188,10 +188,10 @@ fn block(
 }
 
 /// Adds up what the threads have met, and shows how far they are.
-fn follow(options: &Options, receiver: Receiver<Result<Tally, Found>>) -> Option<Found> {
+fn follow(options: &Options, receiver: Receiver<Result<Tally, Box<Found>>>) -> Option<Box<Found>> {
     let mut progress = Progress::new(options.numbers);
     let mut tally = Tally::default();
-    let mut found: Option<Found> = None;
+    let mut found: Option<Box<Found>> = None;
     for met in receiver {
         match met {
             Ok(met) => tally.add(&met),
