@@ -29,7 +29,7 @@ fn lent(record: &[u8], room: usize) -> Result<Vec<u8>, u32> {
     }
 }
 
-/// All calls for a question, some of them for a long one; a smallest example where one differs.
+/// All calls for a question; a smallest example where one differs.
 #[track_caller]
 fn checked(checker: &mut Checker, question: Question) -> Met {
     let met = question.check(checker);
@@ -240,7 +240,7 @@ fn symbols() {
     let valid: Vec<u8> = (0..=255).filter(|&byte| valid_symbol(byte)).collect();
     assert_eq!(valid.len(), 74);
     for left in 0..74 {
-        // All but some at either end, so that each in turn is the one that is free.
+        // All but one, so that each in turn is the one that is free.
         let many = [&valid[..left], &valid[left + 1..]].concat();
         assert_eq!(written(&mut checker, &with(&many, &plain)), Met::Taken);
         let met = written(&mut checker, &with(&many, FULL));
@@ -255,6 +255,22 @@ fn symbols() {
         let few = &valid[..count];
         let met = written(&mut checker, &with(few, &plain));
         assert_eq!(met == Met::Taken, count > 1);
+    }
+}
+
+/// As many state labels as symbols, and one more.
+#[test]
+#[cfg_attr(not(archive), ignore = "no archive; tools/test-calls makes it")]
+fn state_labels() {
+    let mut checker = Checker::default();
+    for (symbols, most) in [("symbols=02", 2), ("symbols=0123456789AB", 12)] {
+        for count in 0..15 {
+            let lines = format!("states={count}{}", "\nstate=x".repeat(count));
+            let record = FULL.replace("symbols=02", symbols);
+            let record = with_line(&record, "states=0", lines.as_bytes());
+            let met = written(&mut checker, &record);
+            assert_eq!(met == Met::Taken, count <= most, "{count}");
+        }
     }
 }
 
@@ -316,6 +332,9 @@ fn a_name_twice_anywhere() {
         let middle = 1 << power;
         pairs.extend([(0, middle), (middle - 1, middle), (middle, middle + 1)]);
         pairs.extend([(middle, 2 * middle), (middle, TAXA - 1)]);
+    }
+    for at in (1_000..TAXA).step_by(1_000) {
+        pairs.extend([(0, at), (at - 1, at), (at, TAXA - 1)]);
     }
     let record = String::from_utf8(inputs::record(TAXA, 1)).expect("UTF-8");
     assert_eq!(lent(record.as_bytes(), MEGABYTE).map(|_| ()), Ok(()));
