@@ -276,6 +276,33 @@ fn state_labels() {
 
 #[test]
 #[cfg_attr(not(archive), ignore = "no archive; tools/test-calls makes it")]
+fn dna() {
+    let record = FULL
+        .replace("STANDARD", "DNA")
+        .replace("symbols=02", "symbols=ACGT")
+        .replace("order=ORD", "order=UNORD");
+    let mut checker = Checker::default();
+    let mut with = |from: &str, to: &str| {
+        let changed = record.replace(from, to);
+        assert!(from == to || changed != record, "{from}");
+        written(&mut checker, changed.as_bytes()) == Met::Taken
+    };
+    assert!(with("", ""));
+    for cells in ["3 u0.1.2.3 g", "u0 p3 p0.3", "m m m", "g g g"] {
+        assert!(with("0 u0.1 g", cells), "{cells}");
+    }
+    assert!(!with("0 u0.1 g", "0 u0.1 4"));
+    assert!(!with("order=UNORD\nstates=0", "order=ORD\nstates=0"));
+    for symbols in ["", "A", "ACG", "ACGTA", "acgt", "TGCA", "02"] {
+        assert!(!with("=ACGT", &format!("={symbols}")), "{symbols}");
+    }
+    let states = |count: usize| format!("states={count}{}", "\nstate=x".repeat(count));
+    assert!(with("states=0", &states(4)));
+    assert!(!with("states=0", &states(5)));
+}
+
+#[test]
+#[cfg_attr(not(archive), ignore = "no archive; tools/test-calls makes it")]
 fn names_that_are_found() {
     let mut checker = Checker::default();
     let mut look = |name: &[u8]| looked_up(&mut checker, name, FULL.as_bytes());

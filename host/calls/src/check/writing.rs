@@ -21,7 +21,8 @@ struct Given {
 /// What the oracle says of a record, whatever the buffer.
 struct Full {
     answer: Answer,
-    /// The form's length, also where it is too long to be written; the record's where it is none.
+    /// The form's length, also where it is too long to be written; where there is none, more than
+    /// the form of so many bytes could have.
     enough: usize,
 }
 
@@ -30,7 +31,10 @@ impl Full {
         let answer = answer::write(record, ENOUGH);
         let enough = match &answer {
             Answer::Bytes(form) => form.len(),
-            _ => unspell(record).map_or(record.len(), |reading| form(&reading).len()),
+            _ => match unspell(record) {
+                Some(reading) => form(&reading).len(),
+                None => 2 * record.len() + 256,
+            },
         };
         Self { answer, enough }
     }
