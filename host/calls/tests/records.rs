@@ -6,7 +6,7 @@ use inputs::{MEGABYTE, example};
 use nexus::{Refusal, lookup, write_into};
 use oracle::answer::{self, Answer, ENOUGH};
 use oracle::form::form;
-use oracle::record::{unspell, valid_symbol};
+use oracle::record::{escape, unspell, valid_symbol};
 
 /// A record that has something of everything: escapes, sets, gaps, labels, states and types.
 const FULL: &str = "datatype=STANDARD\ntaxa=3\ncharacters=3\nsymbols=02\n\
@@ -342,6 +342,73 @@ fn names_that_are_found() {
     let at = FULL.find("a B").expect("a name");
     let own = &FULL.as_bytes()[at..at + 3];
     assert_eq!(lookup(FULL.as_bytes(), own), Ok(&b"0 u0.1 g"[..]));
+}
+
+/// Names of one character: which are alike, of two taxa and of one that is looked for. All of ASCII in
+/// pairs, and some beyond, whose case matters.
+#[test]
+#[cfg_attr(not(archive), ignore = "no archive; tools/test-calls makes it")]
+fn names_that_are_alike() {
+    let mut checker = Checker::default();
+    let mut pair = |first: &str, second: &str, alike: bool| {
+        let name = |name: &str| format!("name={}", escape(name)).into_bytes();
+        let one = with_line(FULL, "name=a B", &name(first));
+        let met = looked_up(&mut checker, second.as_bytes(), &one);
+        let refused = if unspell(&one).is_some() { 33 } else { 31 };
+        let other = if alike && refused == 33 {
+            Met::Taken
+        } else {
+            Met::Refused(refused)
+        };
+        assert_eq!(met, other, "{second:?} among {first:?}");
+        let two = String::from_utf8(one).expect("UTF-8");
+        let two = with_line(&two, "name=é'", &name(second));
+        let met = checker.check_long_record(&two);
+        let met = met.unwrap_or_else(|difference| panic!("{first:?}, {second:?}: {difference}"));
+        if alike {
+            assert_eq!(met, Met::Refused(31), "{first:?} and {second:?}");
+        }
+        met == Met::Taken
+    };
+    let mut taken = 0;
+    for first in 0..128_u8 {
+        for second in 0..128_u8 {
+            let alike = first.eq_ignore_ascii_case(&second);
+            let (first, second) = (char::from(first), char::from(second));
+            taken += u32::from(pair(&first.to_string(), &second.to_string(), alike));
+        }
+    }
+    assert!((10_000..16_384).contains(&taken), "{taken} are written");
+    for (first, second) in [
+        ("é", "É"),
+        ("à", "À"),
+        ("ß", "ss"),
+        ("ß", "ẞ"),
+        ("ſ", "s"),
+        ("k", "\u{212a}"),
+        ("å", "\u{212b}"),
+        ("İ", "i"),
+        ("ı", "I"),
+        ("я", "Я"),
+        ("σ", "ς"),
+        ("Σ", "σ"),
+        ("ǆ", "ǅ"),
+        ("e\u{301}", "é"),
+        ("\u{10428}", "\u{10400}"),
+        ("a", "ａ"),
+        ("xé", "Xè"),
+    ] {
+        assert!(pair(first, second, false), "{first:?} and {second:?}");
+        assert!(pair(second, first, false), "{second:?} and {first:?}");
+    }
+    for (first, second) in [
+        ("xé", "Xé"),
+        ("K\u{212a}k", "k\u{212a}K"),
+        ("É\\A\n", "É\\a\n"),
+    ] {
+        pair(first, second, true);
+        pair(second, first, true);
+    }
 }
 
 /// Two of many taxa with one name, wherever they stand.

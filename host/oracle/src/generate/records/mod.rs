@@ -8,7 +8,7 @@ pub use damages::DAMAGES;
 use super::reading::{Wish, reading, valid_symbols};
 use super::rng::Rng;
 use super::{render, text};
-use crate::data::DataType;
+use crate::data::{DataType, Matrix};
 use crate::record::spell;
 use damages::Way;
 use lines::{join, split};
@@ -22,13 +22,45 @@ pub fn sound(rng: &mut Rng) -> Vec<u8> {
             let reading = crate::nexus::parse(&text).expect("a sound text is read");
             spell(&reading)
         }
-        4..=8 => spell(&reading(rng, &Wish::default())),
+        4..=8 => {
+            let mut reading = reading(rng, &Wish::default());
+            if rng.percent(10) {
+                name_nearly_alike(rng, &mut reading);
+            }
+            spell(&reading)
+        }
         _ => spell(&unusual(rng)),
     }
 }
 
+/// Letters that are alike only beyond ASCII, where case matters.
+const NEARLY_ALIKE: &[[&str; 2]] = &[
+    ["é", "É"],
+    ["à", "À"],
+    ["ß", "SS"],
+    ["k", "\u{212a}"],
+    ["ſ", "S"],
+    ["ı", "I"],
+    ["я", "Я"],
+    ["σ", "ς"],
+    ["\u{10428}", "\u{10400}"],
+];
+
+/// Names two taxa so that they differ by such letters alone, if no other taxon has the name.
+fn name_nearly_alike(rng: &mut Rng, reading: &mut Matrix) {
+    let [first, second, others @ ..] = reading.taxa.as_mut_slice() else {
+        return;
+    };
+    let letters = rng.choose(NEARLY_ALIKE);
+    let names = letters.map(|letter| format!("{first}{letter}"));
+    let taken = |name: &String| others.iter().any(|other| other.eq_ignore_ascii_case(name));
+    if !names.iter().any(taken) {
+        [*first, *second] = names;
+    }
+}
+
 /// A reading at a limit: 72 or 73 symbols, or labels everywhere.
-fn unusual(rng: &mut Rng) -> crate::data::Matrix {
+fn unusual(rng: &mut Rng) -> Matrix {
     let wish = Wish {
         data_type: Some(DataType::Standard),
         labels: Some(rng.percent(50)),
