@@ -45,7 +45,7 @@ pub record Write·exported (b buffer after : List ℕ) (n r : ℕ) : Type 0 wher
   pub left : after ≡ write·leaves b buffer
 
 -- The lookup: the refusal's number, and the stretch of the record where the cells stand.
-pub record Lookup·exported (b name : List ℕ) (n start size : ℕ) : Type 0 where
+pub record Lookup·exported (b name : List ℕ) (n from r : ℕ) : Type 0 where
   pub number : n ≡ lookup·answer name b .refused
-  pub start : start ≡ lookup·answer name b .stretch .start
-  pub size : size ≡ lookup·answer name b .stretch .size
+  pub start : from ≡ lookup·answer name b .stretch .start
+  pub result : r ≡ lookup·answer name b .stretch .size
