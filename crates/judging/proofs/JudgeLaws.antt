@@ -3,16 +3,12 @@
 use Prim.Native.Nat.{ℕ, _+_}
 use Rattle.judging.specs.Judges.{Stands, Judges}
 use Rattle.judging.specs.declared.Behind.{Behind}
+use Rattle.naming.proofs.RowLaws.{drop-behind}
 use lib.ListN.{length, drop, length-append}
-use lib.Seq.{drop-drop, drop-append-seam}
 use mathlib.Core.List.{List, [], _++_, append-assoc}
 use mathlib.Core.Path.{_≡_, refl, sym, ap, _∙_}
 use native.Mathlib.Nat.{add-zero}
 use native.Mathlib.Omega.{arith}
-
--- Behind bytes that stand at a place stands the rest.
-pub drop-behind : (b : List ℕ) (i : ℕ) (x rest : List ℕ) → drop i b ≡ x ++ rest → drop (i + length x) b ≡ rest
-drop-behind b i x rest e = sym (drop-drop (length x) i b) ∙ ap (drop (length x)) e ∙ drop-append-seam x rest
 
 -- The answer that there is none is no end.
 pub wrong-no-end : (j : ℕ) → Behind.Wrong ≡ Behind.At j → ⊥

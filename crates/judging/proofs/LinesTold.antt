@@ -4,7 +4,8 @@ use Rattle.block.specs.Blocks.{ordered?}
 use Rattle.block.specs.Sound.{sound·label, sound·name}
 use Rattle.block.specs.declared.model.CharacterOrdering.{CharacterOrdering}
 use Rattle.judging.proofs.EscapedLines.{ended, front}
-use Rattle.judging.proofs.JudgeLaws.{drop-behind, wrong-no-end}
+use Rattle.judging.proofs.JudgeLaws.{wrong-no-end}
+use Rattle.naming.proofs.RowLaws.{drop-behind}
 use Rattle.judging.proofs.ListTold.{Listing, listing-over, listing-short, listing-step}
 use Rattle.judging.proofs.NameJudged.{lf-within}
 use Rattle.judging.proofs.TellLaws.{no-end, same-told, tells-as, tells-end, tells-keyed, tells-no-key, tells-no-first, tells-none, tells-retold, tells-same, tells-then}

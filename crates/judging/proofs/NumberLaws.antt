@@ -3,7 +3,8 @@ use Prim.Native.Nat.{ℕ, zero, suc, _+_, _*_, _-_, _/_, _%_, _^_, _≤_, _<_}
 use Rattle.emit.proofs.DigitsStored.{digits-most}
 use Rattle.emit.proofs.PutLaws.{puts-whole}
 use Rattle.emit.specs.Puts.{Puts}
-use Rattle.judging.proofs.JudgeLaws.{drop-behind, wrong-no-end}
+use Rattle.judging.proofs.JudgeLaws.{wrong-no-end}
+use Rattle.naming.proofs.RowLaws.{drop-behind}
 use Rattle.judging.specs.Judges.{Judges}
 use Rattle.judging.specs.Numbers.{Number·judged, Number·stands, leading}
 use Rattle.judging.specs.declared.Behind.{Behind}

@@ -1,7 +1,8 @@
 -- Laws of judging parts of which something is told: where nothing stands, a part made of another, a part that must pass a test besides, and a part
 -- behind another, which may depend on what is told of the first. Assumes nothing.
 use Prim.Native.Nat.{ℕ, _+_}
-use Rattle.judging.proofs.JudgeLaws.{drop-behind, wrong-no-end}
+use Rattle.judging.proofs.JudgeLaws.{wrong-no-end}
+use Rattle.naming.proofs.RowLaws.{drop-behind}
 use Rattle.judging.specs.Judges.{Stands, Judges}
 use Rattle.judging.specs.Tells.{Part, nothing, until, Tells, behind·of}
 use Rattle.judging.specs.declared.Behind.{Behind}

@@ -10,7 +10,7 @@ use Rattle.block.specs.Reading.{Reading, Taxon, Character}
 use Rattle.block.specs.Sequential.{names}
 use Rattle.block.specs.Sound.{Sound, distinct, gap·in, most·symbols, names·differ, sound·symbols}
 use Rattle.block.specs.declared.data.DataType.{DataType}
-use Rattle.judging.proofs.JudgeLaws.{drop-behind}
+use Rattle.naming.proofs.RowLaws.{drop-behind}
 use Rattle.judging.proofs.ReadingParts.{characters-few, characters-good, characters-labels, characters-marks, characters-spelled, line-append, rows-cells, rows-gap, rows-good, rows-long, rows-names, taxa-spelled}
 use Rattle.judging.proofs.TellLaws.{no-end, same-told}
 use Rattle.judging.specs.Judges.{Stands}

@@ -3,7 +3,7 @@ use Prim.Native.Nat.{ℕ, _+_, _-_, _≤_, _<_}
 use Rattle.emit.proofs.PutLaws.{puts-as, puts-then}
 use Rattle.emit.specs.Puts.{Puts}
 use Rattle.judging.proofs.EscapedLines.{front, no-line, plain-escaped, slash-escaped}
-use Rattle.judging.proofs.JudgeLaws.{drop-behind}
+use Rattle.naming.proofs.RowLaws.{drop-behind}
 use Rattle.judging.specs.NameRest.{unescape}
 use Rattle.lexer.proofs.Basics.{and-both, and-left, and-right, by-test, or-left, or-right}
 use Rattle.lexer.specs.Base.{pick}

@@ -1,7 +1,7 @@
 -- The sign that is read where a cell or an index of one byte stands, and where an index stands. Assumes nothing.
 use Prim.Native.Nat.{ℕ, _+_, _*_, _-_, _/_, _%_, _<_, _≤_}
 use Rattle.block.specs.declared.data.DataType.{DataType}
-use Rattle.judging.proofs.JudgeLaws.{drop-behind}
+use Rattle.naming.proofs.RowLaws.{drop-behind}
 use Rattle.lexer.proofs.Basics.{all-four, all-under, and-assoc, and-both, by-test, same-true, under-at}
 use Rattle.lexer.specs.Base.{pick, same}
 use Rattle.record.specs.Decimal.{decimal, decimal·from, digit}

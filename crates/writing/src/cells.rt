@@ -7,21 +7,12 @@ ghost use lib.ListN.{length, getD};
 ghost use mathlib.Core.Path.{_≡_};
 use super::Putting;
 use emit::put;
+use judging::byte_at;
 
 // A sign that was read, and the next place.
 pub struct Sign {
     pub sign: u8,
     pub at: usize,
-}
-
-// The byte at a place, or 0 behind the end.
-fn byte_at(source: &[u8], i: usize) -> u8
-    ensures { λ r. ⌜ r ≡ getD (now (source .entry)) i 0 ⌝ }
-{
-    if i < source.len() {
-        return source[i];
-    }
-    0
 }
 
 // The sign of a byte.

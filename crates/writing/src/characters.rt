@@ -14,16 +14,7 @@ use emit::put;
 use emit::put_all;
 use emit::put_decimal;
 use judging::Shape;
-
-// The byte at a place, or 0 behind the end.
-fn byte_at(source: &[u8], at: usize) -> u8
-    ensures { λ r. ⌜ r ≡ getD (now (source .entry)) at 0 ⌝ }
-{
-    if at < source.len() {
-        return source[at];
-    }
-    0
-}
+use judging::byte_at;
 
 // The place so many bytes further on, or the end of the bytes.
 fn skip(source: &[u8], at: usize, count: usize) -> usize
