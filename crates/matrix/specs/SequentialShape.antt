@@ -1,5 +1,5 @@
 -- A sequential matrix as the code judges it: by the shape of its rows, and by the names of those that are stored.
-use Prim.Native.Nat.{ℕ, _+_, _≤_, _<_}
+use Prim.Native.Nat.{ℕ, _+_, _^_, _≤_, _<_}
 use Rattle.block.specs.Codes.{Coded}
 use Rattle.block.specs.Commands.{newline, words}
 use Rattle.block.specs.Format.{Format}
@@ -7,6 +7,7 @@ use Rattle.block.specs.Names.{known}
 use Rattle.block.specs.Outcome.{Outcome, done, refused}
 use Rattle.block.specs.Reading.{Taxon}
 use Rattle.block.specs.Sequential.{sequential}
+use Rattle.block.specs.declared.kinds.Bracket.{Bracket}
 use Rattle.lexer.specs.Base.{pick}
 use Rattle.lexer.specs.Stored.{range, word·of}
 use Rattle.lexer.specs.Words.{Numbered, label}
@@ -14,6 +15,7 @@ use Rattle.lexer.specs.declared.refusal.Refusal.{Refusal}
 use Rattle.matrix.specs.Lines.{stored, rows·sequential}
 use Rattle.matrix.specs.OrderHeld.{all·below}
 use Rattle.matrix.specs.RowShape.{so·far, chunk·shape}
+use Rattle.matrix.specs.WholeSets.{Whole·set}
 use Rattle.matrix.specs.declared.matrix.Chunk.{Chunk}
 use Rattle.matrix.specs.declared.matrix.Rows.{Rows}
 use Rattle.matrix.specs.declared.matrix.Sequence.{Sequence}
@@ -57,6 +59,19 @@ pub data Turns (text work codes : List ℕ) (to taxa characters : ℕ) (names : 
   last : {line : Sequence} {i j : ℕ} {r : Turned} → j ≡ i + 1 → r ≡ turn·shape codes taxa characters names line (word·of text work i) → Turns text work codes to taxa characters names line i r j
   on : {line : Sequence} {i : ℕ} (next : Sequence) (k : ℕ) {r : Turned} {j : ℕ} → k ≡ i + 1 → turn·shape codes taxa characters names line (word·of text work i) ≡ Turned.On next
       → k < to → newline (word·of text work k) ≡ false → Turns text work codes to taxa characters names next k r j → Turns text work codes to taxa characters names line i r j
+
+-- A row of so many cells behind one word, or behind the three of a whole set; or the row itself.
+pub data Told·cells (text work codes : List ℕ) (to n i : ℕ) : ℕ → ℕ → Type 0 where
+  nothing·told : Told·cells text work codes to n i n i
+  word·told : {cells : ℕ} → chunk·shape codes (Chunk.Plain n) (word·of text work i) ≡ done (Chunk.Plain cells) → Told·cells text work codes to n i cells (i + 1)
+  set·told : {k : Bracket} {states : List ℕ} → Whole·set codes text work i to k states → Told·cells text work codes to n i (n + 1) (i + 3)
+
+-- A row of so many cells at an index goes on to a row of so many at another: what the words from there on come to, they come to from here on.
+pub record Cells·passed (text work codes : List ℕ) (to characters n i cells next : ℕ) : Type 0 where
+  pub below : next < to
+  pub few : cells ≤ 2 ^ 41
+  pub goes : (s taxa : ℕ) (names : List (List ℕ)) (r : Turned) (j : ℕ) → Turns text work codes to taxa characters names (Sequence.Inside s (Chunk.Plain cells)) next r j
+      → Turns text work codes to taxa characters names (Sequence.Inside s (Chunk.Plain n)) i r j
 
 -- At the end of the matrix all rows must be there and whole.
 unfoldable pub open·shape : ℕ → Chunk → Rows

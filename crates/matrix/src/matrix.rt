@@ -8,7 +8,7 @@ ghost use Rattle.lexer.specs.Stored.{word·of};
 ghost use Rattle.matrix.specs.Lines.{Rows·room, name·at, names·stored, stored};
 ghost use Rattle.matrix.specs.RowIndex.{Rows·tabled};
 ghost use Rattle.matrix.specs.RowShape.{coded, symbols·coded, chunk·shape, chunked·of, so·far};
-ghost use Rattle.matrix.specs.SequentialShape.{Rows·read, Turns, begun·shape, cells·of·row, end·shape, grown·shape};
+ghost use Rattle.matrix.specs.SequentialShape.{Cells·passed, Rows·read, Told·cells, Turns, begun·shape, cells·of·row, end·shape, grown·shape};
 ghost use Rattle.slots.specs.Filling.{Table·fits};
 ghost use lib.ListN.{length, getD, take, drop};
 ghost use Rattle.matrix.specs.declared.matrix.Chunk.{Chunk};
@@ -65,6 +65,12 @@ pub enum Turned {
     On(Sequence),
     Full(usize),
     Refused(Refusal, usize),
+}
+
+// How many cells a row has behind some words, and the index of the next.
+pub struct Passed {
+    pub cells: usize,
+    pub next: usize,
 }
 
 // What one word or more come to, and the index behind them.
@@ -311,7 +317,62 @@ fn sequential_end(line: Sequence, taxa: u64, head: usize, rows: usize) -> Rows
     }
 }
 
-// One word more of a row whose name has an index; or the three of a set at once, where they are told by their bytes.
+// A row of so many cells behind the word of an index, or behind the three of a whole set, where they are told by their bytes at once; else the row itself.
+fn told_cells(text: &[u8], work: &[u32], i: usize, to: usize, codes: &[u8; 256], n: usize) -> Passed
+    requires { ⌜ (i < to) × (n ≤ 2 ^ 41) ⌝ }
+    ensures { λ r. ⌜ Told·cells (now (text .entry)) (now (work .entry)) (now (codes .entry)) to n i (r .cells) (r .next) ⌝ }
+{
+    if set_closes(text, work, i, to, codes) != 0 {
+        return Passed {
+            cells: n + 1,
+            next: i + 3,
+        };
+    }
+    let start = start_of(work, i);
+    let end = word_stop(text, start);
+    if end <= start {
+        return Passed { cells: n, next: i };
+    }
+    match run_cells(text, start, end, codes, 0, true) {
+        Cells::Some(k, _) => Passed {
+            cells: n + k,
+            next: i + 1,
+        },
+        Cells::Wrong => Passed { cells: n, next: i },
+    }
+}
+
+// A row behind words and whole sets that are told by their bytes at once, as long as cells are lacking behind each and another word follows.
+fn pass_told(
+    text: &[u8],
+    work: &[u32],
+    from: usize,
+    to: usize,
+    characters: u64,
+    codes: &[u8; 256],
+    count: usize,
+) -> Passed
+    requires { ⌜ (from < to) × (count ≤ 2 ^ 41) ⌝ }
+    ensures { λ r. ⌜ Cells·passed (now (text .entry)) (now (work .entry)) (now (codes .entry)) to characters count from (r .cells) (r .next) ⌝ }
+{
+    let mut n = count;
+    let mut i = from;
+    loop {
+        let told = told_cells(text, work, i, to, codes, n);
+        let cells = told.cells;
+        let next = told.next;
+        if (next == i) | (characters <= cells as u64) | (to <= next) | (2199023255552 < cells) {
+            return Passed { cells: n, next: i };
+        }
+        if newline(text, work, next) {
+            return Passed { cells: n, next: i };
+        }
+        n = cells;
+        i = next;
+    }
+}
+
+// One word more of a row whose name has an index; or several at once, where they are told by their bytes.
 fn row_turn(
     text: &[u8],
     work: &[u32],
@@ -327,17 +388,20 @@ fn row_turn(
 {
     match row {
         Chunk::Plain(n) => {
-            if set_closes(text, work, i, to, codes) == 0 {
-                let chunk = plain_chunk(text, work, i, codes, n);
+            let passed = pass_told(text, work, i, to, characters, codes, n);
+            let cells = passed.cells;
+            let last = passed.next;
+            if set_closes(text, work, last, to, codes) == 0 {
+                let chunk = plain_chunk(text, work, last, codes, cells);
                 return Turn {
-                    turned: row_grown(chunk, characters, s, i),
-                    next: i + 1,
+                    turned: row_grown(chunk, characters, s, last),
+                    next: last + 1,
                 };
             }
-            let whole = Chunked::Row(Chunk::Plain(n + 1));
+            let whole = Chunked::Row(Chunk::Plain(cells + 1));
             Turn {
-                turned: row_grown(whole, characters, s, i + 2),
-                next: i + 3,
+                turned: row_grown(whole, characters, s, last + 2),
+                next: last + 3,
             }
         }
         Chunk::Within(n, kind, mark, none) => {

@@ -1,39 +1,36 @@
--- The function `row_turn` meets its contract: one word more, or a whole set. Assumes nothing.
-use Prim.Native.Nat.{_≤_, _^_}
+-- The function `row_turn` meets its contract: what is told at once is passed, then one word more, or a whole set. Assumes nothing.
 use Rattle.matrix.proofs.SetTurns.{row-turns, set-turns}
 use Rattle.matrix.proofs.matrix.row_turn.Statement.{statement}
 use Rattle.matrix.proofs.matrix.row_turn.Tie as tie
 use Rattle.matrix.specs.RowShape.{chunked·of, so·far}
-use Rattle.matrix.specs.SequentialShape.{grown·shape}
 use borrow.Author.Needs.{needs}
-use mathlib.Core.Path.{refl}
 use native.Mathlib.Omega.{arith}
 
 enum-known-row : tie.Need-enum-known-row
 enum-known-row c = search needs
 
+pass-told-requires : tie.Need-pass-told-requires
+unfolding so·far
+pass-told-requires c κs = (c .before .before .before .before .before .pre .0, rw (c .before .row .given .1) at (c .before .before .before .before .before .pre .1))
+
 set-closes-requires : tie.Need-set-closes-requires
 set-closes-requires c κs = search needs
 
 plain-chunk-requires : tie.Need-plain-chunk-requires
-unfolding so·far
-plain-chunk-requires c κs = rw (c .before .before .before .row .given .1) at (c .before .before .before .before .before .before .before .pre .1)
+plain-chunk-requires c κs = c .before .before .pass-told .ensures .few
 
 row-grown-requires : tie.Need-row-grown-requires
 row-grown-requires c κs = search needs
 
-add-t21 : tie.Need-add-t21
-add-t21 c = search needs
+add-t24 : tie.Need-add-t24
+add-t24 c = let below = c .before .before .before .before .pass-told .ensures .below in omega arith
 
 returns : tie.Need-returns
 returns c =
-    λ taxa names. rw (c .before .before .before .before .before .row .given .1) (row-turns _ _ _ _ _ _ _ _ _ _ (c .before .plain-chunk .ensures) (c .row-grown .ensures))
+    λ taxa names. rw (c .before .before .before .before .before .before .row .given .1) (c .before .before .before .before .pass-told .ensures .goes _ taxa names _ _ (row-turns _ _ _ _ _ _ _ _ _ _ (c .before .plain-chunk .ensures) (c .row-grown .ensures)))
 
 add-row-grown : tie.Need-add-row-grown
-unfolding so·far
-add-row-grown c =
-    let few : c .before .before .before .row .given .0 .0 ≤ 2 ^ 41 = rw (c .before .before .before .row .given .1) at (c .before .before .before .before .before .before .before .pre .1) in
-    omega arith
+add-row-grown c = let few = c .before .before .pass-told .ensures .few in omega arith
 
 add-row-grown-2 : tie.Need-add-row-grown-2
 add-row-grown-2 c =
@@ -44,8 +41,8 @@ add-row-grown-2 c =
 row-grown-requires-2 : tie.Need-row-grown-requires-2
 row-grown-requires-2 c κs = search needs
 
-add-t24 : tie.Need-add-t24
-add-t24 c =
+add-t27 : tie.Need-add-t27
+add-t27 c =
     let some = c .before .if1 .left in
     let whole = c .before .before .set-closes .ensures (omega (arith, some)) .whole in
     omega (arith, whole .room)
@@ -60,15 +57,15 @@ set-chunk-requires c κs = rw (c .before .row2 .given .1) at (c .before .before 
 row-grown-requires-3 : tie.Need-row-grown-requires-3
 row-grown-requires-3 c κs = search needs
 
-add-t26 : tie.Need-add-t26
-add-t26 c = search needs
+add-t29 : tie.Need-add-t29
+add-t29 c = search needs
 
 returns-2 : tie.Need-returns-2
 unfolding chunked·of
 returns-2 c =
     let some = c .before .if1 .left in
     let whole = c .before .before .set-closes .ensures (omega (arith, some)) .whole in
-    λ taxa names. rw (c .before .before .before .before .row .given .1) (set-turns _ _ _ _ _ _ _ _ _ _ whole (c .row-grown2 .ensures))
+    λ taxa names. rw (c .before .before .before .before .before .row .given .1) (c .before .before .before .pass-told .ensures .goes _ taxa names _ _ (set-turns _ _ _ _ _ _ _ _ _ _ whole (c .row-grown2 .ensures)))
 
 returns-3 : tie.Need-returns-3
 returns-3 c =
@@ -79,18 +76,19 @@ row-turn-spec =
     tie.close
     (tie.spec
     enum-known-row
+    pass-told-requires
     set-closes-requires
     plain-chunk-requires
     row-grown-requires
-    add-t21
+    add-t24
     returns
     add-row-grown
     add-row-grown-2
     row-grown-requires-2
-    add-t24
+    add-t27
     enum-known-row-2
     set-chunk-requires
     row-grown-requires-3
-    add-t26
+    add-t29
     returns-2
     returns-3)
