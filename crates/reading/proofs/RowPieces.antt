@@ -23,7 +23,7 @@ use mathlib.Core.Path.{_≡_, refl, sym, ap, _∙_}
 use native.Mathlib.Omega.{arith}
 
 -- Cells behind others.
-spell-on-append : (b : Bool) (xs ys : List Cell) (behind : List ℕ) → spell·on b xs (spell·on (b || not (empty? xs)) ys behind) ≡ spell·on b (xs ++ ys) behind
+pub spell-on-append : (b : Bool) (xs ys : List Cell) (behind : List ℕ) → spell·on b xs (spell·on (b || not (empty? xs)) ys behind) ≡ spell·on b (xs ++ ys) behind
 unfolding spell·on empty? pick
 spell-on-append b [] ys behind = rw (or-false b)
 spell-on-append b (x ∷ xs) ys behind = rw (or-true b, spell-on-append true xs ys behind)

@@ -1,18 +1,23 @@
 -- The cells of a part of a text, put behind those of a row one part after another; and those of a run of plain bytes among a token's text. Assumes
 -- nothing.
-use Prim.Native.Nat.{ℕ, _+_, _-_, _≤_, _<_}
+use Prim.Native.Nat.{ℕ, _+_, _*_, _-_, _≤_, _<_}
 use Rattle.block.specs.Cell.{Cell}
+use Rattle.emit.proofs.PutLaws.{byte-written, puts-as, puts-none, puts-then}
+use Rattle.emit.specs.Puts.{Puts}
 use Rattle.lexer.proofs.ListLaws.{drop-next}
 use Rattle.lexer.proofs.PlainRuns.{Plain·run}
 use Rattle.lexer.specs.Bytes.{left}
 use Rattle.lexer.specs.declared.Cursor.{Cursor}
 use Rattle.matrix.specs.Taken.{also}
-use Rattle.reading.proofs.RowPieces.{Cells·left, row-none, row-then}
-use Rattle.reading.proofs.ShortLaws.{run·cells}
-use Rattle.reading.specs.CodedCells.{Row·put, cells·coded, decoded}
+use Rattle.reading.proofs.RowPieces.{Cells·left, row-none, row-then, spell-on-append}
+use Rattle.reading.proofs.ShortLaws.{Shorts, run·cells, shorts-more, shorts-none, spell-short}
+use Rattle.reading.specs.CodedCells.{Row·put, cell·byte, cells·coded, decoded}
+use Rattle.reading.specs.Pieces.{spell·on}
+use Rattle.reading.specs.ShortCells.{Short·wrote}
 use Rattle.reading.specs.declared.cells.Putting.{Putting}
-use lib.ListN.{length, getD, take, drop}
+use lib.ListN.{length, getD, set, take, drop, length-set}
 use lib.Seq.{drop-drop, take-add}
+use mathlib.Core.Bool.{true}
 use mathlib.Core.List.{List, [], _∷_, _++_}
 use mathlib.Core.Option.{Option, none, some}
 use mathlib.Core.Path.{_≡_, refl, sym, ap, _∙_}
@@ -55,6 +60,51 @@ module _ (codes text : List ℕ) where
   pub part-one : {a b : List ℕ} {row s : Putting} (i : ℕ) → i < length text → Row·put a row (also (decoded (getD codes (getD text i 0) 0)) []) b s → Row·put a row (run·cells codes text i (i + 1)) b s
   unfolding cells·coded
   part-one i h p = let one : i + 1 - i ≡ 1 = omega arith in rw (one, drop-next text i h) p
+
+  -- A cell of one byte behind others.
+  one-short : (i : ℕ) → i < length text → (cell·byte (getD codes (getD text i 0) 0) ≡ 0 → ⊥) → (behind : List ℕ)
+      → spell·on true (run·cells codes text i (i + 1)) behind ≡ 32 ∷ cell·byte (getD codes (getD text i 0) 0) ∷ behind
+  unfolding cells·coded spell·on
+  one-short i h s behind = let one : i + 1 - i ≡ 1 = omega arith in rw (one, drop-next text i h) (spell-short (getD codes (getD text i 0) 0) s [] behind)
+
+  -- Where there is room cells of one byte each are written one by one.
+  module _ (from end : ℕ) (before : List ℕ) (n : ℕ) where
+    pub record Wrote (buffer : List ℕ) (at i : ℕ) : Type 0 where
+      pub ahead : from ≤ i
+      pub within : i ≤ end
+      pub place : at ≡ n + 2 * (i - from)
+      pub room : n + 2 * (end - from) ≤ length buffer
+      pub kept : length buffer ≡ length before
+      pub short : Shorts codes text from i
+      pub written : Puts before n (spell·on true (run·cells codes text from i)) buffer at
+
+    pub wrote-start : from ≤ end → n + 2 * (end - from) ≤ length before → Wrote before n from
+    unfolding cells·coded spell·on
+    wrote-start h r =
+        let none : from - from ≡ 0 = omega arith in
+        record { ahead = omega arith; within = h; place = omega arith; room = r; kept = refl; short = shorts-none codes text from; written = rw none puts-none }
+
+    module _ {buffer : List ℕ} {at i : ℕ} (k : Wrote buffer at i) where
+      pub wrote-turn : (b : ℕ) → b ≡ cell·byte (getD codes (getD text i 0) 0) → i < end → i < length text → (b ≡ 0 → ⊥) → Wrote (set (set buffer at 32) (at + 1) b) (at + 1 + 1) (i + 1)
+      wrote-turn b e h here s =
+          let ahead = k .ahead in
+          let some : cell·byte (getD codes (getD text i 0) 0) ≡ 0 → ⊥ = λ z. s (e ∙ z) in
+          record {
+            ahead = omega arith;
+            within = omega arith;
+            place = omega (arith, k .place);
+            room = omega (arith, k .room, length-set buffer at 32, length-set (set buffer at 32) (at + 1) b);
+            kept = length-set (set buffer at 32) (at + 1) b ∙ length-set buffer at 32 ∙ k .kept;
+            short = shorts-more codes text from i (k .short) some;
+            written = puts-as (puts-then (k .written) (puts-then (byte-written buffer at 32) (byte-written (set buffer at 32) (at + 1) b)))
+                (λ behind.
+                ap (λ l. spell·on true (run·cells codes text from i) l) (sym (one-short i here some behind ∙ ap (λ x. 32 ∷ x ∷ behind) (sym e)))
+                ∙ spell-on-append true (run·cells codes text from i) (run·cells codes text i (i + 1)) behind
+                ∙ sym (ap (λ l. spell·on true l behind) (part-split from i (i + 1) ahead (omega arith))));
+          }
+
+      pub wrote-end : Short·wrote codes text from end before n buffer i
+      wrote-end = record { ahead = k .ahead; within = k .within; short = k .short .each; written = rw (k .place) at (k .written) }
 
   -- Whatever puts the cells from a place up to an end makes all from the first on put.
   module _ (from end : ℕ) where

@@ -1,22 +1,21 @@
 -- Cells of one byte each, put behind those of a row: how they are spelled, where they are only counted, and where they are written. Assumes nothing.
 use Prim.Native.Nat.{ℕ, zero, suc, _+_, _*_, _-_, _^_, _≤_, _<_, min}
 use Rattle.block.specs.Cell.{Cell}
-use Rattle.emit.proofs.PutLaws.{byte-written, puts-as, puts-none, puts-out, puts-then}
+use Rattle.emit.proofs.PutLaws.{puts-out}
 use Rattle.emit.specs.Puts.{Puts, last·place, puts}
 use Rattle.lexer.proofs.Basics.{all-under, by-test, same-true, under-at}
-use Rattle.lexer.proofs.ListLaws.{drop-next, take-next}
+use Rattle.lexer.proofs.ListLaws.{drop-next}
 use Rattle.lexer.specs.Base.{given, pick, same}
 use Rattle.matrix.specs.Taken.{also}
 use Rattle.reading.proofs.DecodedLaws.{decoded-state}
 use Rattle.reading.specs.CodedCells.{Row·put, cell·byte, cells·coded, decoded, spell·maybe}
 use Rattle.reading.specs.Pieces.{spell·on}
-use Rattle.reading.specs.ShortCells.{Short·written}
 use Rattle.reading.specs.declared.cells.Putting.{Putting}
 use Rattle.record.specs.Decimal.{decimal, decimal·from, digit}
 use Rattle.record.specs.Spell.{spell·cell}
 use borrow.Author.Tests.{eqb-false, eqb-true, leb-false, leb-true, ltb-true}
 use lib.Dec.{eqb, leb, ltb}
-use lib.ListN.{length, getD, set, take, drop, length-set}
+use lib.ListN.{length, getD, take, drop}
 use mathlib.Core.Bool.{true, false, false≢true}
 use mathlib.Core.List.{List, [], _∷_, _++_}
 use mathlib.Core.Option.{Option, none, some}
@@ -73,7 +72,7 @@ count-some none cs h = absurd (false≢true h)
 count-some (some c) cs h = refl
 
 -- A cell of one byte behind others is a blank and that byte.
-spell-short : (code : ℕ) → (cell·byte code ≡ 0 → ⊥) → (cs : List Cell) (behind : List ℕ) → spell·on true (also (decoded code) cs) behind ≡ 32 ∷ cell·byte code ∷ spell·on true cs behind
+pub spell-short : (code : ℕ) → (cell·byte code ≡ 0 → ⊥) → (cs : List Cell) (behind : List ℕ) → spell·on true (also (decoded code) cs) behind ≡ 32 ∷ cell·byte code ∷ spell·on true cs behind
 spell-short code s cs behind = spell-some (decoded code) cs behind (short-given code s) ∙ ap (λ l. 32 ∷ l) (short-spell code s (spell·on true cs behind))
 
 -- The cells of the bytes from a place up to another are of one byte each.
@@ -143,32 +142,3 @@ module _ (codes text : List ℕ) where
             reached = λ behind. omega (arith, all .size behind);
             kept = refl;
           }
-
-  -- Where there is room they are written one by one: whatever puts those that are left makes all of them put.
-  module _ (from end : ℕ) (before : List ℕ) (start : ℕ) where
-    pub record Writing (buffer : List ℕ) (at i : ℕ) : Type 0 where
-      pub ahead : from ≤ i
-      pub within : i ≤ end
-      pub room : at + 2 * (end - i) ≤ length buffer
-      pub kept : length buffer ≡ length before
-      pub rest : (after : List ℕ) (next : ℕ) → Puts buffer at (spell·on true (run·cells i end)) after next → Puts before start (spell·on true (run·cells from end)) after next
-
-    -- A turn writes a blank and a byte; at the end all are put.
-    pub writing-turn : (buffer : List ℕ) (at i : ℕ) → Writing buffer at i → i < end → i < length text → (cell·byte (getD codes (getD text i 0) 0) ≡ 0 → ⊥)
-        → Writing (set (set buffer at 32) (at + 1) (cell·byte (getD codes (getD text i 0) 0))) (at + 1 + 1) (i + 1)
-    unfolding cells·coded
-    writing-turn buffer at i k h here s =
-        let code = getD codes (getD text i 0) 0 in
-        record {
-          ahead = omega (arith, k .ahead);
-          within = omega arith;
-          room = omega (arith, k .room, length-set buffer at 32, length-set (set buffer at 32) (at + 1) (cell·byte code));
-          kept = length-set (set buffer at 32) (at + 1) (cell·byte code) ∙ length-set buffer at 32 ∙ k .kept;
-          rest = λ after next p. k .rest after next
-              (puts-as (puts-then (byte-written buffer at 32) (puts-then (byte-written (set buffer at 32) (at + 1) (cell·byte code)) p))
-              (λ behind. sym (rw (take-next text i end h here) (spell-short code s (run·cells (i + 1) end) behind))));
-        }
-
-    pub writing-end : (buffer : List ℕ) (at i : ℕ) → Writing buffer at i → end ≤ i → Short·written codes text from end before start buffer at
-    unfolding Short·written cells·coded spell·on
-    writing-end buffer at i k h = let none : end - i ≡ 0 = omega arith in k .rest buffer at (rw none puts-none)

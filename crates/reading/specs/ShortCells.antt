@@ -17,16 +17,12 @@ pub record Short·run (codes text : List ℕ) (from end stop : ℕ) : Type 0 whe
   pub short : (k : ℕ) → from ≤ k → k < stop → cell·byte (getD codes (getD text k 0) 0) ≡ 0 → ⊥
   pub stopped : stop < end → cell·byte (getD codes (getD text stop 0) 0) ≡ 0
 
--- The cells from a place up to an end are of one byte each, and there is room for them and their blanks.
-pub record Short·room (codes text : List ℕ) (from end : ℕ) (buffer : List ℕ) (at : ℕ) : Type 0 where
-  pub ahead : from ≤ end
-  pub within : end - from ≤ length text - from
-  pub short : (k : ℕ) → from ≤ k → k < end → cell·byte (getD codes (getD text k 0) 0) ≡ 0 → ⊥
-  pub room : at + 2 * (end - from) ≤ length buffer
-
--- The cells from a place up to an end were put behind others of a row.
-unfoldable pub Short·written : List ℕ → List ℕ → ℕ → ℕ → List ℕ → ℕ → List ℕ → ℕ → Type 0
-Short·written codes text from end before at after next = Puts before at (spell·on true (cells·coded codes (take (end - from) (drop from text)))) after next
+-- The cells from a place up to another, no further than an end, are of one byte each and were put behind others of a row.
+pub record Short·wrote (codes text : List ℕ) (from end : ℕ) (before : List ℕ) (at : ℕ) (after : List ℕ) (stop : ℕ) : Type 0 where
+  pub ahead : from ≤ stop
+  pub within : stop ≤ end
+  pub short : (k : ℕ) → from ≤ k → k < stop → cell·byte (getD codes (getD text k 0) 0) ≡ 0 → ⊥
+  pub written : Puts before at (spell·on true (cells·coded codes (take (stop - from) (drop from text)))) after (at + 2 * (stop - from))
 
 -- The cells from a place up to where a run goes on, no further than an end, were put behind those of a row.
 pub record Ran·put (codes text : List ℕ) (from end : ℕ) (before : List ℕ) (row : Putting) (after : List ℕ) (r : Ran) : Type 0 where

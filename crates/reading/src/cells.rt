@@ -11,7 +11,7 @@ ghost use Rattle.matrix.specs.Taken.{also, states·taken};
 ghost use Rattle.matrix.specs.WholeSets.{Set·bytes, bracket·of, part};
 ghost use Rattle.reading.specs.CodedCells.{Cleared, Digits, Row·put, cell·byte, cells·coded, codes·of, decoded, dotted·on, has·cells, letter·of, marked, marked·digits, marks, members, spell·maybe, topped, word·coded};
 ghost use Rattle.reading.specs.RowWalk.{Told·put};
-ghost use Rattle.reading.specs.ShortCells.{Ran·put, Short·room, Short·run, Short·written};
+ghost use Rattle.reading.specs.ShortCells.{Ran·put, Short·run, Short·wrote};
 ghost use Rattle.record.specs.Spell.{spell·cell};
 ghost use lib.ListN.{length, getD, take, drop};
 ghost use mathlib.Core.Bool.{false, true};
@@ -211,7 +211,7 @@ fn place_behind(n: usize, cells: usize) -> usize
     n + 2 * cells
 }
 
-// Writes cells of one byte each, from a place of a text up to an end, each with a blank before it.
+// Writes cells of one byte each, each with a blank before it, from a place of a text on and no further than an end, and answers where they end.
 fn write_short(
     text: &[u8],
     from: usize,
@@ -220,20 +220,23 @@ fn write_short(
     n: usize,
     codes: &[u8; 256],
 ) -> usize
-    requires { ⌜ Short·room (now codes) (now text) from end (now buffer) n ⌝ }
-    ensures { λ r. ⌜ Short·written (now (codes .entry)) (now (text .entry)) from end (now (buffer .entry)) n (now (buffer .exit)) r ⌝ }
+    requires { ⌜ (from ≤ end) × (end - from ≤ length (now text) - from) × (n + 2 * (end - from) ≤ length (now buffer)) ⌝ }
+    ensures { λ r. ⌜ Short·wrote (now (codes .entry)) (now (text .entry)) from end (now (buffer .entry)) n (now (buffer .exit)) r ⌝ }
 {
     let mut at = n;
     let mut i = from;
     while i < end {
         let b = cell_byte(code_of(codes, text[i]));
+        if b == 0 {
+            return i;
+        }
         buffer[at] = 32;
         at += 1;
         buffer[at] = b;
         at += 1;
         i += 1;
     }
-    at
+    i
 }
 
 // A row behind so many cells more: the next place is known.
@@ -270,21 +273,22 @@ fn put_short(
     if !row.started {
         return Ran { row, next: from };
     }
-    let next = short_end(text, from, end, codes);
-    let cells = next - from;
     let at = row.at;
     if buffer.len() <= at {
+        let stop = short_end(text, from, end, codes);
+        let count = stop - from;
         return Ran {
-            row: row_behind(row, place_behind(at, cells), cells),
-            next,
+            row: row_behind(row, place_behind(at, count), count),
+            next: stop,
         };
     }
-    if (buffer.len() - at) / 2 < cells {
+    if (buffer.len() - at) / 2 < end - from {
         return Ran { row, next: from };
     }
-    let behind = write_short(text, from, next, buffer, at, codes);
+    let next = write_short(text, from, end, buffer, at, codes);
+    let cells = next - from;
     Ran {
-        row: row_behind(row, behind, cells),
+        row: row_behind(row, at + 2 * cells, cells),
         next,
     }
 }

@@ -12,6 +12,7 @@ ghost use Rattle.lexer.specs.Base.{bytes, pick};
 ghost use Rattle.lexer.specs.Bytes.{left};
 ghost use Rattle.lexer.specs.Stored.{range};
 ghost use Rattle.lexer.specs.Words.{spaced};
+ghost use Rattle.matrix.specs.WholeSets.{part};
 ghost use Rattle.reading.specs.CharactersHeld.{bare·piece, characters·from, plain·bytes, slot·character, slot·label, slot·states, slot·type, states·piece};
 ghost use Rattle.reading.specs.Pieces.{name·piece};
 ghost use Rattle.record.specs.Decimal.{decimal};
@@ -40,6 +41,7 @@ use lexer::Item;
 use lexer::next_byte;
 use lexer::start_of;
 use lexer::text_start;
+use matrix::sets::word_stop;
 
 // Puts a byte of a name: `_` is a blank, LF is `\0`, a backslash `\1`.
 fn put_escaped(buffer: &mut [u8], n: usize, b: u8) -> usize
@@ -76,11 +78,30 @@ fn put_text(text: &[u8], c: Cursor, buffer: &mut [u8], n: usize) -> usize
     }
 }
 
-// Puts the name that the word of an index is, escaped.
+// Puts the bytes of a text from a place up to an end as those of a name, escaped.
+fn put_bytes(text: &[u8], from: usize, end: usize, buffer: &mut [u8], n: usize) -> usize
+    requires { ⌜ end ≤ length (now text) ⌝ }
+    ensures { λ r. ⌜ Puts (now (buffer .entry)) n (λ behind. escaped (spaced (part (now (text .entry)) from end)) ++ behind) (now (buffer .exit)) r ⌝ }
+{
+    let mut m = n;
+    let mut i = from;
+    while i < end {
+        m = put_escaped(buffer, m, text[i]);
+        i += 1;
+    }
+    m
+}
+
+// Puts the name that the word of an index is, escaped. Most names are told at once by their bytes.
 pub fn put_name(text: &[u8], starts: &[u32], buffer: &mut [u8], n: usize, i: usize) -> usize
     ensures { λ r. ⌜ Puts (now (buffer .entry)) n (name·piece (now (text .entry)) (now (starts .entry)) i) (now (buffer .exit)) r ⌝ }
 {
-    put_text(text, text_start(text, start_of(starts, i)), buffer, n)
+    let start = start_of(starts, i);
+    let end = word_stop(text, start);
+    if start < end {
+        return put_bytes(text, start, end, buffer, n);
+    }
+    put_text(text, text_start(text, start), buffer, n)
 }
 
 // Puts a line: a key, and the name that the word of an index is.

@@ -1,21 +1,23 @@
--- The function `write_short` meets its contract. A turn writes a blank and the byte of a cell. The measure is what is left of the run. Assumes nothing.
+-- The function `write_short` meets its contract. A turn writes a blank and the byte of a cell, or ends. The measure is what is left of the run. Assumes
+-- nothing.
 use Prim.Native.Nat.{_-_}
-use Rattle.reading.proofs.ShortLaws.{Writing, writing-end, writing-turn}
+use Rattle.reading.proofs.RunPieces.{Wrote, wrote-end, wrote-start, wrote-turn}
 use Rattle.reading.proofs.cells.write_short.Statement.{statement}
 use Rattle.reading.proofs.cells.write_short.Tie as tie
+use Rattle.reading.specs.CodedCells.{cell·byte}
 use borrow.Author.Needs.{needs}
 use lib.ListN.{length-set}
-use mathlib.Core.Path.{refl}
+use mathlib.Core.Path.{ap, _∙_}
 use native.Mathlib.Omega.{arith}
 
 abbrev Inv-loop : tie.InvT-loop
-Inv-loop text from end buffer₀ n codes at₀ i₀ buffer at i = Writing codes text from end buffer₀ n buffer at i
+Inv-loop text from end buffer₀ n codes at₀ i₀ buffer at i = Wrote codes text from end buffer₀ n buffer at i
 
 abbrev μ-loop : tie.MeasureT-loop
 μ-loop text from end buffer₀ n codes at₀ i₀ buffer at i = end - i
 
 loop-holds : tie.Need-loop-holds Inv-loop μ-loop
-loop-holds c = record { ahead = omega arith; within = c .before .before .pre .ahead; room = c .before .before .pre .room; kept = refl; rest = λ after next p. p }
+loop-holds c = let p = c .before .before .pre in wrote-start _ _ _ _ _ _ (p .0) (p .2)
 
 shared-slice-read-code-of : tie.Need-shared-slice-read-code-of Inv-loop μ-loop
 shared-slice-read-code-of c = search needs
@@ -26,17 +28,23 @@ code-of-requires c κs = search needs
 cell-byte-requires : tie.Need-cell-byte-requires Inv-loop μ-loop
 cell-byte-requires c κs = search needs
 
+same-length : tie.Need-same-length Inv-loop μ-loop
+same-length c = c .before .before .before .before .before .loop .inv .kept
+
+returns : tie.Need-returns Inv-loop μ-loop
+returns c = wrote-end _ _ _ _ _ _ (c .before .before .before .before .before .loop .inv)
+
 slice-write-buffer : tie.Need-slice-write-buffer Inv-loop μ-loop
-slice-write-buffer c = search needs
+slice-write-buffer c = let l = c .before .before .before .before .before .loop in omega (arith, l .inv .place, l .inv .room, l .inv .ahead)
 
 add-at : tie.Need-add-at Inv-loop μ-loop
-add-at c = search needs
+add-at c = let l = c .before .before .before .before .before .loop in omega (arith, l .inv .place, l .inv .room, l .inv .ahead)
 
 slice-write-buffer-2 : tie.Need-slice-write-buffer-2 Inv-loop μ-loop
-slice-write-buffer-2 c = let l = c .before .before .before .before .loop in omega (arith, length-set (l .buffer) (l .at) 32, l .inv .room)
+slice-write-buffer-2 c = let l = c .before .before .before .before .before .loop in omega (arith, length-set (l .buffer) (l .at) 32, l .inv .place, l .inv .room, l .inv .ahead)
 
 add-at-2 : tie.Need-add-at-2 Inv-loop μ-loop
-add-at-2 c = search needs
+add-at-2 c = let l = c .before .before .before .before .before .loop in omega (arith, l .inv .place, l .inv .room, l .inv .ahead)
 
 add-i : tie.Need-add-i Inv-loop μ-loop
 add-i c = search needs
@@ -46,16 +54,14 @@ loop-less c = search needs
 
 loop-again : tie.Need-loop-again Inv-loop μ-loop
 loop-again c =
-    let l = c .before .before .before in
-    let p = l .before .before .before .before .pre in
-    rw (c .cell-byte .ensures, c .before .code-of .ensures)
-    (writing-turn _ _ _ _ _ _ _ _ _ (l .before .loop .inv) (l .loop-test .taken) (omega arith) (p .short _ (l .before .loop .inv .ahead) (l .loop-test .taken)))
+    let t = c .before .before .before .before in
+    wrote-turn _ _ _ _ _ _ (t .before .loop .inv) _ (c .before .cell-byte .ensures ∙ ap cell·byte (c .before .before .code-of .ensures)) (t .loop-test .taken) (omega arith) (c .if1 .left)
 
-same-length : tie.Need-same-length Inv-loop μ-loop
-same-length c = c .before .loop .inv .kept
+same-length-2 : tie.Need-same-length-2 Inv-loop μ-loop
+same-length-2 c = c .before .loop .inv .kept
 
-returns : tie.Need-returns Inv-loop μ-loop
-returns c = writing-end _ _ _ _ _ _ _ _ _ (c .before .loop .inv) (c .loop-test .left)
+returns-2 : tie.Need-returns-2 Inv-loop μ-loop
+returns-2 c = wrote-end _ _ _ _ _ _ (c .before .loop .inv)
 
 pub write-short-spec : {M : Type 1} → statement M
 write-short-spec =
@@ -67,6 +73,8 @@ write-short-spec =
     shared-slice-read-code-of
     code-of-requires
     cell-byte-requires
+    same-length
+    returns
     slice-write-buffer
     add-at
     slice-write-buffer-2
@@ -74,5 +82,5 @@ write-short-spec =
     add-i
     loop-less
     loop-again
-    same-length
-    returns)
+    same-length-2
+    returns-2)

@@ -1,6 +1,6 @@
 -- The function `put_name` meets its contract. Assumes nothing.
 use Rattle.emit.proofs.PutLaws.{puts-as}
-use Rattle.reading.proofs.NamePuts.{text-name}
+use Rattle.reading.proofs.NamePuts.{plain-name, text-name}
 use Rattle.reading.proofs.characters.put_name.Statement.{statement}
 use Rattle.reading.proofs.characters.put_name.Tie as tie
 use borrow.Author.Needs.{needs}
@@ -8,19 +8,40 @@ use borrow.Author.Needs.{needs}
 start-of-requires : tie.Need-start-of-requires
 start-of-requires c κs = search needs
 
+word-stop-requires : tie.Need-word-stop-requires
+word-stop-requires c κs = search needs
+
+put-bytes-requires : tie.Need-put-bytes-requires
+put-bytes-requires c κs = c .before .before .word-stop .ensures (c .before .if1 .taken) .within
+
+same-length : tie.Need-same-length
+same-length c = search needs
+
+returns : tie.Need-returns
+returns c = puts-as (c .before .before .put-bytes .ensures) (λ behind. plain-name _ _ _ _ _ behind (c .before .before .before .before .before .before .start-of .ensures) (c .before .before .before .before .before .word-stop .ensures (c .before .before .before .before .if1 .taken)))
+
 text-start-requires : tie.Need-text-start-requires
 text-start-requires c κs = search needs
 
 put-text-requires : tie.Need-put-text-requires
 put-text-requires c κs = search needs
 
-same-length : tie.Need-same-length
-same-length c = search needs
+same-length-2 : tie.Need-same-length-2
+same-length-2 c = search needs
 
-returns : tie.Need-returns
-returns c = puts-as (c .before .before .put-text .ensures) (λ behind. text-name _ _ _ _ _ behind (c .before .before .before .before .before .start-of .ensures) (c .before .before .before .before .text-start .ensures))
+returns-2 : tie.Need-returns-2
+returns-2 c = puts-as (c .before .before .put-text .ensures) (λ behind. text-name _ _ _ _ _ behind (c .before .before .before .before .before .before .before .start-of .ensures) (c .before .before .before .before .text-start .ensures))
 
 pub put-name-spec : {M : Type 1} → statement M
 put-name-spec =
     tie.close
-    (tie.spec start-of-requires text-start-requires put-text-requires same-length returns)
+    (tie.spec
+    start-of-requires
+    word-stop-requires
+    put-bytes-requires
+    same-length
+    returns
+    text-start-requires
+    put-text-requires
+    same-length-2
+    returns-2)
