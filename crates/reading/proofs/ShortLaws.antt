@@ -2,7 +2,7 @@
 use Prim.Native.Nat.{ℕ, zero, suc, _+_, _*_, _-_, _^_, _≤_, _<_, min}
 use Rattle.block.specs.Cell.{Cell}
 use Rattle.emit.proofs.PutLaws.{puts-out}
-use Rattle.emit.specs.Puts.{Puts, last·place, puts}
+use Rattle.emit.specs.Puts.{Puts, last·place}
 use Rattle.lexer.proofs.Basics.{all-under, by-test, same-true, under-at}
 use Rattle.lexer.proofs.ListLaws.{drop-next}
 use Rattle.lexer.specs.Base.{given, pick, same}

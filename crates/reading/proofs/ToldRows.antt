@@ -13,17 +13,17 @@ use Rattle.block.specs.Chunk.{set·cell}
 use Rattle.reading.proofs.RowSteps.{plain-word}
 use Rattle.reading.proofs.RowWalks.{Rowing, Words·left, step-ahead, step-kept, step-on}
 use Rattle.reading.proofs.WordCells.{plain-put}
-use Rattle.reading.specs.CodedCells.{Row·put, cells·coded, codes·of, decoded, word·coded}
+use Rattle.reading.specs.CodedCells.{Row·put, cells·coded, codes·of, decoded}
 use Rattle.reading.specs.RowWalk.{Ahead·put, Told·put, full, full·with, more·told, none·told, nothing·put, one·word, plain·walk, told·put, whole·set}
 use Rattle.reading.specs.declared.cells.Putting.{Putting}
 use Rattle.reading.specs.declared.lines.Open.{Open}
 use Rattle.reading.specs.declared.lines.Walk.{Walk}
 use borrow.Author.Tests.{ne-eqb}
-use lib.ListN.{length, getD, take, drop, length-take, length-drop}
+use lib.ListN.{length, getD, drop, length-take}
 use mathlib.Core.Bool.{false}
 use mathlib.Core.List.{List, [], _∷_}
 use mathlib.Core.Option.{Option, none, some}
-use mathlib.Core.Path.{_≡_, refl, sym, ap, _∙_}
+use mathlib.Core.Path.{_≡_, refl, ap, _∙_}
 use native.Mathlib.Nat.{min-le-left}
 use native.Mathlib.Omega.{arith}
 

@@ -1,7 +1,7 @@
 -- A whole set that is put at once: how its states are spelled, and the cell that its words have. Assumes nothing.
 use Prim.Native.Nat.{ℕ, zero, suc, _+_, _-_, _≤_, _<_}
 use Rattle.block.specs.Cell.{Cell, insert, insert·all}
-use Rattle.block.specs.Chunk.{Row, plain, within, closer, set·cell}
+use Rattle.block.specs.Chunk.{plain, within, closer, set·cell}
 use Rattle.block.specs.Format.{Format}
 use Rattle.block.specs.declared.kinds.Bracket.{Bracket}
 use Rattle.emit.proofs.PutLaws.{puts-as, puts-none, puts-then}
@@ -10,26 +10,25 @@ use Rattle.lexer.proofs.Basics.{and-left, and-right, by-test, eqb-same}
 use Rattle.lexer.proofs.ListLaws.{take-next}
 use Rattle.lexer.specs.Base.{pick}
 use Rattle.lexer.specs.Stored.{word·of}
-use Rattle.lexer.specs.Words.{Numbered, mark?, punct, word?}
+use Rattle.lexer.specs.Words.{mark?, punct, word?}
 use Rattle.lexer.specs.declared.Kind.{Kind}
 use Rattle.matrix.specs.Taken.{also, states·taken, taken, word·taken}
-use Rattle.matrix.specs.WholeSets.{Set·bytes, Whole·set, bracket·of, opener, part, rising, simple?, word·token}
+use Rattle.matrix.specs.WholeSets.{Set·bytes, Whole·set, bracket·of, opener, part, rising, simple?}
 use Rattle.reading.proofs.DecodedLaws.{decoded-state}
 use Rattle.reading.proofs.RowPieces.{row-one}
 use Rattle.reading.proofs.RowSteps.{taken-brace, taken-closer, taken-parenthesis, taken-states}
 use Rattle.reading.proofs.ShortLaws.{digit-alone}
-use Rattle.reading.specs.CodedCells.{Digits, Row·put, cells·coded, codes·of, decoded, has·cells, letter·of, marked·digits, word·coded}
+use Rattle.reading.specs.CodedCells.{Digits, Row·put, cells·coded, codes·of, has·cells, letter·of, marked·digits, word·coded}
 use Rattle.reading.specs.declared.cells.Putting.{Putting}
-use Rattle.record.specs.Decimal.{decimal}
 use Rattle.record.specs.Spell.{dotted, spell·cell}
 use borrow.Author.Tests.{lt-ltb, leb-true, ltb-true}
 use lib.Dec.{eqb, leb, ltb}
-use lib.ListN.{length, getD, take, drop, length-take, length-drop}
+use lib.ListN.{length, getD, drop, length-take, length-drop}
 use lib.Seq.{getD-drop, getD-take}
-use mathlib.Core.Bool.{Bool, true, false, _&&_, _||_}
-use mathlib.Core.List.{List, [], _∷_, _++_, append-assoc}
+use mathlib.Core.Bool.{true, _&&_}
+use mathlib.Core.List.{List, [], _∷_, _++_}
 use mathlib.Core.Option.{some}
-use mathlib.Core.Path.{_≡_, refl, sym, ap, subst, _∙_}
+use mathlib.Core.Path.{_≡_, refl, sym, ap, _∙_}
 use native.Mathlib.Nat.{min-eq-left}
 use native.Mathlib.Omega.{arith}
 

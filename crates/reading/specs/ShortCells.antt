@@ -5,7 +5,7 @@ use Rattle.reading.specs.CodedCells.{Row·put, cell·byte, cells·coded}
 use Rattle.reading.specs.Pieces.{spell·on}
 use Rattle.reading.specs.declared.cells.Putting.{Putting}
 use Rattle.reading.specs.declared.cells.Ran.{Ran}
-use lib.ListN.{length, getD, take, drop}
+use lib.ListN.{getD, take, drop}
 use mathlib.Core.Bool.{true}
 use mathlib.Core.List.{List}
 use mathlib.Core.Path.{_≡_}
