@@ -81,7 +81,7 @@ fn judge_rows(source: &[u8], i: usize, head: Head) -> Judged
             if gaps & (72 < states) {
                 return Judged::Wrong;
             }
-            if names_differ(source, i, taxa.0, characters.0) {
+            if names_differ(source, i, taxa, characters) {
                 return judge_characters(source, i, j, head, gaps);
             }
             Judged::Wrong

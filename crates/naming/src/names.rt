@@ -15,6 +15,8 @@ use super::lines::lines_alike;
 use super::lines::lower_byte;
 use super::rows::name_begin;
 use super::rows::next_row;
+use block::CharacterNumber;
+use block::TaxonNumber;
 use lexer::start_of;
 use slots::Table;
 use slots::fill_slot;
@@ -260,11 +262,16 @@ fn many_differ(source: &[u8], at: usize, taxa: usize, characters: usize) -> bool
 }
 
 // Do the names of so many rows at a place, with so many cells each, differ, ASCII case ignored?
-pub fn names_differ(source: &[u8], at: usize, taxa: usize, characters: usize) -> bool
-    ensures { λ r. ⌜ Names·judged (now (source .entry)) at taxa characters r ⌝ }
+pub fn names_differ(
+    source: &[u8],
+    at: usize,
+    taxa: TaxonNumber,
+    characters: CharacterNumber,
+) -> bool
+    ensures { λ r. ⌜ Names·judged (now (source .entry)) at (taxa .0) (characters .0) r ⌝ }
 {
-    if taxa <= 200 {
-        return few_differ(source, at, taxa, characters);
+    if taxa.0 <= 200 {
+        return few_differ(source, at, taxa.0, characters.0);
     }
-    many_differ(source, at, taxa, characters)
+    many_differ(source, at, taxa.0, characters.0)
 }
