@@ -1,1 +1,1 @@
-pub mod FramedTexts
+pub mod FramedQuestions

@@ -2,9 +2,9 @@
 use Prim.Native.Nat.{ℕ, _≤_}
 use Rattle.cases.specs.declared.frames.Frame.{Frame}
 
--- A text lies within the space.
+-- A question lies within the space.
 abbrev pub Framed : Frame → ℕ → Type 0
-Framed (Frame.Text n) room = n ≤ room
+Framed (Frame.Question n) room = n ≤ room
 Framed Frame.End room = Unit {0}
 Framed Frame.Cut room = Unit {0}
 Framed Frame.Long room = Unit {0}

@@ -1,2 +1,2 @@
--- The definitions of the program that replays texts.
+-- The definitions of the program that replays questions.
 pub mod Framed

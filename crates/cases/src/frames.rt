@@ -4,15 +4,16 @@ ghost use Prim.Native.Nat.{_<_, _≤_};
 ghost use Rattle.cases.specs.Framed.{Framed};
 ghost use lib.ListN.{length};
 
-// A text, at the front of the space, with its length; or none: at the end of the file, within a frame, or for a longer one.
+// A question, at the front of the space, with its length; or none: at the end of the file, within a frame, or for a longer one.
 pub enum Frame {
-    Text(usize),
+    Question(usize),
     End,
     Cut,
     Long,
 }
 
-fn wide(b: u8) -> usize
+// The number of a byte.
+pub fn wide(b: u8) -> usize
     ensures { λ r. ⌜ r < 256 ⌝ }
 {
     b as usize
@@ -24,7 +25,7 @@ fn number(b: &[u8; 4]) -> usize {
 }
 
 // Reads so many bytes to the front of the space.
-fn read_text(fd: i32, space: &mut [u8], n: usize) -> Frame
+fn read_bytes(fd: i32, space: &mut [u8], n: usize) -> Frame
     ensures { λ r. ⌜ Framed r (length (now (space .exit))) ⌝ }
 {
     if n > 4096 {
@@ -36,10 +37,10 @@ fn read_text(fd: i32, space: &mut [u8], n: usize) -> Frame
     if io::read_full(fd, &mut space[..n]) < n {
         return Frame::Cut;
     }
-    Frame::Text(n)
+    Frame::Question(n)
 }
 
-// Reads the next text to the front of the space.
+// Reads the next question to the front of the space.
 pub fn read_frame(fd: i32, space: &mut [u8]) -> Frame
     ensures { λ r. ⌜ Framed r (length (now (space .exit))) ⌝ }
 {
@@ -51,5 +52,5 @@ pub fn read_frame(fd: i32, space: &mut [u8]) -> Frame
     if got < 4 {
         return Frame::Cut;
     }
-    read_text(fd, space, number(&four))
+    read_bytes(fd, space, number(&four))
 }

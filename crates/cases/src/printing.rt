@@ -1,4 +1,4 @@
-// The calls of a text, as lines: how long the buffer is, the answer, and all that the buffer holds afterwards.
+// The calls of a text or a record, as lines: how long the buffer is, the answer, and all that the buffer holds afterwards.
 
 ghost use Prim.Native.Nat.{_≤_};
 ghost use lib.ListN.{length};
@@ -9,15 +9,22 @@ use lexer::Place;
 use lexer::refusal_number;
 use read::read;
 use record::Answer;
+use write::write;
+
+// Which call is made: a text is read, or a record is written.
+pub enum Call {
+    Read,
+    Write,
+}
 
 // What a buffer is filled with before a call.
 const UNTOUCHED: u8 = b'#';
 
-// The buffer's length for a text that is refused.
+// The buffer's length for what is refused.
 const LITTLE: usize = 8;
 
 // A line with a name and a number.
-fn put_line(out: &mut [u8], n: usize, name: &[u8], x: usize) -> usize {
+pub fn put_line(out: &mut [u8], n: usize, name: &[u8], x: usize) -> usize {
     let named = put_all(out, n, name);
     let numbered = put_decimal(out, named, x);
     put(out, numbered, b'\n')
@@ -45,10 +52,24 @@ fn fill(buffer: &mut [u8]) {
     }
 }
 
+fn answer(call: Call, asked: &[u8], work: &mut [u32], buffer: &mut [u8]) -> Answer {
+    match call {
+        Call::Read => read(asked, work, buffer),
+        Call::Write => write(asked, buffer),
+    }
+}
+
 // The call with all of this buffer.
-fn print_call(text: &[u8], work: &mut [u32], buffer: &mut [u8], out: &mut [u8], n: usize) -> usize {
+fn print_call(
+    call: Call,
+    asked: &[u8],
+    work: &mut [u32],
+    buffer: &mut [u8],
+    out: &mut [u8],
+    n: usize,
+) -> usize {
     fill(buffer);
-    let answer = read(text, work, buffer);
+    let answer = answer(call, asked, work, buffer);
     let room = put_line(out, n, b"room=", buffer.len());
     let answered = put_answer(answer, out, room);
     let held = put_all(out, answered, buffer);
@@ -57,7 +78,8 @@ fn print_call(text: &[u8], work: &mut [u32], buffer: &mut [u8], out: &mut [u8], 
 
 // The call with the first bytes of the buffer, where it has so many.
 fn print_front(
-    text: &[u8],
+    call: Call,
+    asked: &[u8],
     work: &mut [u32],
     buffer: &mut [u8],
     room: usize,
@@ -67,12 +89,13 @@ fn print_front(
     if buffer.len() < room {
         return n;
     }
-    print_call(text, work, &mut buffer[..room], out, n)
+    print_call(call, asked, work, &mut buffer[..room], out, n)
 }
 
-// The calls for a record of this length: one byte short, as long, and one byte more. A record has some bytes, and the buffer is longer.
-fn print_read(
-    text: &[u8],
+// The calls for an answer of this length: one byte short, as long, and one byte more. An answer has some bytes, and the buffer is longer.
+fn print_rooms(
+    call: Call,
+    asked: &[u8],
     work: &mut [u32],
     buffer: &mut [u8],
     length: usize,
@@ -85,21 +108,22 @@ fn print_read(
     if buffer.len() <= length {
         return n;
     }
-    let short = print_front(text, work, buffer, length - 1, out, n);
-    let full = print_front(text, work, buffer, length, out, short);
-    print_front(text, work, buffer, length + 1, out, full)
+    let short = print_front(call, asked, work, buffer, length - 1, out, n);
+    let full = print_front(call, asked, work, buffer, length, out, short);
+    print_front(call, asked, work, buffer, length + 1, out, full)
 }
 
-// The calls of a text; with all of the buffer it is found out whether it is read.
-pub fn print_text(
-    text: &[u8],
+// The calls of a text or a record; with all of the buffer it is found out whether it is refused.
+pub fn print_calls(
+    call: Call,
+    asked: &[u8],
     work: &mut [u32],
     buffer: &mut [u8],
     out: &mut [u8],
     n: usize,
 ) -> usize {
-    match read(text, work, buffer) {
-        Answer::Length(length) => print_read(text, work, buffer, length, out, n),
-        Answer::Refused(_, _) => print_front(text, work, buffer, LITTLE, out, n),
+    match answer(call, asked, work, buffer) {
+        Answer::Length(length) => print_rooms(call, asked, work, buffer, length, out, n),
+        Answer::Refused(_, _) => print_front(call, asked, work, buffer, LITTLE, out, n),
     }
 }

@@ -1,6 +1,6 @@
 //! Holds the calls of the archive against the oracle. `check` makes many calls for one text, record
 //! or lookup and compares all that they answer and leave; `texts` and `records` give these. `cases`
-//! has the texts that the program crates/cases replays, and what it is to print.
+//! has the questions that the program crates/cases replays, and what it is to print.
 
 pub mod cases;
 pub mod check;

@@ -1,5 +1,5 @@
--- The function print_next meets its contract: a text that was read lies within the space. Assumes nothing.
-use Rattle.cases.proofs.FramedTexts.{framed-text}
+-- The function print_next meets its contract: a question that was read lies within the space. Assumes nothing.
+use Rattle.cases.proofs.FramedQuestions.{framed-question}
 use Rattle.cases.proofs.print_next.Statement.{statement}
 use Rattle.cases.proofs.print_next.Tie as tie
 use borrow.Author.Needs.{needs}
@@ -15,18 +15,18 @@ enum-known-k c = search needs
 put-all-requires : tie.Need-put-all-requires
 put-all-requires c κs = search needs
 
-slice-reshare-prefix-print-text : tie.Need-slice-reshare-prefix-print-text
-slice-reshare-prefix-print-text c =
+slice-reshare-prefix-print-question : tie.Need-slice-reshare-prefix-print-question
+slice-reshare-prefix-print-question c =
     let k = c .before .before .before .before .before in
-    framed-text _ _ _ (k .before .before .before .before .read-frame .ensures) (k .k .given .1)
+    framed-question _ _ _ (k .before .before .before .before .read-frame .ensures) (k .k .given .1)
 
-slice-aggregate-print-text : tie.Need-slice-aggregate-print-text
-slice-aggregate-print-text c =
+slice-aggregate-print-question : tie.Need-slice-aggregate-print-question
+slice-aggregate-print-question c =
     let k = c .before .before .before .before .before .before in
-    sym (length-take-le _ _ (framed-text _ _ _ (k .before .before .before .before .read-frame .ensures) (k .k .given .1)))
+    sym (length-take-le _ _ (framed-question _ _ _ (k .before .before .before .before .read-frame .ensures) (k .k .given .1)))
 
-print-text-requires : tie.Need-print-text-requires
-print-text-requires c κs = search needs
+print-question-requires : tie.Need-print-question-requires
+print-question-requires c κs = search needs
 
 enum-told : tie.Need-enum-told
 enum-told c = search needs
@@ -95,9 +95,9 @@ print-next-spec =
     read-frame-requires
     enum-known-k
     put-all-requires
-    slice-reshare-prefix-print-text
-    slice-aggregate-print-text
-    print-text-requires
+    slice-reshare-prefix-print-question
+    slice-aggregate-print-question
+    print-question-requires
     enum-told
     slice-aggregate-stop
     stop-requires

@@ -1,6 +1,6 @@
--- The function read_text meets its contract: the text is read to the front of the space, where it fits. Assumes nothing.
-use Rattle.cases.proofs.frames.read_text.Statement.{statement}
-use Rattle.cases.proofs.frames.read_text.Tie as tie
+-- The function read_bytes meets its contract: the bytes are read to the front of the space, where they fit. Assumes nothing.
+use Rattle.cases.proofs.frames.read_bytes.Statement.{statement}
+use Rattle.cases.proofs.frames.read_bytes.Tie as tie
 use borrow.Author.Needs.{needs}
 use borrow.Table.Elements.{length-take-le}
 use mathlib.Core.Path.{sym}
@@ -32,8 +32,8 @@ same-length-2 c = search needs
 returns-4 : tie.Need-returns-4
 returns-4 c = search needs
 
-pub read-text-spec : {M : Type 1} → statement M
-read-text-spec =
+pub read-bytes-spec : {M : Type 1} → statement M
+read-bytes-spec =
     tie.close
     (tie.spec
     returns

@@ -1,8 +1,8 @@
--- The function print_texts meets its contract. The invariant: every room stays as it is. The measure is the count of turns. Assumes nothing.
+-- The function print_questions meets its contract. The invariant: every room stays as it is. The measure is the count of turns. Assumes nothing.
 use Prim.Native.Nat.{ℕ, _-_, _≤_, _<_}
 use Rattle.lexer.proofs.Basics.{and-right}
-use Rattle.cases.proofs.print_texts.Statement.{statement}
-use Rattle.cases.proofs.print_texts.Tie as tie
+use Rattle.cases.proofs.print_questions.Statement.{statement}
+use Rattle.cases.proofs.print_questions.Tie as tie
 use borrow.Author.Needs.{needs}
 use borrow.Author.Tests.{ltb-true}
 use lib.Dec.{ltb}
@@ -69,8 +69,8 @@ same-length-4 c = search needs
 returns : tie.Need-returns Inv-loop μ-loop
 returns c = search needs
 
-pub print-texts-spec : {M : Type 1} → statement M
-print-texts-spec =
+pub print-questions-spec : {M : Type 1} → statement M
+print-questions-spec =
     tie.close
     (tie.spec
     Inv-loop
