@@ -9,9 +9,10 @@ use super::printing::put_line;
 use lookup::look_at;
 use lookup::lookup;
 
-// The lookup of a name in a record. Where the cells begin is told by the answer in numbers, all else by the call that hands them back.
+// The lookup of a name in a record. Where the cells begin is told by the answer in numbers, all else by the call that hands them back. The number
+// is lent as one that no call answers.
 fn print_cells(source: &[u8], name: &[u8], out: &mut [u8], n: usize) -> usize {
-    let mut number = 0;
+    let mut number = 99;
     let cells = lookup(source, name, &mut number);
     let refused = put_line(out, n, b"refused=", number as usize);
     let start = put_line(out, refused, b"start=", look_at(source, name).start);
