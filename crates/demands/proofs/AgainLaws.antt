@@ -6,13 +6,13 @@ use Rattle.lexer.specs.declared.refusal.Refusal.{Refusal}
 use Rattle.read.specs.Call.{Read·call}
 use Rattle.record.proofs.CallLaws.{length-refused}
 use Rattle.record.proofs.Demands.{buffers-are-kept, calls-give-back-records, read-gives-records, read-refuses-in-order, what-is-left-is-given}
-use Rattle.record.specs.Calls.{read·answer, read·leaves, write·answer, write·leaves}
+use Rattle.record.specs.Calls.{read·answer, read·leaves, write·answer}
 use Rattle.record.specs.Demands.{Left, Read·gives, Refuses}
 use Rattle.record.specs.declared.Answer.{Answer}
 use Rattle.write.specs.Call.{Write·call}
 use lib.ListN.{length, take, drop, length-take, take-append-drop}
 use mathlib.Core.List.{List, _++_}
-use mathlib.Core.Path.{_≡_, refl, sym, ap, _∙_, subst}
+use mathlib.Core.Path.{_≡_, refl, sym, ap, _∙_}
 use native.Mathlib.Omega.{arith}
 
 -- A call that is lent this buffer leaves these bytes in front of what was behind them.

@@ -1,2 +1,5 @@
 -- What the proofs of this crate rest on.
 mod AgainLaws
+mod CompareLaws
+mod FormedLaws
+mod ApartLaws
