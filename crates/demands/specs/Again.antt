@@ -9,8 +9,8 @@ use lib.ListN.{length, drop}
 use mathlib.Core.List.{List, _++_}
 use mathlib.Core.Path.{_≡_}
 
--- The bytes `b` are lent, work memory, a buffer for the form and a buffer `again`; the call answers `r`, and each lent thing is afterwards as
--- the field of its name says. What memory and buffers hold before makes no difference to any of it.
+-- The bytes `b`, work memory, a buffer `form` and a buffer `again` are lent. What they hold afterwards is `work·after`, `form·after` and
+-- `again·after`, and the answer is `r`. Which case applies is a matter of the bytes `b` and of lengths, not of what memory and buffers held.
 pub record Written·again (b work work·after form form·after again again·after : List ℕ) (r : Answer) : Type 0 where
   -- the buffer for the form has what write leaves in it, and work memory keeps its length
   pub written : form·after ≡ write·leaves b form

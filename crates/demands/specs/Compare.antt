@@ -14,7 +14,7 @@ use mathlib.Core.List.{List, _++_}
 use mathlib.Core.Logic.{_↔_}
 use mathlib.Core.Path.{_≡_}
 
--- The comparison says `Same` exactly when something holds, and `Different` exactly when it does not.
+-- The answer is `Same` exactly when something holds, and `Different` exactly when it does not.
 pub record Tells (P : Type 0) (c : Compared) : Type 0 where
   pub same : (c ≡ Compared.Same) ↔ P
   pub different : (c ≡ Compared.Different) ↔ (¬ P)
@@ -59,9 +59,9 @@ pub record Told·apart (r s : Reading) (first first·after second second·after 
   pub agree : Tells (Agree r s) c
 
 -- The texts `t` and `u`, one after the other, with the same work memory and the same buffer `kept` for their records, each with a buffer of its
--- own for its form. What memory and buffers hold before makes no difference to what is told.
+-- own, `first` and `second`, for its form. What memory and buffers held before has no part in `told`: only how long they are.
 pub record Forms·compared (t u work work·after kept first first·after second second·after : List ℕ) (c : Compared) : Type 0 where
-  -- both texts are read, and there is room
+  -- both texts are read, and there is room: the forms stand in their buffers, and the answer tells whether the readings agree
   pub told : (r s : Reading) → Has·room t r work kept first → Has·room u s work kept second → Told·apart r s first first·after second second·after c
   -- a call for the first text is refused: that is the answer, and neither buffer for forms is touched
   pub first·refused : (n : Refusal) (p : Place) → formed·answer t (length work) kept (length first) ≡ Answer.Refused n p
