@@ -13,6 +13,7 @@ pub mod TableLaws
 pub mod TextUtf8
 pub mod TokenSizes
 pub mod TokensClean
+pub mod WordsTold
 pub mod Yielded
 -- What the proofs of this crate alone rest on.
 mod AsciiRuns
@@ -27,6 +28,7 @@ mod HeldText
 mod MarkLaws
 mod PlaceLaws
 mod QuotedBytes
+mod RunsAlike
 mod ScanLaws
 mod StepLaws
 mod StepSymbols

@@ -45,16 +45,16 @@ module _ (text : List ℕ) where
   plain-blocks from i h e = rw e (blocks-alike plain? text end·from plain-next 8 from h)
 
 -- A plain byte is one of a word.
-plain-tail : (b : ℕ) (r : List ℕ) → plain? b ≡ true → tail Mode.Word (b ∷ r) ≡ b ∷ tail Mode.Word r
+pub plain-tail : (b : ℕ) (r : List ℕ) → plain? b ≡ true → tail Mode.Word (b ∷ r) ≡ b ∷ tail Mode.Word r
 unfolding tail symbol symbol·of text·step next after·word after·between single? double? open? other? part? rank pick
 plain-tail b r t = rw (plain-is-other b t)
 
 -- What stands up to where the plain bytes end, and behind it.
-record Running (i : ℕ) (r : List ℕ) (e : ℕ) : Type 0 where
-  ahead : i ≤ e
-  within : e ≤ i + length r
-  rest : tail Mode.Word r ≡ take (e - i) r ++ tail Mode.Word (drop (e - i) r)
-  each : (k : ℕ) → k < e - i → plain? (getD r k 0) ≡ true
+pub record Running (i : ℕ) (r : List ℕ) (e : ℕ) : Type 0 where
+  pub ahead : i ≤ e
+  pub within : e ≤ i + length r
+  pub rest : tail Mode.Word r ≡ take (e - i) r ++ tail Mode.Word (drop (e - i) r)
+  pub each : (k : ℕ) → k < e - i → plain? (getD r k 0) ≡ true
 
 -- There are none, or a plain byte comes before others.
 running-none : (i : ℕ) (r : List ℕ) → Running i r i
@@ -76,7 +76,7 @@ running-more i b r e t k =
     each (suc n) h = k .each n (omega arith)
 
 -- So they end where the definition says.
-running : (r : List ℕ) (i : ℕ) → Running i r (plain·end i r)
+pub running : (r : List ℕ) (i : ℕ) → Running i r (plain·end i r)
 unfolding plain·end
 running [] i = running-none i []
 running (b ∷ r) i = chosen (Running i (b ∷ r)) (plain? b) (λ t. running-more i b r (plain·end (i + 1) r) t (running r (i + 1))) (λ f. running-none i (b ∷ r))

@@ -10,6 +10,7 @@ pub mod Words
 pub mod Lexing
 pub mod Scanning
 pub mod ByteBlocks
+pub mod PlainWords
 pub mod Positions
 pub mod Stored
 pub mod Bytes

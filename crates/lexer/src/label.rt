@@ -1,6 +1,7 @@
 // What the token that begins at a byte can be taken for: a keyword, a punctuation mark, a newline, a name, a number. Past the end of the text there
 // is a word without bytes.
 
+ghost use Prim.Native.Nat.{_+_, _≤_};
 ghost use Rattle.lexer.specs.Base.{pick, lower, alike, given, empty?};
 ghost use Rattle.lexer.specs.Bytes.{left};
 ghost use Rattle.lexer.specs.Classes.{symbol, space?, part?, blank};
@@ -8,7 +9,7 @@ ghost use Rattle.lexer.specs.Lexing.{token·at, word·at};
 ghost use Rattle.lexer.specs.Words.{is, punct, line·end?, label, spaced, digits, largest, number};
 ghost use Rattle.lexer.specs.declared.Cursor.{Cursor};
 ghost use lib.Dec.{eqb, leb};
-ghost use lib.ListN.{getD};
+ghost use lib.ListN.{length, getD, take, drop};
 ghost use mathlib.Core.Bool.{_||_};
 ghost use mathlib.Core.Path.{_≡_};
 use super::Class;
@@ -17,7 +18,9 @@ use super::Item;
 use super::Kind;
 use super::classes::byte_or_zero;
 use super::classes::class_of;
+use super::classes::plain;
 use super::classes::wide_bytes;
+use super::scanning::word_stop;
 use super::token::kind_at;
 use super::token::next_byte;
 use super::token::text_start;
@@ -162,10 +165,13 @@ fn blank_text(text: &[u8], c: Cursor) -> bool
     }
 }
 
-// Is the token a name?
+// Is the token a name? One that begins with a plain byte is.
 pub fn is_label(text: &[u8], start: usize) -> bool
     ensures { λ r. ⌜ r ≡ given (label (word·at (now (text .entry)) start)) ⌝ }
 {
+    if plain(byte_or_zero(text, start)) {
+        return true;
+    }
     match kind_at(text, start) {
         Kind::Word | Kind::Quoted => !blank_text(text, text_start(text, start)),
         _ => false,
@@ -209,10 +215,35 @@ fn texts_alike(text: &[u8], x: Cursor, y: Cursor) -> bool
     }
 }
 
-// Are two tokens the same name?
+// Are so many bytes of a text from two places on the same name?
+fn runs_alike(text: &[u8], a: usize, b: usize, count: usize) -> bool
+    requires { ⌜ (a + count ≤ length (now text)) × (b + count ≤ length (now text)) ⌝ }
+    ensures { λ r. ⌜ r ≡ alike (spaced (take count (drop a (now (text .entry))))) (spaced (take count (drop b (now (text .entry))))) ⌝ }
+{
+    let mut i = 0;
+    while i < count {
+        if folded(text[a + i]) != folded(text[b + i]) {
+            return false;
+        }
+        i += 1;
+    }
+    true
+}
+
+// Are two tokens the same name? Most names are told at once by their bytes.
 pub fn labels_alike(text: &[u8], a: usize, b: usize) -> bool
     ensures { λ r. ⌜ r ≡ alike (spaced (token·at (now (text .entry)) a .text)) (spaced (token·at (now (text .entry)) b .text)) ⌝ }
 {
+    let end = word_stop(text, a);
+    if a < end {
+        let stop = word_stop(text, b);
+        if b < stop {
+            if end - a == stop - b {
+                return runs_alike(text, a, b, end - a);
+            }
+            return false;
+        }
+    }
     texts_alike(text, text_start(text, a), text_start(text, b))
 }
 

@@ -3,8 +3,10 @@
 ghost use Prim.Native.Nat.{ℕ, _<_, _≤_, _+_, _*_};
 ghost use Rattle.lexer.specs.Lexing.{lexed};
 ghost use Rattle.lexer.specs.Places.{first·byte};
+ghost use Rattle.lexer.specs.PlainWords.{word·bytes};
 ghost use Rattle.lexer.specs.Scanning.{comment·end, quote·end, string·end, word·end, skipped, quoted, worded, token·step};
 ghost use Rattle.lexer.specs.Stored.{Stored, walked};
+ghost use Rattle.lexer.specs.declared.Step.{Step};
 ghost use lib.ListN.{length, drop};
 ghost use mathlib.Core.Bool.{false};
 ghost use mathlib.Core.Path.{_≡_};
@@ -15,12 +17,15 @@ use super::Step;
 use super::Symbol;
 use super::Walk;
 use super::classes::symbol_at;
+use super::classes::word_bytes;
 use super::lexer_of::place_at;
 use super::places::no_place;
 use super::scanning::comment_end;
 use super::scanning::quoted_end;
+use super::scanning::stands_alone;
 use super::scanning::string_end;
 use super::scanning::word_end;
+use super::scanning::word_stop_by;
 use super::utf8::is_utf8;
 
 // A comment between two tokens, passed over.
@@ -67,8 +72,8 @@ fn word_step(text: &[u8], i: usize) -> Step
     }
 }
 
-// What stands at i, between two tokens: something to pass over, or a token, and where it goes on; or what does not end.
-fn token_step(text: &[u8], i: usize) -> Step
+// What stands at i, between two tokens, by its symbol.
+fn symbol_step(text: &[u8], i: usize) -> Step
     requires { ⌜ i < length (now text) ⌝ }
     ensures { λ r. ⌜ r ≡ token·step i (drop i (now (text .entry))) ⌝ }
 {
@@ -80,6 +85,33 @@ fn token_step(text: &[u8], i: usize) -> Step
         Symbol::Double => string_step(text, i),
         Symbol::Open => comment_step(text, i),
     }
+}
+
+// Where the token at i ends, if it is told by its bytes at once; else i itself.
+fn told_end(text: &[u8], i: usize, table: &[u8; 256]) -> usize
+    requires { ⌜ (i < length (now text)) × (now table ≡ word·bytes) ⌝ }
+    ensures { λ r. ⌜ (i < r → token·step i (drop i (now (text .entry))) ≡ Step.Token r) ⌝ }
+{
+    if stands_alone(text[i]) {
+        return i + 1;
+    }
+    word_stop_by(text, i, table)
+}
+
+// What stands at i, between two tokens: something to pass over, or a token, and where it goes on; or what does not end. Blanks and most tokens are
+// told at once.
+fn token_step(text: &[u8], i: usize, table: &[u8; 256]) -> Step
+    requires { ⌜ (i < length (now text)) × (now table ≡ word·bytes) ⌝ }
+    ensures { λ r. ⌜ r ≡ token·step i (drop i (now (text .entry))) ⌝ }
+{
+    if text[i] == 32 {
+        return Step::Skip(i + 1);
+    }
+    let end = told_end(text, i, table);
+    if i < end {
+        return Step::Token(end);
+    }
+    symbol_step(text, i)
 }
 
 // Behind a byte order mark at the front.
@@ -101,10 +133,11 @@ fn store_starts(text: &[u8], work: &mut [u32]) -> Walk
     ensures answer { λ r. ⌜ r ≡ walked (now (text .entry)) ⌝ }
     ensures stored { λ r. ⌜ ((n : ℕ) → r ≡ Walk.Done n → Stored (now (text .entry)) (now (work .exit)) n) ⌝ }
 {
+    let table = word_bytes();
     let mut i = first_byte(text);
     let mut n: usize = 0;
     while i < text.len() {
-        match token_step(text, i) {
+        match token_step(text, i, &table) {
             Step::Skip(j) => {
                 i = j;
             }

@@ -10,6 +10,8 @@ mod scanning;
 mod token;
 mod utf8;
 
+pub use classes::entry_of;
+pub use classes::word_bytes;
 pub use label::blank_byte;
 pub use label::is_at;
 pub use label::is_label;
@@ -22,6 +24,8 @@ pub use lexer_of::place_at;
 pub use lexing::lex;
 pub use refusal::Refusal;
 pub use refusal::refusal_number;
+pub use scanning::word_stop;
+pub use scanning::word_stop_by;
 pub use token::kind_at;
 pub use token::next_byte;
 pub use token::plain_run;

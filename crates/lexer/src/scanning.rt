@@ -3,6 +3,7 @@
 ghost use Prim.Native.Nat.{_<_, _≤_, _+_};
 ghost use Rattle.lexer.specs.Base.{pick};
 ghost use Rattle.lexer.specs.ByteBlocks.{all·first, blocks·end, comment·blocks, count·in, plain?, plain·end};
+ghost use Rattle.lexer.specs.PlainWords.{Plain·word, alone?, ends?, word·bytes};
 ghost use Rattle.lexer.specs.Scanning.{comment·end, quote·end, string·end, word·end};
 ghost use lib.Dec.{eqb};
 ghost use lib.ListN.{length, drop};
@@ -10,6 +11,7 @@ ghost use mathlib.Core.Bool.{false};
 ghost use mathlib.Core.Path.{_≡_};
 use super::Scan;
 use super::Symbol;
+use super::classes::entry_of;
 use super::classes::plain;
 use super::classes::symbol_at;
 
@@ -197,4 +199,51 @@ pub fn word_end(text: &[u8], from: usize) -> Scan
         }
     }
     Scan::At(i)
+}
+
+// Is the byte a token by itself, whatever comes next? Not all that are are told.
+pub fn stands_alone(b: u8) -> bool
+    ensures { λ r. ⌜ r ≡ alone? b ⌝ }
+{
+    let bracket = (b == 40) | (b == 41) | (b == 123) | (b == 125);
+    (b == 10) | (b == 44) | (b == 59) | (b == 61) | bracket
+}
+
+// Does the byte end a word, whatever comes next? Not all that do are told.
+fn ends_word(b: u8) -> bool
+    ensures { λ r. ⌜ r ≡ ends? b ⌝ }
+{
+    (b == 32) | (b == 13) | stands_alone(b)
+}
+
+// Where the word at a place ends, if it is of plain bytes alone and what ends it is told by one byte; else the place itself.
+pub fn word_stop(text: &[u8], start: usize) -> usize
+    ensures { λ r. ⌜ (start < r → Plain·word (now (text .entry)) start r) ⌝ }
+{
+    let end = plain_end(text, start);
+    if end < text.len() {
+        if ends_word(text[end]) {
+            return end;
+        }
+    }
+    start
+}
+
+// The same by a table of how each byte stands to a word, which is less work where words are short.
+pub fn word_stop_by(text: &[u8], start: usize, table: &[u8; 256]) -> usize
+    requires { ⌜ now table ≡ word·bytes ⌝ }
+    ensures { λ r. ⌜ (start < r → Plain·word (now (text .entry)) start r) ⌝ }
+{
+    let mut i = start;
+    while i < text.len() {
+        let stands = entry_of(table, text[i]);
+        if stands != 1 {
+            if stands == 2 {
+                return i;
+            }
+            return start;
+        }
+        i += 1;
+    }
+    start
 }
