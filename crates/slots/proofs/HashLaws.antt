@@ -1,17 +1,21 @@
 -- Names that are alike have one number. Assumes nothing.
-use Prim.Native.Nat.{ℕ, _<_}
+use Prim.Native.Nat.{ℕ, suc, _+_, _-_, _≤_, _<_}
 use Rattle.lexer.proofs.Basics.{and-left, and-right}
+use Rattle.lexer.proofs.ListLaws.{drop-next}
 use Rattle.lexer.proofs.Yielded.{Yields·byte}
 use Rattle.lexer.specs.Base.{pick, alike, lower}
 use Rattle.lexer.specs.Bytes.{left}
+use Rattle.lexer.specs.PlainWords.{part}
 use Rattle.lexer.specs.Words.{spaced}
 use Rattle.lexer.specs.declared.Cursor.{Cursor}
 use Rattle.slots.specs.Hashes.{mixed, hash·from, hash}
 use borrow.Author.Tests.{eqb-true}
 use lib.Dec.{eqb}
+use lib.ListN.{length, getD}
 use mathlib.Core.Bool.{true, false, false≢true}
 use mathlib.Core.List.{List, [], _∷_}
 use mathlib.Core.Path.{_≡_, refl, sym, _∙_}
+use native.Mathlib.Omega.{arith}
 
 alike-mixed : (h a b : ℕ) → lower a ≡ lower b → mixed h a ≡ mixed h b
 unfolding mixed
@@ -43,3 +47,23 @@ module _ (text : List ℕ) (c d : Cursor) (h : ℕ) (k : Hashing text c d h) whe
   pub hashing-end : left text d ≡ [] → h ≡ hash (spaced (left text c))
   unfolding spaced hash·from
   hashing-end e = sym (rw e) ∙ k .rest
+
+-- The same of a run of bytes: the number of those from a place on, behind that of those in front of it, is the number of all.
+pub record Hashing·run (text : List ℕ) (from end i h : ℕ) : Type 0 where
+  pub small : h < 4294967296
+  pub ahead : i ≤ end
+  pub rest : hash·from h (spaced (part text i end)) ≡ hash (spaced (part text from end))
+
+module _ (text : List ℕ) (from end i h : ℕ) (k : Hashing·run text from end i h) where
+  pub run-turn : i < end → end ≤ length text → (g : ℕ) → (g ≡ mixed h (pick (eqb (getD text i 0) 95) 32 (getD text i 0))) × (g < 4294967296) → Hashing·run text from end (i + 1) g
+  unfolding spaced hash·from
+  run-turn lt le g m =
+      let one : end - i ≡ suc (end - (i + 1)) = omega arith in
+      let first : part text i end ≡ getD text i 0 ∷ part text (i + 1) end = rw (one, drop-next text i (omega arith)) refl in
+      record { small = m .1; ahead = omega arith; rest = rw (m .0) (sym (rw first) ∙ k .rest) }
+
+  pub run-end : end ≤ i → h ≡ hash (spaced (part text from end))
+  unfolding spaced hash·from
+  run-end le =
+      let none : end - i ≡ 0 = omega arith in
+      sym (rw none) ∙ k .rest
