@@ -8,17 +8,18 @@ use Rattle.lexer.proofs.Yielded.{Yields·byte}
 use Rattle.lexer.specs.Base.{pick}
 use Rattle.lexer.specs.Bytes.{front·at, left}
 use Rattle.lexer.specs.Lexing.{token·at}
+use Rattle.lexer.specs.PlainWords.{Plain·word, part}
 use Rattle.lexer.specs.Stored.{word·of}
 use Rattle.lexer.specs.Words.{punct, word?}
 use Rattle.lexer.specs.declared.Cursor.{Cursor}
 use Rattle.lexer.specs.declared.Kind.{Kind}
-use Rattle.matrix.specs.RowShape.{coded, symbols·coded}
-use Rattle.matrix.specs.WholeSets.{Plain·word, part}
+use Rattle.matrix.specs.RowShape.{All·coded, coded, symbols·coded}
 use Rattle.matrix.specs.declared.matrix.Cells.{Cells}
 use borrow.Author.Tests.{eq-eqb, ne-eqb}
 use lib.Dec.{eqb, ltb}
 use lib.ListN.{length, getD, take, drop, length-take, length-drop}
-use mathlib.Core.Bool.{Bool, true, false, _&&_}
+use lib.Seq.{length-take-le}
+use mathlib.Core.Bool.{Bool, true, false, _&&_, false≢true, true≢false}
 use mathlib.Core.List.{List, [], _∷_, _++_}
 use mathlib.Core.Path.{_≡_, refl, sym, ap, _∙_}
 use native.Mathlib.Omega.{arith}
@@ -71,6 +72,32 @@ module _ (text codes : List ℕ) (from end count : ℕ) (all : Bool) where
     pub running-end : end ≤ i → Cells.Some n states ≡ coded codes count all (take (end - from) (drop from text))
     unfolding coded
     running-end h = let none : end - i ≡ 0 = omega arith in sym (rw none) ∙ k .rest
+
+-- All symbols from a place up to another are cells: how many they are, and what the rest comes to behind them.
+pub record All·running (text codes : List ℕ) (from end i : ℕ) : Type 0 where
+  pub states : Bool
+  pub running : Running text codes from end 0 true (i - from) states i
+
+module _ (text codes : List ℕ) (from end : ℕ) where
+  pub all-start : from ≤ end → All·running text codes from end from
+  all-start h = let none : from - from ≡ 0 = omega arith in record { states = true; running = rw none (running-start text codes from end 0 true (omega arith) h) }
+
+  module _ (i : ℕ) (k : All·running text codes from end i) where
+    pub all-turn : i < end → i < length text → (getD codes (getD text i 0) 0 ≡ 255 → ⊥) → All·running text codes from end (i + 1)
+    all-turn h here ne =
+        let within = k .running .within in
+        let one : i - from + 1 ≡ i + 1 - from = omega arith in
+        record { states = k .states && ltb (getD codes (getD text i 0) 0) 96; running = rw one at (running-turn text codes from end 0 true (i - from) (k .states) i (k .running) h here ne) }
+
+    pub all-over : i < end → i < length text → getD codes (getD text i 0) 0 ≡ 255 → All·coded codes (part text from end) false
+    all-over h here e =
+        record { cells = λ f. absurd (false≢true f); wrong = λ f. sym (running-wrong text codes from end 0 true (i - from) (k .states) i (k .running) h here e) }
+
+    pub all-end : end ≤ i → end ≤ length text → All·coded codes (part text from end) true
+    all-end h le =
+        let within = k .running .within in
+        let size : length (part text from end) ≡ i - from = length-take-le (end - from) (drop from text) (rw (length-drop from text) (omega arith)) ∙ omega arith in
+        record { cells = λ t. (k .states, rw size (sym (running-end text codes from end 0 true (i - from) (k .states) i (k .running) h))); wrong = λ f. absurd (true≢false f) }
 
 -- So many cells, and what is left of the text behind them, come to what all comes to; each took a byte of the text.
 pub record Coding (text codes : List ℕ) (start n : ℕ) (states : Bool) (c : Cursor) : Type 0 where

@@ -1,29 +1,30 @@
 -- The turns of a row: one word, or the three of a whole set. Assumes nothing.
 use Prim.Native.Nat.{ℕ, _+_, _-_, _^_, _≤_, _<_}
 use Rattle.block.specs.Commands.{newline}
-use Rattle.block.specs.Outcome.{Outcome, done}
+use Rattle.block.specs.Outcome.{Outcome, done, refused}
 use Rattle.block.specs.declared.kinds.Bracket.{Bracket}
 use Rattle.lexer.proofs.Basics.{or-left, or-right}
 use Rattle.lexer.specs.Base.{pick}
+use Rattle.lexer.specs.PlainWords.{Plain·word, part}
 use Rattle.lexer.specs.Stored.{word·of}
 use Rattle.lexer.specs.Words.{Numbered, mark?, punct}
 use Rattle.lexer.specs.declared.Kind.{Kind}
-use Rattle.matrix.proofs.CellWalk.{coded-behind, symbols-told}
+use Rattle.lexer.specs.declared.refusal.Refusal.{Refusal}
+use Rattle.matrix.proofs.CellWalk.{symbols-told}
 use Rattle.matrix.proofs.SetLaws.{open-line, states-line, close-line, open-shape, states-shape, close-shape}
-use Rattle.matrix.specs.RowShape.{chunk·shape, coded, plain·with, symbols·coded}
+use Rattle.matrix.specs.RowShape.{All·coded, chunk·shape, coded, plain·with, symbols·coded}
 use Rattle.matrix.specs.SequentialShape.{Cells·passed, Told·cells, Turns, grown·shape, last, nothing·told, on, set·told, turn·shape, word·told}
-use Rattle.matrix.specs.WholeSets.{Plain·word, Whole·set, part}
-use Rattle.matrix.specs.declared.matrix.Cells.{Cells}
+use Rattle.matrix.specs.WholeSets.{Whole·set}
 use Rattle.matrix.specs.declared.matrix.Chunk.{Chunk}
 use Rattle.matrix.specs.declared.matrix.Sequence.{Sequence}
 use Rattle.matrix.specs.declared.matrix.Turned.{Turned}
 use borrow.Author.Tests.{eqb-false, le-ltb, leb-false, ltb-false, ne-eqb}
 use lib.Dec.{eqb, leb, ltb}
-use lib.ListN.{length, getD, take, drop, length-take}
+use lib.ListN.{length, getD, drop, length-drop}
+use lib.Seq.{length-take-le}
 use mathlib.Core.Bool.{Bool, true, false, _||_}
-use mathlib.Core.List.{List, []}
+use mathlib.Core.List.{List}
 use mathlib.Core.Path.{_≡_, refl, sym, ap, _∙_}
-use native.Mathlib.Nat.{min-le-left}
 use native.Mathlib.Omega.{arith}
 
 module _ (text work codes : List ℕ) (to taxa characters : ℕ) (names : List (List ℕ)) where
@@ -104,15 +105,24 @@ plain-shaped : (codes : List ℕ) (n : ℕ) (w : Numbered) → w .token .kind �
 unfolding chunk·shape punct mark? pick
 plain-shaped codes n w e = rw e refl
 
-pub word-cells-told : (text work codes : List ℕ) (to n i start end : ℕ) → start ≡ getD work i 0 → Plain·word text start end → (k : ℕ) (all : Bool)
-    → Cells.Some k all ≡ coded codes 0 true (part text start end) → Told·cells text work codes to n i (n + k) (i + 1)
-unfolding plain·with word·of
-word-cells-told text work codes to n i start end at w k all e =
-    let same = sym (symbols-told text work codes i start at end w) ∙ sym e in
-    let kind : word·of text work i .token .kind ≡ Kind.Word = rw (← at) (ap (λ t. t .kind) (w .told)) in
-    word·told {cells = n + k} (plain-shaped codes n (word·of text work i) kind ∙ ap (plain·with n i) same)
+-- The bytes from a place up to an end, and a row behind them.
+pub part-size : (text : List ℕ) (start end : ℕ) → end ≤ length text → length (part text start end) ≡ end - start
+part-size text start end h = length-take-le (end - start) (drop start text) (rw (length-drop start text) (omega arith))
 
--- It has no more cells than the text has bytes.
-pub part-few : (text codes : List ℕ) (start end k : ℕ) (all : Bool) → end ≤ length text → Cells.Some k all ≡ coded codes 0 true (part text start end) → k ≤ length text
-part-few text codes start end k all h e =
-    omega (arith, coded-behind codes (part text start end) [] 0 true k all (sym e) .1, length-take (end - start) (drop start text), min-le-left (end - start) (length (drop start text)))
+pub all-shape : (codes : List ℕ) (n i : ℕ) (l : List ℕ) (k : ℕ) → length l ≡ k → All·coded codes l true → plain·with n i (coded codes 0 true l) ≡ done (Chunk.Plain (n + k))
+unfolding plain·with
+all-shape codes n i l k e all = let told = all .cells refl in rw (told .1, e) refl
+
+pub wrong-shape : (codes : List ℕ) (n i : ℕ) (l : List ℕ) → All·coded codes l false → plain·with n i (coded codes 0 true l) ≡ refused Refusal.CellSymbol i
+unfolding plain·with
+wrong-shape codes n i l all = rw (all .wrong refl) refl
+
+module _ (text work codes : List ℕ) (i start end : ℕ) (at : start ≡ getD work i 0) (w : Plain·word text start end) where
+  pub word-shape : (n : ℕ) → plain·with n i (coded codes 0 true (part text start end)) ≡ chunk·shape codes (Chunk.Plain n) (word·of text work i)
+  unfolding word·of
+  word-shape n =
+      let kind : word·of text work i .token .kind ≡ Kind.Word = rw (← at) (ap (λ t. t .kind) (w .told)) in
+      ap (plain·with n i) (symbols-told text work codes i start at end w) ∙ sym (plain-shaped codes n (word·of text work i) kind)
+
+  pub word-cells-told : (to n : ℕ) → All·coded codes (part text start end) true → Told·cells text work codes to n i (n + (end - start)) (i + 1)
+  word-cells-told to n all = word·told (sym (word-shape n) ∙ all-shape codes n i (part text start end) (end - start) (part-size text start end (w .within)) all)

@@ -11,8 +11,9 @@ use Rattle.matrix.specs.declared.matrix.Chunk.{Chunk}
 use Rattle.matrix.specs.declared.matrix.Chunked.{Chunked}
 use lib.Dec.{eqb, ltb}
 use lib.ListN.{length, getD}
-use mathlib.Core.Bool.{Bool, true, _&&_, _||_}
+use mathlib.Core.Bool.{Bool, true, false, _&&_, _||_}
 use mathlib.Core.List.{List, [], _∷_}
+use mathlib.Core.Path.{_≡_}
 
 -- The shape of a row.
 unfoldable pub shape : Row → Chunk
@@ -31,6 +32,11 @@ coded codes n states (b ∷ r) =
     let c = getD codes b 0 in
     let more = coded codes (n + 1) (states && ltb c 96) r in
     pick (eqb c 255) Cells.Wrong more
+
+-- What is told of symbols by a test of them all: each is a cell, or one of them is no symbol.
+pub record All·coded (codes l : List ℕ) (r : Bool) : Type 0 where
+  pub cells : r ≡ true → (states : Bool) × (coded codes 0 true l ≡ Cells.Some (length l) states)
+  pub wrong : r ≡ false → coded codes 0 true l ≡ Cells.Wrong
 
 -- The symbols of a word. Besides a word only the mark `+` can be a symbol.
 unfoldable pub symbols·coded : List ℕ → Numbered → Cells

@@ -1,41 +1,21 @@
--- Words and sets that are told by their bytes at once: a word of plain bytes, and a set whose states are one word, rising and below 10.
-use Prim.Native.Nat.{ℕ, _+_, _-_, _≤_, _<_}
+-- Sets that are told by their bytes at once: their states are one word of letters and digits, rising and below 10. Words that are told so stand in the
+-- lexer's PlainWords.antt.
+use Prim.Native.Nat.{ℕ, _+_, _<_}
 use Rattle.block.specs.Chunk.{closer}
 use Rattle.block.specs.declared.kinds.Bracket.{Bracket}
 use Rattle.lexer.specs.Base.{pick, byte}
-use Rattle.lexer.specs.ByteBlocks.{plain?}
-use Rattle.lexer.specs.Lexing.{token·at}
+use Rattle.lexer.specs.PlainWords.{part, word·token}
 use Rattle.lexer.specs.Stored.{word·of}
-use Rattle.lexer.specs.Tokens.{Token}
 use Rattle.lexer.specs.declared.Kind.{Kind}
 use lib.Dec.{eqb, leb, ltb}
-use lib.ListN.{length, getD, take, drop}
+use lib.ListN.{length, getD}
 use mathlib.Core.Bool.{Bool, true, _&&_, _||_}
 use mathlib.Core.List.{List, [], _∷_}
 use mathlib.Core.Path.{_≡_}
 
--- Is the byte one of those that end most words: a newline, a blank, a bracket of a set, `;`?
-unfoldable pub ends? : ℕ → Bool
-ends? b =
-    eqb b (byte "\n") || eqb b (byte "\r") || eqb b (byte " ")
-    || (eqb b (byte "(") || eqb b (byte ")") || eqb b (byte ";") || eqb b (byte "{") || eqb b (byte "}"))
-
 -- Is the byte a letter or a digit?
 unfoldable pub simple? : ℕ → Bool
 simple? b = (leb (byte "0") b && leb b (byte "9")) || (leb (byte "A") b && leb b (byte "Z")) || (leb (byte "a") b && leb b (byte "z"))
-
--- A word with this text.
-abbrev pub word·token : List ℕ → Token
-word·token text = record { kind = Kind.Word; text = text }
-
--- The bytes of a text from a place up to an end.
-abbrev pub part : List ℕ → ℕ → ℕ → List ℕ
-part text from end = take (end - from) (drop from text)
-
--- The token at a place is a word, the bytes up to an end.
-pub record Plain·word (text : List ℕ) (start end : ℕ) : Type 0 where
-  pub within : end ≤ length text
-  pub told : token·at text start ≡ word·token (part text start end)
 
 -- Are these bytes letters or digits whose codes are states below 10, rising, the first of them no less than a number?
 unfoldable pub rising : List ℕ → ℕ → List ℕ → Bool

@@ -4,10 +4,11 @@ ghost use Prim.Native.Nat.{ℕ, _+_, _-_, _^_, _≤_, _<_};
 ghost use Rattle.block.specs.Chunk.{closer};
 ghost use Rattle.block.specs.Names.{known};
 ghost use Rattle.lexer.specs.Lexing.{token·at};
+ghost use Rattle.lexer.specs.PlainWords.{part, word·bytes};
 ghost use Rattle.lexer.specs.Stored.{word·of};
 ghost use Rattle.matrix.specs.Lines.{Rows·room, name·at, names·stored, stored};
 ghost use Rattle.matrix.specs.RowIndex.{Rows·tabled};
-ghost use Rattle.matrix.specs.RowShape.{coded, symbols·coded, chunk·shape, chunked·of, so·far};
+ghost use Rattle.matrix.specs.RowShape.{All·coded, chunk·shape, chunked·of, coded, plain·with, so·far, symbols·coded};
 ghost use Rattle.matrix.specs.SequentialShape.{Cells·passed, Rows·read, Told·cells, Turns, begun·shape, cells·of·row, end·shape, grown·shape};
 ghost use Rattle.slots.specs.Filling.{Table·fits};
 ghost use lib.ListN.{length, getD, take, drop};
@@ -19,7 +20,6 @@ ghost use mathlib.Core.Path.{_≡_};
 use super::index::put_row;
 use super::index::row_found;
 use super::sets::set_closes;
-use super::sets::word_stop;
 use block::Bracket;
 use block::Index;
 use block::named;
@@ -28,11 +28,15 @@ use block::punct;
 use lexer::Item;
 use lexer::Kind;
 use lexer::Refusal;
+use lexer::entry_of;
 use lexer::kind_at;
 use lexer::next_byte;
 use lexer::plain_run;
 use lexer::start_of;
 use lexer::text_start;
+use lexer::word_bytes;
+use lexer::word_stop;
+use lexer::word_stop_by;
 use slots::Table;
 use slots::free_table;
 
@@ -85,13 +89,6 @@ pub enum Rows {
     Refused(Refusal, usize),
 }
 
-// The code of a byte.
-pub fn code_of(codes: &[u8; 256], b: u8) -> u8
-    ensures { λ r. ⌜ r ≡ getD (now (codes .entry)) b 0 ⌝ }
-{
-    codes[b as usize]
-}
-
 // What the symbols of a text from a place up to an end come to behind so many cells, by their codes.
 fn run_cells(
     text: &[u8],
@@ -108,7 +105,7 @@ fn run_cells(
     let mut states = all;
     let mut i = from;
     while i < end {
-        let code = code_of(codes, text[i]);
+        let code = entry_of(codes, text[i]);
         if code == 255 {
             return Cells::Wrong;
         }
@@ -117,6 +114,21 @@ fn run_cells(
         i += 1;
     }
     Cells::Some(n, states)
+}
+
+// Are the symbols of a text from a place up to an end all cells?
+fn all_cells(text: &[u8], from: usize, end: usize, codes: &[u8; 256]) -> bool
+    requires { ⌜ (from ≤ end) × (end ≤ length (now text)) ⌝ }
+    ensures { λ r. ⌜ All·coded (now (codes .entry)) (part (now (text .entry)) from end) r ⌝ }
+{
+    let mut i = from;
+    while i < end {
+        if entry_of(codes, text[i]) == 255 {
+            return false;
+        }
+        i += 1;
+    }
+    true
 }
 
 // What the symbols of a token's text come to, by their codes: a run of plain bytes, then the next byte, and so on.
@@ -132,7 +144,7 @@ fn word_cells(text: &[u8], start: usize, codes: &[u8; 256]) -> Cells
         match run_cells(text, from, run.at, codes, n, states) {
             Cells::Some(k, all) => match next_byte(text, run) {
                 Item::Byte(b, d) => {
-                    let code = code_of(codes, b);
+                    let code = entry_of(codes, b);
                     if code == 255 {
                         return Cells::Wrong;
                     }
@@ -181,11 +193,34 @@ fn closer(kind: Bracket) -> u8
     }
 }
 
-// A row of so many cells with one token more: a set opens, or the cells of a word follow.
+// A row of so many cells behind the word of an index that is the bytes of a text from a place up to an end.
+fn told_chunk(
+    text: &[u8],
+    start: usize,
+    end: usize,
+    codes: &[u8; 256],
+    n: usize,
+    i: usize,
+) -> Chunked
+    requires { ⌜ (start ≤ end) × (end ≤ length (now text)) × (n ≤ 2 ^ 41) ⌝ }
+    ensures { λ r. ⌜ chunked·of r ≡ plain·with n i (coded (now (codes .entry)) 0 true (part (now (text .entry)) start end)) ⌝ }
+{
+    if all_cells(text, start, end, codes) {
+        return Chunked::Row(Chunk::Plain(n + (end - start)));
+    }
+    Chunked::Refused(Refusal::CellSymbol, i)
+}
+
+// A row of so many cells with one token more: a set opens, or the cells of a word follow. Most words are told at once by their bytes.
 fn plain_chunk(text: &[u8], work: &[u32], i: usize, codes: &[u8; 256], n: usize) -> Chunked
     requires { ⌜ n ≤ 2 ^ 41 ⌝ }
     ensures { λ r. ⌜ chunked·of r ≡ chunk·shape (now (codes .entry)) (Chunk.Plain n) (word·of (now (text .entry)) (now (work .entry)) i) ⌝ }
 {
+    let start = start_of(work, i);
+    let end = word_stop(text, start);
+    if start < end {
+        return told_chunk(text, start, end, codes, n, i);
+    }
     if punct(text, work, i, 123) {
         return Chunked::Row(Chunk::Within(n, Bracket::Brace, i, true));
     }
@@ -318,28 +353,36 @@ fn sequential_end(line: Sequence, taxa: u64, head: usize, rows: usize) -> Rows
 }
 
 // A row of so many cells behind the word of an index, or behind the three of a whole set, where they are told by their bytes at once; else the row itself.
-fn told_cells(text: &[u8], work: &[u32], i: usize, to: usize, codes: &[u8; 256], n: usize) -> Passed
-    requires { ⌜ (i < to) × (n ≤ 2 ^ 41) ⌝ }
+fn told_cells(
+    text: &[u8],
+    work: &[u32],
+    i: usize,
+    to: usize,
+    codes: &[u8; 256],
+    n: usize,
+    table: &[u8; 256],
+) -> Passed
+    requires { ⌜ (i < to) × (n ≤ 2 ^ 41) × (now table ≡ word·bytes) ⌝ }
     ensures { λ r. ⌜ Told·cells (now (text .entry)) (now (work .entry)) (now (codes .entry)) to n i (r .cells) (r .next) ⌝ }
 {
+    let start = start_of(work, i);
+    let end = word_stop_by(text, start, table);
+    if start < end {
+        if all_cells(text, start, end, codes) {
+            return Passed {
+                cells: n + (end - start),
+                next: i + 1,
+            };
+        }
+        return Passed { cells: n, next: i };
+    }
     if set_closes(text, work, i, to, codes) != 0 {
         return Passed {
             cells: n + 1,
             next: i + 3,
         };
     }
-    let start = start_of(work, i);
-    let end = word_stop(text, start);
-    if end <= start {
-        return Passed { cells: n, next: i };
-    }
-    match run_cells(text, start, end, codes, 0, true) {
-        Cells::Some(k, _) => Passed {
-            cells: n + k,
-            next: i + 1,
-        },
-        Cells::Wrong => Passed { cells: n, next: i },
-    }
+    Passed { cells: n, next: i }
 }
 
 // A row behind words and whole sets that are told by their bytes at once, as long as cells are lacking behind each and another word follows.
@@ -355,10 +398,11 @@ fn pass_told(
     requires { ⌜ (from < to) × (count ≤ 2 ^ 41) ⌝ }
     ensures { λ r. ⌜ Cells·passed (now (text .entry)) (now (work .entry)) (now (codes .entry)) to characters count from (r .cells) (r .next) ⌝ }
 {
+    let table = word_bytes();
     let mut n = count;
     let mut i = from;
     loop {
-        let told = told_cells(text, work, i, to, codes, n);
+        let told = told_cells(text, work, i, to, codes, n, &table);
         let cells = told.cells;
         let next = told.next;
         if (next == i) | (characters <= cells as u64) | (to <= next) | (2199023255552 < cells) {
@@ -370,6 +414,44 @@ fn pass_told(
         n = cells;
         i = next;
     }
+}
+
+// May the word of an index fill a row of so many cells? It has no more bytes than lie in front of the next token.
+fn fills_row(work: &[u32], i: usize, characters: u64, n: usize) -> bool
+    requires { ⌜ i < 18446744073709551615 ⌝ }
+{
+    let start = start_of(work, i);
+    let next = start_of(work, i + 1);
+    let count = n as u64;
+    if next < start {
+        return true;
+    }
+    if characters < count {
+        return true;
+    }
+    characters - count <= (next - start) as u64
+}
+
+// The same, but for a word that may be the last of its row, which need not be looked at twice.
+fn pass_words(
+    text: &[u8],
+    work: &[u32],
+    from: usize,
+    to: usize,
+    characters: u64,
+    codes: &[u8; 256],
+    count: usize,
+) -> Passed
+    requires { ⌜ (from < to) × (count ≤ 2 ^ 41) ⌝ }
+    ensures { λ r. ⌜ Cells·passed (now (text .entry)) (now (work .entry)) (now (codes .entry)) to characters count from (r .cells) (r .next) ⌝ }
+{
+    if fills_row(work, from, characters, count) {
+        return Passed {
+            cells: count,
+            next: from,
+        };
+    }
+    pass_told(text, work, from, to, characters, codes, count)
 }
 
 // One word more of a row whose name has an index; or several at once, where they are told by their bytes.
@@ -388,7 +470,7 @@ fn row_turn(
 {
     match row {
         Chunk::Plain(n) => {
-            let passed = pass_told(text, work, i, to, characters, codes, n);
+            let passed = pass_words(text, work, i, to, characters, codes, n);
             let cells = passed.cells;
             let last = passed.next;
             if set_closes(text, work, last, to, codes) == 0 {

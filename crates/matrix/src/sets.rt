@@ -1,24 +1,14 @@
-// Words and sets that are told by their bytes at once.
+// Sets that are told by their bytes at once.
 
 ghost use Prim.Native.Nat.{_+_, _<_, _≤_};
-ghost use Rattle.matrix.specs.WholeSets.{Plain·word, Set·bytes, Set·closed, bracket·of, ends?, part, rising, simple?};
+ghost use Rattle.lexer.specs.PlainWords.{part};
+ghost use Rattle.matrix.specs.WholeSets.{Set·bytes, Set·closed, bracket·of, rising, simple?};
 ghost use lib.ListN.{length, getD};
 ghost use mathlib.Core.Bool.{true};
 ghost use mathlib.Core.Path.{_≡_};
-use super::matrix::code_of;
 use block::Bracket;
-use lexer::Cursor;
-use lexer::Mode;
-use lexer::plain_run;
+use lexer::entry_of;
 use lexer::start_of;
-
-// Does the byte end a word, whatever comes next? Not all that do are told.
-fn ends_word(b: u8) -> bool
-    ensures { λ r. ⌜ r ≡ ends? b ⌝ }
-{
-    let bracket = (b == 40) | (b == 41) | (b == 59) | (b == 123) | (b == 125);
-    (b == 10) | (b == 13) | (b == 32) | bracket
-}
 
 // Is the byte a letter or a digit?
 fn simple(b: u8) -> bool
@@ -27,26 +17,6 @@ fn simple(b: u8) -> bool
     let digit = (48 <= b) & (b <= 57);
     let capital = (65 <= b) & (b <= 90);
     digit | capital | ((97 <= b) & (b <= 122))
-}
-
-// Where the word at a place ends, if it is of plain bytes alone and what ends it is told by one byte; else the place itself.
-pub fn word_stop(text: &[u8], start: usize) -> usize
-    ensures { λ r. ⌜ (start < r → Plain·word (now (text .entry)) start r) ⌝ }
-{
-    let run = plain_run(
-        text,
-        Cursor {
-            at: start,
-            mode: Mode::Word,
-        },
-    );
-    let end = run.at;
-    if end < text.len() {
-        if ends_word(text[end]) {
-            return end;
-        }
-    }
-    start
 }
 
 // The kind of a set by its opening mark.
@@ -68,7 +38,7 @@ fn states_end(text: &[u8], from: usize, codes: &[u8; 256]) -> usize
     let mut i = from;
     while i < text.len() {
         let b = text[i];
-        let code = code_of(codes, b);
+        let code = entry_of(codes, b);
         if (code < least) | (9 < code) | !simple(b) {
             return i;
         }

@@ -9,28 +9,28 @@ use native.Mathlib.Omega.{arith}
 enum-known-row : tie.Need-enum-known-row
 enum-known-row c = search needs
 
-pass-told-requires : tie.Need-pass-told-requires
+pass-words-requires : tie.Need-pass-words-requires
 unfolding so·far
-pass-told-requires c κs = (c .before .before .before .before .before .pre .0, rw (c .before .row .given .1) at (c .before .before .before .before .before .pre .1))
+pass-words-requires c κs = (c .before .before .before .before .before .pre .0, rw (c .before .row .given .1) at (c .before .before .before .before .before .pre .1))
 
 set-closes-requires : tie.Need-set-closes-requires
 set-closes-requires c κs = search needs
 
 plain-chunk-requires : tie.Need-plain-chunk-requires
-plain-chunk-requires c κs = c .before .before .pass-told .ensures .few
+plain-chunk-requires c κs = c .before .before .pass-words .ensures .few
 
 row-grown-requires : tie.Need-row-grown-requires
 row-grown-requires c κs = search needs
 
 add-t24 : tie.Need-add-t24
-add-t24 c = let below = c .before .before .before .before .pass-told .ensures .below in omega arith
+add-t24 c = let below = c .before .before .before .before .pass-words .ensures .below in omega arith
 
 returns : tie.Need-returns
 returns c =
-    λ taxa names. rw (c .before .before .before .before .before .before .row .given .1) (c .before .before .before .before .pass-told .ensures .goes _ taxa names _ _ (row-turns _ _ _ _ _ _ _ _ _ _ (c .before .plain-chunk .ensures) (c .row-grown .ensures)))
+    λ taxa names. rw (c .before .before .before .before .before .before .row .given .1) (c .before .before .before .before .pass-words .ensures .goes _ taxa names _ _ (row-turns _ _ _ _ _ _ _ _ _ _ (c .before .plain-chunk .ensures) (c .row-grown .ensures)))
 
 add-row-grown : tie.Need-add-row-grown
-add-row-grown c = let few = c .before .before .pass-told .ensures .few in omega arith
+add-row-grown c = let few = c .before .before .pass-words .ensures .few in omega arith
 
 add-row-grown-2 : tie.Need-add-row-grown-2
 add-row-grown-2 c =
@@ -65,7 +65,7 @@ unfolding chunked·of
 returns-2 c =
     let some = c .before .if1 .left in
     let whole = c .before .before .set-closes .ensures (omega (arith, some)) .whole in
-    λ taxa names. rw (c .before .before .before .before .before .row .given .1) (c .before .before .before .pass-told .ensures .goes _ taxa names _ _ (set-turns _ _ _ _ _ _ _ _ _ _ whole (c .row-grown2 .ensures)))
+    λ taxa names. rw (c .before .before .before .before .before .row .given .1) (c .before .before .before .pass-words .ensures .goes _ taxa names _ _ (set-turns _ _ _ _ _ _ _ _ _ _ whole (c .row-grown2 .ensures)))
 
 returns-3 : tie.Need-returns-3
 returns-3 c =
@@ -76,7 +76,7 @@ row-turn-spec =
     tie.close
     (tie.spec
     enum-known-row
-    pass-told-requires
+    pass-words-requires
     set-closes-requires
     plain-chunk-requires
     row-grown-requires

@@ -17,16 +17,16 @@ abbrev μ-loop : tie.MeasureT-loop
 loop-holds : tie.Need-loop-holds Inv-loop μ-loop
 loop-holds c = running-start _ _ _ _ _ _ (search needs) (search needs)
 
-shared-slice-read-code-of : tie.Need-shared-slice-read-code-of Inv-loop μ-loop
-shared-slice-read-code-of c = search needs
+shared-slice-read-entry-of : tie.Need-shared-slice-read-entry-of Inv-loop μ-loop
+shared-slice-read-entry-of c = search needs
 
-code-of-requires : tie.Need-code-of-requires Inv-loop μ-loop
-code-of-requires c κs = search needs
+entry-of-requires : tie.Need-entry-of-requires Inv-loop μ-loop
+entry-of-requires c κs = search needs
 
 returns : tie.Need-returns Inv-loop μ-loop
 returns c =
     let l = c .before .before .before in
-    running-wrong _ _ _ _ _ _ _ _ _ (l .before .loop .inv) (l .loop-test .taken) (omega arith) (sym (c .before .code-of .ensures) ∙ c .if1 .taken)
+    running-wrong _ _ _ _ _ _ _ _ _ (l .before .loop .inv) (l .loop-test .taken) (omega arith) (sym (c .before .entry-of .ensures) ∙ c .if1 .taken)
 
 add-n : tie.Need-add-n Inv-loop μ-loop
 add-n c = search needs
@@ -40,8 +40,8 @@ loop-less c = search needs
 loop-again : tie.Need-loop-again Inv-loop μ-loop
 loop-again c =
     let l = c .before .before .before in
-    rw (c .before .code-of .ensures)
-    (running-turn _ _ _ _ _ _ _ _ _ (l .before .loop .inv) (l .loop-test .taken) (omega arith) (λ e. c .if1 .left (c .before .code-of .ensures ∙ e)))
+    rw (c .before .entry-of .ensures)
+    (running-turn _ _ _ _ _ _ _ _ _ (l .before .loop .inv) (l .loop-test .taken) (omega arith) (λ e. c .if1 .left (c .before .entry-of .ensures ∙ e)))
 
 returns-2 : tie.Need-returns-2 Inv-loop μ-loop
 returns-2 c = running-end _ _ _ _ _ _ _ _ _ (c .before .loop .inv) (c .loop-test .left)
@@ -53,8 +53,8 @@ run-cells-spec =
     Inv-loop
     μ-loop
     loop-holds
-    shared-slice-read-code-of
-    code-of-requires
+    shared-slice-read-entry-of
+    entry-of-requires
     returns
     add-n
     add-i

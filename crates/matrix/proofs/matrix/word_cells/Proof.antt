@@ -61,13 +61,13 @@ next-byte-requires c κs = search needs
 enum-known-b : tie.Need-enum-known-b Inv-loop μ-loop
 enum-known-b c = search needs
 
-code-of-requires : tie.Need-code-of-requires Inv-loop μ-loop
-code-of-requires c κs = search needs
+entry-of-requires : tie.Need-entry-of-requires Inv-loop μ-loop
+entry-of-requires c κs = search needs
 
 returns : tie.Need-returns Inv-loop μ-loop
 returns c =
     let k = c .before .before in
-    coding-wrong _ _ _ _ _ _ (ran (k .before .before .before .before)) _ _ (read k) (sym (c .before .code-of .ensures) ∙ c .if1 .taken)
+    coding-wrong _ _ _ _ _ _ (ran (k .before .before .before .before)) _ _ (read k) (sym (c .before .entry-of .ensures) ∙ c .if1 .taken)
 
 add-n : tie.Need-add-n Inv-loop μ-loop
 add-n c =
@@ -82,8 +82,8 @@ loop-less c =
 loop-again : tie.Need-loop-again Inv-loop μ-loop
 loop-again c =
     let k = c .before .before in
-    rw (c .before .code-of .ensures)
-    (coding-turn _ _ _ _ _ _ (ran (k .before .before .before .before)) _ _ (read k) (λ e. c .if1 .left (c .before .code-of .ensures ∙ e)))
+    rw (c .before .entry-of .ensures)
+    (coding-turn _ _ _ _ _ _ (ran (k .before .before .before .before)) _ _ (read k) (λ e. c .if1 .left (c .before .entry-of .ensures ∙ e)))
 
 enum-told : tie.Need-enum-told Inv-loop μ-loop
 enum-told c = search needs
@@ -113,7 +113,7 @@ word-cells-spec =
     enum-known-k
     next-byte-requires
     enum-known-b
-    code-of-requires
+    entry-of-requires
     returns
     add-n
     loop-less

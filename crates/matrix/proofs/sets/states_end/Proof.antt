@@ -20,8 +20,8 @@ loop-holds c = rising-start (search needs)
 shared-slice-read-b : tie.Need-shared-slice-read-b Inv-loop μ-loop
 shared-slice-read-b c = search needs
 
-code-of-requires : tie.Need-code-of-requires Inv-loop μ-loop
-code-of-requires c κs = search needs
+entry-of-requires : tie.Need-entry-of-requires Inv-loop μ-loop
+entry-of-requires c κs = search needs
 
 simple-requires : tie.Need-simple-requires Inv-loop μ-loop
 simple-requires c κs = search needs
@@ -31,7 +31,7 @@ returns c = let k = c .before .before .before .before .before .loop .inv in (k .
 
 add-least : tie.Need-add-least Inv-loop μ-loop
 add-least c =
-    let t = state-told (c .before .before .code-of .result) (c .before .before .before .before .before .loop .least) (c .before .simple .result) (c .if1 .left) in
+    let t = state-told (c .before .before .entry-of .result) (c .before .before .before .before .before .loop .least) (c .before .simple .result) (c .if1 .left) in
     omega (arith, t .1)
 
 add-i : tie.Need-add-i Inv-loop μ-loop
@@ -43,8 +43,8 @@ loop-less c = search needs
 loop-again : tie.Need-loop-again Inv-loop μ-loop
 loop-again c =
     let l = c .before .before .before .before .before in
-    let t = state-told (c .before .before .code-of .result) (l .loop .least) (c .before .simple .result) (c .if1 .left) in
-    rising-turn (l .loop .inv) _ (c .before .before .code-of .ensures) (c .before .before .before .before .loop-test .taken) (t .0) (t .1) (sym (c .before .simple .ensures) ∙ t .2)
+    let t = state-told (c .before .before .entry-of .result) (l .loop .least) (c .before .simple .result) (c .if1 .left) in
+    rising-turn (l .loop .inv) _ (c .before .before .entry-of .ensures) (c .before .before .before .before .loop-test .taken) (t .0) (t .1) (sym (c .before .simple .ensures) ∙ t .2)
 
 returns-2 : tie.Need-returns-2 Inv-loop μ-loop
 returns-2 c = let k = c .before .loop .inv in (k .ahead, k .within, rising-end k)
@@ -57,7 +57,7 @@ states-end-spec =
     μ-loop
     loop-holds
     shared-slice-read-b
-    code-of-requires
+    entry-of-requires
     simple-requires
     returns
     add-least
