@@ -3,7 +3,7 @@
 //! crates/record/specs/Calls.antt. Where the archive was not there when this crate was built, a call
 //! panics and says so.
 //!
-//! ```no_run
+#![doc = example!()]
 //! let text = b"#NEXUS BEGIN DATA; DIMENSIONS NTAX=1 NCHAR=2; MATRIX a 01; END;";
 //! match nexus::read(text) {
 //!     Ok(record) => println!("{}", String::from_utf8_lossy(record.as_bytes())),
@@ -11,24 +11,63 @@
 //! }
 //! ```
 //!
-//! A record can be written as a text again, and has a taxon's cells by its name.
+//! A record says what it holds, part by part; it can be written as a text again, and has a taxon's
+//! cells by its name.
 //!
-//! ```no_run
-//! # fn main() -> Result<(), nexus::Refusal> {
-//! # let text = b"#NEXUS BEGIN DATA; DIMENSIONS NTAX=1 NCHAR=2; MATRIX a 01; END;";
+#![doc = example!()]
+//! use nexus::Cell;
+//! let text = b"#NEXUS BEGIN DATA; DIMENSIONS NTAX=1 NCHAR=2; MATRIX a 0?; END;";
 //! let record = nexus::read(text)?;
-//! assert_eq!(record.cells(b"A")?, b"0 1");
+//! for taxon in record.taxa() {
+//!     let missing = taxon.cells().filter(|cell| *cell == Cell::Missing).count();
+//!     println!("{}: {missing} of {} cells missing", taxon.name(), record.character_count());
+//! }
+//! assert_eq!(record.cells(b"A")?, b"0 m");
 //! assert_eq!(nexus::read(&record.write()?)?, record);
-//! # Ok(())
-//! # }
+//! # Ok::<(), nexus::Refusal>(())
 //! ```
+//!
+//! A host that allocates nothing lends the memory itself: see [`read_into`], [`write_into`],
+//! [`lookup`] and [`View`].
+
+#![deny(unsafe_code)]
+#![warn(missing_docs)]
+
+/// The line that opens an example of the documentation which makes a call. Where the archive is not
+/// linked the example is compiled, and not run.
+#[cfg(archive)]
+macro_rules! example {
+    () => {
+        "```"
+    };
+}
+#[cfg(not(archive))]
+macro_rules! example {
+    () => {
+        "```no_run"
+    };
+}
+use example;
+
+#[cfg(not(archive))]
+#[path = "absent.rs"]
+mod functions;
+#[cfg(archive)]
+#[allow(unsafe_code)]
+mod functions;
 
 pub mod archive;
 mod record;
 mod refusal;
+pub mod refusals;
+mod view;
 
 pub use record::Record;
 pub use refusal::Refusal;
+pub use view::{
+    Cell, Cells, Character, CharacterNumber, Characters, DataType, Ordering, State, StateLabels,
+    States, Symbols, Taxa, Taxon, TaxonNumber, Text, TextBytes, View,
+};
 
 /// The longest text that is read, and the longest form that is written, in bytes.
 pub const TEXT_LIMIT: usize = 1_048_576;

@@ -3,12 +3,17 @@
 use std::error::Error;
 use std::fmt;
 
+use crate::refusals;
+
 /// Why a call has refused what it was given, and where. Line and column count from 1; both are 0
 /// where the refusal has no place.
 #[derive(Clone, Copy, Debug, Eq, Hash, PartialEq)]
 pub struct Refusal {
+    /// Which of the 33 it is: see [`crate::refusals`].
     pub number: u32,
+    /// The line, counting from 1; 0 where there is no place.
     pub line: usize,
+    /// The column, counting from 1, in characters; 0 where there is no place.
     pub column: usize,
 }
 
@@ -32,6 +37,12 @@ impl Refusal {
             line: 0,
             column: 0,
         }
+    }
+
+    /// What is wrong, in a sentence.
+    pub fn sentence(&self) -> &'static str {
+        refusals::entry(self.number)
+            .map_or("The refusal has no such number.", |entry| entry.sentence)
     }
 
     /// What the number stands for, in a few words.
