@@ -5,6 +5,12 @@ use std::fmt;
 use crate::{Record, Refusal, lookup, read, read_into};
 
 /// A call, with all that it is given beside its text or record.
+///
+/// ```
+/// use nexus::refusals::{Call, entry};
+/// let entry = entry(33).expect("an entry");
+/// assert_eq!(entry.refused.call(), Call::Lookup("a_b"));
+/// ```
 #[derive(Clone, Copy, Debug, Eq, PartialEq)]
 pub enum Call {
     /// A text is read, with memory that is long enough.
@@ -22,7 +28,27 @@ pub enum Call {
     Lookup(&'static str),
 }
 
+impl fmt::Display for Call {
+    fn fmt(&self, f: &mut fmt::Formatter<'_>) -> fmt::Result {
+        match self {
+            Self::Read => write!(f, "a text to be read"),
+            Self::ReadInto { work, buffer } => write!(
+                f,
+                "a text to be read with {work} numbers of work memory and a buffer of {buffer} bytes"
+            ),
+            Self::Write => write!(f, "a record to be written"),
+            Self::Lookup(name) => write!(f, "a record in which `{name}` is looked up"),
+        }
+    }
+}
+
 /// An example: a call and its text or record. That may have a part that comes many times over.
+///
+/// ```
+/// use nexus::refusals::{Example, entry};
+/// let example: &Example = &entry(18).expect("an entry").refused;
+/// assert!(example.to_string().starts_with("#NEXUS\n"));
+/// ```
 #[derive(Clone, Copy, Debug, Eq, PartialEq)]
 pub struct Example {
     call: Call,
@@ -63,11 +89,21 @@ impl Example {
     }
 
     /// The call.
+    ///
+    /// ```
+    /// use nexus::refusals::{Call, entry};
+    /// assert_eq!(entry(18).expect("an entry").refused.call(), Call::Read);
+    /// ```
     pub fn call(&self) -> Call {
         self.call
     }
 
     /// The text or record, whole.
+    ///
+    /// ```
+    /// let entry = nexus::refusals::entry(1).expect("an entry");
+    /// assert_eq!(entry.refused.bytes().len(), nexus::TEXT_LIMIT + 1);
+    /// ```
     pub fn bytes(&self) -> Vec<u8> {
         let mut bytes = self.start.to_vec();
         bytes.resize(self.start.len() + self.times, self.filler);
@@ -76,6 +112,12 @@ impl Example {
     }
 
     /// Makes the call: the record, form or cells that it gives, or its refusal.
+    ///
+    #[doc = example!()]
+    /// let entry = nexus::refusals::entry(33).expect("an entry");
+    /// assert_eq!(entry.refused.ask(), Err(entry.refusal()));
+    /// assert_eq!(entry.mended.ask(), Ok(b"0".to_vec()));
+    /// ```
     pub fn ask(&self) -> Result<Vec<u8>, Refusal> {
         let bytes = self.bytes();
         match self.call {

@@ -1,13 +1,37 @@
 //! What each refusal means: its number, a sentence, the rules behind it, a small example that is
 //! refused so, and how to mend it. docs/REFUSALS.md is made of this table.
 
+/// These lines as a text, each ended by LF.
+macro_rules! lines {
+    ($($line:expr),+) => { concat!($($line, "\n"),+) };
+}
+
+/// A text with these lines in a DATA block.
+macro_rules! data {
+    ($($line:literal),+) => { lines!["#NEXUS", "BEGIN DATA;", $($line),+, "END;"] };
+}
+
+mod calls;
+mod characters;
+mod commands;
+mod declarations;
 mod example;
+mod matrix;
+mod page;
+mod whole;
 
 pub use example::{Call, Example};
+pub use page::page;
 
 use crate::Refusal;
 
 /// What there is to say of a number.
+///
+/// ```
+/// let entry: &nexus::refusals::Entry = nexus::refusals::entry(18).expect("an entry");
+/// println!("{}: {}", entry.title, entry.sentence);
+/// println!("{}", entry.refused);
+/// ```
 #[derive(Clone, Copy, Debug)]
 pub struct Entry {
     /// The number, from 1 to 33.
@@ -32,6 +56,11 @@ pub struct Entry {
 
 impl Entry {
     /// How its example is refused.
+    ///
+    #[doc = example!()]
+    /// let entry = nexus::refusals::entry(18).expect("an entry");
+    /// assert_eq!(entry.refused.ask(), Err(entry.refusal()));
+    /// ```
     pub fn refusal(&self) -> Refusal {
         let (line, column) = self.at;
         Refusal {
@@ -43,14 +72,33 @@ impl Entry {
 }
 
 /// The tables of the parts, in the order of the numbers.
-static PARTS: [&[Entry]; 0] = [];
+static PARTS: [&[Entry]; 6] = [
+    &whole::ENTRIES,
+    &commands::ENTRIES,
+    &declarations::ENTRIES,
+    &matrix::ENTRIES,
+    &characters::ENTRIES,
+    &calls::ENTRIES,
+];
+
+/// What there is to say of the place of a refusal that has none.
+const NOWHERE: &str = "None: line 0, column 0.";
 
 /// All entries, by rising numbers.
+///
+/// ```
+/// assert!(nexus::refusals::all().map(|entry| entry.number).eq(1..=33));
+/// ```
 pub fn all() -> impl Iterator<Item = &'static Entry> {
     PARTS.iter().copied().flatten()
 }
 
 /// The entry of a number, if it is one of the 33.
+///
+/// ```
+/// assert!(nexus::refusals::entry(33).is_some());
+/// assert!(nexus::refusals::entry(34).is_none());
+/// ```
 pub fn entry(number: u32) -> Option<&'static Entry> {
     all().find(|entry| entry.number == number)
 }
