@@ -98,7 +98,7 @@ impl fmt::Debug for Symbols<'_> {
 /// assert_eq!((state.number(), state.symbol()), (0, '0'));
 /// # Ok::<(), nexus::Refusal>(())
 /// ```
-#[derive(Clone, Copy, Debug, Eq, Hash, PartialEq)]
+#[derive(Clone, Copy, Eq, Hash, PartialEq)]
 pub struct State {
     number: u8,
     symbol: u8,
@@ -129,6 +129,15 @@ impl State {
     /// ```
     pub fn symbol(self) -> char {
         self.symbol.into()
+    }
+}
+
+impl fmt::Debug for State {
+    fn fmt(&self, f: &mut fmt::Formatter<'_>) -> fmt::Result {
+        f.debug_struct("State")
+            .field("number", &self.number)
+            .field("symbol", &self.symbol())
+            .finish()
     }
 }
 
