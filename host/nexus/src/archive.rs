@@ -10,13 +10,12 @@
 /// ```
 pub const LINKED: bool = cfg!(archive);
 
-/// What to say where it is not.
+/// What to say where it is not: what is missing, and how to make it.
 ///
 /// ```
-/// assert!(nexus::archive::NOT_LINKED.contains("rt staticlib nexus_c"));
+/// assert!(nexus::archive::NOT_LINKED.contains("target/staticlib/libnexus_c.a"));
 /// ```
-pub const NOT_LINKED: &str = "target/staticlib/libnexus_c.a is not there; \
-    `rt staticlib nexus_c` in the repository writes it";
+pub const NOT_LINKED: &str = env!("NEXUS_MISSING");
 
 /// Answers the length of the text's record, 0 where the text is refused. What the three numbers held
 /// before does not matter; afterwards they are the refusal's number, line and column.

@@ -70,8 +70,8 @@ pub(super) static ENTRIES: [Entry; 4] = [
             or the record has no other fault. The buffer is left as it was. Only a host that lends \
             the buffer itself can meet this refusal.",
         place: NOWHERE,
-        mend: "Lend a longer buffer. A record of a text of n bytes has at most 64n + 256 bytes, and \
-            a written form at most 1,048,576.",
+        mend: "Lend a longer buffer. A record of a text of n bytes has at most 64n + 256 bytes, \
+            and a written form at most 1,048,576.",
         refused: buffered(SMALL_RECORD.len() - 1),
         at: (0, 0),
         mended: buffered(SMALL_RECORD.len()),
@@ -82,9 +82,9 @@ pub(super) static ENTRIES: [Entry; 4] = [
         sentence: "These bytes are not the record of any text.",
         meaning: "A record to be written, or looked into, is one that the reading of some text can \
             have given, byte for byte: its lines in their order, each ended by LF; numbers without \
-            leading zeros; as many taxa, cells and states as its counts say; indices below the count \
-            of symbols, rising in a set; names as texts have them, all different. A count above \
-            1,048,576 is refused too.",
+            leading zeros; as many taxa, cells and states as its counts say; indices below the \
+            count of symbols, rising in a set; names as texts have them, all different. A count \
+            above 1,048,576 is refused too.",
         place: NOWHERE,
         mend: "Read the text again. Records are made by reading, and not to be changed by hand.",
         refused: Example::new(Call::Write, two_taxa!["taxa=3"]),
@@ -95,9 +95,9 @@ pub(super) static ENTRIES: [Entry; 4] = [
         number: 32,
         title: "the written form is too long",
         sentence: "The written form would be longer than 1,048,576 bytes.",
-        meaning: "The written form of a record is a text that has this record. It may be longer than \
-            the text that was read, since names stand in quotes, sets are written out and every \
-            character's type is named. A form that could not be read again is not written.",
+        meaning: "The written form of a record is a text that has this record. It may be longer \
+            than the text that was read, since names stand in quotes, sets are written out and \
+            every character's type is named. A form that could not be read again is not written.",
         place: NOWHERE,
         mend: "Part the matrix into several texts, and write each of their records.",
         refused: named(1_048_576),
@@ -109,8 +109,8 @@ pub(super) static ENTRIES: [Entry; 4] = [
         title: "no taxon has the name",
         sentence: "No taxon of the record has this name.",
         meaning: "A taxon is looked up by its name as it was read: a `_` of the text is a blank in \
-            it, quotes are no part of it, and it is not escaped as in the record. The case of ASCII \
-            letters does not matter.",
+            it, quotes are no part of it, and it is not escaped as in the record. The case of \
+            ASCII letters does not matter.",
         place: NOWHERE,
         mend: "Give the name with blanks for `_`, without quotes, and whole.",
         refused: sought("a_b"),

@@ -30,12 +30,14 @@ pub(super) static ENTRIES: [Entry; 4] = [
     Entry {
         number: 26,
         title: "label entry",
-        sentence: "An entry of labels is not right.",
+        sentence: "An entry of labels is empty, has a wrong number, lacks its `/`, labels a \
+            character again, or has more states than there are symbols.",
         meaning: "An entry of STATELABELS is a character's number and its states' labels; one of \
-            CHARSTATELABELS a number, a label, a `/` and states' labels, of which all but the number \
-            may be absent. Entries are parted by commas, and a comma may follow the last. The number \
-            is from 1 to NCHAR. A character gets its label once and its states' labels once, and no \
-            more of these than there are symbols. Labels are judged after the matrix was read.",
+            CHARSTATELABELS a number, a label, a `/` and states' labels, of which all but the \
+            number may be absent. Entries are parted by commas, and a comma may follow the last. \
+            The number is from 1 to NCHAR. A character gets its label once and its states' labels \
+            once, and no more of these than there are symbols. Labels are judged after the matrix \
+            was read.",
         place: "The entry's number; for an empty entry the command; for a word in place of `/` \
             that word; for a second label in CHARLABELS that label.",
         mend: "Give each character one entry, with a number that it has. A label of several words \
@@ -64,7 +66,8 @@ pub(super) static ENTRIES: [Entry; 4] = [
     Entry {
         number: 28,
         title: "character list",
-        sentence: "A list of characters is not right.",
+        sentence: "A list of characters is empty, or has a number, a range or a stride that is \
+            none.",
         meaning: "A list has numbers from 1 to NCHAR, `.` for the last, ALL, and ranges such as \
             `2-4` or `2-.`, each with a stride behind a `\\` if one is wanted. A range does not go \
             down, ALL is no end of one, and a stride is at least 1. Numbers in quotes, but for a \

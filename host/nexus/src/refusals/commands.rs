@@ -60,8 +60,8 @@ pub(super) static ENTRIES: [Entry; 8] = [
         meaning: "END and ENDBLOCK stand alone, and the block's name is not repeated. This is \
             judged before everything else about the command, in every block.",
         place: "The word END or ENDBLOCK.",
-        mend: "Take out what stands between END and its `;`. If that is the next block, the `;` \
-            is absent.",
+        mend: "Take out what stands between END and its `;`. If that is the next block, the `;` is \
+            absent.",
         refused: Example::text(lines![
             "#NEXUS",
             "BEGIN DATA;",
@@ -95,8 +95,8 @@ pub(super) static ENTRIES: [Entry; 8] = [
         title: "block repeated, misplaced or unsupported",
         sentence: "This block is repeated, stands in the wrong place, or is not supported.",
         meaning: "The blocks are TAXA (once, before the matrix), DATA or CHARACTERS (one of the \
-            two, once), ASSUMPTIONS (once, after the matrix) and TREES, which is passed over and may \
-            stand anywhere. All others are refused, since what they say could change what the \
+            two, once), ASSUMPTIONS (once, after the matrix) and TREES, which is passed over and \
+            may stand anywhere. All others are refused, since what they say could change what the \
             matrix means. A block's name is a plain word, not in quotes.",
         place: "The block's name.",
         mend: "Take the block out, or bring the blocks into this order: TAXA, DATA, ASSUMPTIONS.",
@@ -136,8 +136,8 @@ pub(super) static ENTRIES: [Entry; 8] = [
         title: "a needed command, dimension or matrix is absent",
         sentence: "A command, a dimension or the matrix is needed here, and absent.",
         meaning: "MATRIX needs DIMENSIONS before it, with NCHAR, and with NTAX unless taxa were \
-            declared; NEWTAXA needs NTAX. A TAXA block needs DIMENSIONS with NTAX, and \
-            TAXLABELS. A DATA or CHARACTERS block needs MATRIX, and a text one such block.",
+            declared; NEWTAXA needs NTAX. A TAXA block needs DIMENSIONS with NTAX, and TAXLABELS. \
+            A DATA or CHARACTERS block needs MATRIX, and a text one such block.",
         place: "The word MATRIX; for a TAXA block the word DIMENSIONS, if NTAX is absent, or the \
             block's name; for an absent MATRIX the block's name; for an absent block the word \
             #NEXUS.",

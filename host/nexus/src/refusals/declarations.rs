@@ -13,8 +13,8 @@ pub(super) static ENTRIES: [Entry; 7] = [
         meaning: "DIMENSIONS takes NTAX, NCHAR and NEWTAXA, each once, and in a TAXA block only \
             NTAX. A value is a number from 1 to 2^64 - 1. A sign before it makes it none, unless \
             it is a `+` in the same quotes.",
-        place: "The option, or the value if that is at fault. For NCHAR or NEWTAXA in a TAXA \
-            block the word DIMENSIONS.",
+        place: "The option, or the value if that is at fault. For NCHAR or NEWTAXA in a TAXA block \
+            the word DIMENSIONS.",
         mend: "Give each option once, with a number of at least 1.",
         refused: Example::text(data!["DIMENSIONS NTAX=0 NCHAR=2;", "MATRIX a 01;"]),
         at: (3, 17),
@@ -23,7 +23,7 @@ pub(super) static ENTRIES: [Entry; 7] = [
     Entry {
         number: 16,
         title: "a count differs from what was declared",
-        sentence: "There are more or fewer than were declared.",
+        sentence: "A count of taxa, rows, cells, labels or types differs from what was declared.",
         meaning: "These counts must agree: the taxa of TAXLABELS and the rows of the matrix with \
             NTAX, or with the declared taxa where NTAX is absent; the lines of an interleaved page \
             with the taxa; the cells of all pages together with NCHAR; the labels of CHARLABELS \
@@ -51,10 +51,10 @@ pub(super) static ENTRIES: [Entry; 7] = [
         number: 17,
         title: "not a name",
         sentence: "A name should stand here: a word, or text in single quotes.",
-        meaning: "The name of a taxon or a label is a plain word or text in single quotes. It is \
-            neither empty nor all blank, and not in double quotes. These end a plain word and are \
-            no part of it: blanks, quotes, `( ) { } ] / \\ , ; : = * < > ^ +` and the backquote. \
-            Names are parted by blanks, not by commas.",
+        meaning: "The name of a taxon or a TYPESET, or a label, is a plain word or text in single \
+            quotes. It is neither empty nor all blank, and not in double quotes. These end a plain \
+            word and are no part of it: blanks, quotes, `( ) { } ] / \\ , ; : = * < > ^ +` and the \
+            backquote. Names are parted by blanks, not by commas.",
         place: "What stands in place of the name.",
         mend: "Write the name in single quotes, or take out the comma.",
         refused: Example::text(data![
@@ -78,8 +78,8 @@ pub(super) static ENTRIES: [Entry; 7] = [
         title: "taxon twice",
         sentence: "A taxon has this name already.",
         meaning: "The names of taxa differ, in TAXLABELS and in the rows. The case of ASCII \
-            letters makes no difference between two names, and a `_` is the same as a blank; beyond \
-            ASCII case does matter.",
+            letters makes no difference between two names, and a `_` is the same as a blank; \
+            beyond ASCII case does matter.",
         place: "The second of the two names.",
         mend: "Rename one of the taxa. In rows that are not interleaved a row that is too long \
             seems to begin another taxon; see that each has NCHAR cells.",
@@ -124,9 +124,9 @@ pub(super) static ENTRIES: [Entry; 7] = [
         sentence: "This option of FORMAT is not supported or repeated, or its value is none that \
             it takes.",
         meaning: "FORMAT takes each of these once: DATATYPE with STANDARD or DNA; SYMBOLS with the \
-            symbols in double quotes; MISSING and GAP with one symbol each; INTERLEAVE, alone or with \
-            YES or NO; RESPECTCASE, LABELS and NOTOKENS, which take no value. All others could \
-            change what the matrix means, and are refused.",
+            symbols in double quotes; MISSING and GAP with one symbol each; INTERLEAVE, alone or \
+            with YES or NO; RESPECTCASE, LABELS and NOTOKENS, which take no value. All others \
+            could change what the matrix means, and are refused.",
         place: "The option, also for a wrong DATATYPE; the value for a wrong INTERLEAVE, SYMBOLS, \
             MISSING or GAP.",
         mend: "Take the option out, give it once, or give it a value that it takes.",

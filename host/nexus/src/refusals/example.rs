@@ -31,13 +31,13 @@ pub enum Call {
 impl fmt::Display for Call {
     fn fmt(&self, f: &mut fmt::Formatter<'_>) -> fmt::Result {
         match self {
-            Self::Read => write!(f, "a text to be read"),
+            Self::Read => write!(f, "a text is read"),
             Self::ReadInto { work, buffer } => write!(
                 f,
-                "a text to be read with {work} numbers of work memory and a buffer of {buffer} bytes"
+                "a text is read with {work} numbers of work memory and a buffer of {buffer} bytes"
             ),
-            Self::Write => write!(f, "a record to be written"),
-            Self::Lookup(name) => write!(f, "a record in which `{name}` is looked up"),
+            Self::Write => write!(f, "a record is written"),
+            Self::Lookup(name) => write!(f, "`{name}` is looked up in a record"),
         }
     }
 }

@@ -10,8 +10,9 @@ pub(super) static ENTRIES: [Entry; 4] = [
         sentence: "A symbol here is that of no state, and neither missing nor gap.",
         meaning: "A cell is one symbol: of a state, for missing or for a gap; or it is a set of \
             states in brackets. Without FORMAT the states are 0 and 1, missing is `?`, and there \
-            is no gap. DNA has A, C, G, T, the codes of their sets, `?` and `-`. Case makes no \
-            difference unless RESPECTCASE was given. Text in quotes is no cell.",
+            is no gap. DNA has A, C, G, T and the codes of their sets, and `?` and `-` unless \
+            MISSING and GAP say otherwise. Case makes no difference unless RESPECTCASE was given. \
+            Text in quotes is no cell.",
         place: "The word that has the symbol, at its first character; it is judged whole before \
             its length. In a set the word in the set.",
         mend: "Declare the symbol in FORMAT, by SYMBOLS, MISSING or GAP, or correct the cell. If \
@@ -41,7 +42,8 @@ pub(super) static ENTRIES: [Entry; 4] = [
     Entry {
         number: 24,
         title: "row short, too long, empty, of another width or out of order",
-        sentence: "A row has too few or too many cells, or its page asks for another width or name.",
+        sentence: "A row has too few or too many cells, or its page asks for another width or \
+            name.",
         meaning: "A row has NCHAR cells. Where rows are not interleaved they may break anywhere, \
             and the word behind the last cell is the next name; no word of cells may go beyond \
             NCHAR, and the last row may not stop before. Where they are interleaved each line of a \

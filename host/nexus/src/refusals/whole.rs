@@ -32,7 +32,7 @@ pub(super) static ENTRIES: [Entry; 6] = [
         number: 1,
         title: "the text is too long",
         sentence: "The text is longer than 1,048,576 bytes.",
-        meaning: "A text may have 1,048,576 bytes. This is judged first, before anything in the \
+        meaning: "A text has at most 1,048,576 bytes. This is judged first, before anything in the \
             text is looked at. The program of crates/nexus, which reads standard input, takes \
             1,024 bytes and no more.",
         place: NOWHERE,
@@ -46,9 +46,9 @@ pub(super) static ENTRIES: [Entry; 6] = [
         number: 2,
         title: "work memory is short",
         sentence: "The work memory is shorter than the text needs.",
-        meaning: "The read call works in memory that its caller lends: for a text of n bytes \
-            4n + 64 numbers of 32 bits, or more. Where there are fewer, nothing of the text is \
-            looked at. Only a host that lends the memory itself can meet this refusal.",
+        meaning: "The read call works in memory that its caller lends: for a text of n bytes 4n + \
+            64 numbers of 32 bits, or more. Where there are fewer, nothing of the text is looked \
+            at. Only a host that lends the memory itself can meet this refusal.",
         place: NOWHERE,
         mend: "Lend 4n + 64 numbers or more.",
         refused: worked(4 * SMALL.len() + 63),
@@ -59,12 +59,11 @@ pub(super) static ENTRIES: [Entry; 6] = [
         number: 3,
         title: "the text is not UTF-8",
         sentence: "The text is not valid UTF-8.",
-        meaning: "A text is Unicode in UTF-8, and ASCII is a part of it. Texts in older encodings, \
-            such as Latin-1, have bytes beyond ASCII that are no UTF-8, and texts in UTF-16 are \
-            none either. A byte order mark at the start is taken.",
+        meaning: "A text is Unicode in UTF-8, of which ASCII is a part. In older encodings, such \
+            as Latin-1, a letter beyond ASCII is a byte that is no UTF-8, and so are the two bytes \
+            that mark a text as UTF-16. The byte order mark of UTF-8 is taken.",
         place: NOWHERE,
-        mend: "Save the text as UTF-8, or convert it, for instance by \
-            `iconv -f LATIN1 -t UTF-8`.",
+        mend: "Save the text as UTF-8, or convert it, for instance by `iconv -f LATIN1 -t UTF-8`.",
         refused: Example::of_bytes(
             Call::Read,
             b"#NEXUS\nBEGIN DATA;\nDIMENSIONS NTAX=1 NCHAR=2;\nMATRIX Andr\xe9 01;\nEND;\n",
@@ -95,8 +94,8 @@ pub(super) static ENTRIES: [Entry; 6] = [
             needs a `]` of its own, and quotes mean nothing inside. An open comment is refused \
             before anything else in the text is judged.",
         place: "The `[` that is not closed; of several, one in another, the outermost.",
-        mend: "Close the comment, or take out the `[`. A `[` that belongs to a name is written \
-            in single quotes.",
+        mend: "Close the comment, or take out the `[`. A `[` that belongs to a name is written in \
+            single quotes.",
         refused: Example::text(data![
             "[two characters [of five]",
             "DIMENSIONS NTAX=1 NCHAR=2;",

@@ -1,8 +1,5 @@
 //! The cells of a taxon.
 
-use std::fmt;
-use std::iter::FusedIterator;
-
 use super::lines::split_at_first;
 use super::states::{State, States, Symbols};
 
@@ -103,11 +100,4 @@ impl<'r> Iterator for Cells<'r> {
     }
 }
 
-impl ExactSizeIterator for Cells<'_> {}
-impl FusedIterator for Cells<'_> {}
-
-impl fmt::Debug for Cells<'_> {
-    fn fmt(&self, f: &mut fmt::Formatter<'_>) -> fmt::Result {
-        f.debug_list().entries(self.clone()).finish()
-    }
-}
+counted!(Cells);

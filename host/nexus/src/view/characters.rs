@@ -1,7 +1,6 @@
 //! The characters of a record.
 
 use std::fmt;
-use std::iter::FusedIterator;
 
 use super::lines::Lines;
 use super::numbers::CharacterNumber;
@@ -184,14 +183,7 @@ impl<'r> Iterator for StateLabels<'r> {
     }
 }
 
-impl ExactSizeIterator for StateLabels<'_> {}
-impl FusedIterator for StateLabels<'_> {}
-
-impl fmt::Debug for StateLabels<'_> {
-    fn fmt(&self, f: &mut fmt::Formatter<'_>) -> fmt::Result {
-        f.debug_list().entries(self.clone()).finish()
-    }
-}
+counted!(StateLabels);
 
 /// The characters of a record, in order.
 ///
@@ -235,11 +227,4 @@ impl<'r> Iterator for Characters<'r> {
     }
 }
 
-impl ExactSizeIterator for Characters<'_> {}
-impl FusedIterator for Characters<'_> {}
-
-impl fmt::Debug for Characters<'_> {
-    fn fmt(&self, f: &mut fmt::Formatter<'_>) -> fmt::Result {
-        f.debug_list().entries(self.clone()).finish()
-    }
-}
+counted!(Characters);

@@ -1,6 +1,20 @@
 //! What a record says, part by part. A view borrows the record's bytes, copies nothing and allocates
 //! nothing. It is made only of bytes that were judged to be a record, so no part of it can fail.
 
+/// An iterator that knows how many are left: it is shown as the list of these.
+macro_rules! counted {
+    ($name:ident) => {
+        impl ExactSizeIterator for $name<'_> {}
+        impl std::iter::FusedIterator for $name<'_> {}
+
+        impl std::fmt::Debug for $name<'_> {
+            fn fmt(&self, f: &mut std::fmt::Formatter<'_>) -> std::fmt::Result {
+                f.debug_list().entries(self.clone()).finish()
+            }
+        }
+    };
+}
+
 mod cells;
 mod characters;
 mod lines;

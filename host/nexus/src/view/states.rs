@@ -1,7 +1,6 @@
 //! Symbols, states and sets of states.
 
 use std::fmt;
-use std::iter::FusedIterator;
 
 use super::lines::{number, split_at_first};
 
@@ -187,11 +186,4 @@ impl Iterator for States<'_> {
     }
 }
 
-impl ExactSizeIterator for States<'_> {}
-impl FusedIterator for States<'_> {}
-
-impl fmt::Debug for States<'_> {
-    fn fmt(&self, f: &mut fmt::Formatter<'_>) -> fmt::Result {
-        f.debug_list().entries(self.clone()).finish()
-    }
-}
+counted!(States);

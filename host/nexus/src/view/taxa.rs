@@ -1,7 +1,6 @@
 //! The taxa of a record.
 
 use std::fmt;
-use std::iter::FusedIterator;
 
 use super::cells::{Cell, Cells};
 use super::lines::Lines;
@@ -157,11 +156,4 @@ impl<'r> Iterator for Taxa<'r> {
     }
 }
 
-impl ExactSizeIterator for Taxa<'_> {}
-impl FusedIterator for Taxa<'_> {}
-
-impl fmt::Debug for Taxa<'_> {
-    fn fmt(&self, f: &mut fmt::Formatter<'_>) -> fmt::Result {
-        f.debug_list().entries(self.clone()).finish()
-    }
-}
+counted!(Taxa);
