@@ -1,5 +1,11 @@
 //! The archive's functions as include/nexus.h has them, but with slices for pointers and lengths.
 //! Each panics where the archive is not linked.
+//!
+#![doc = example!()]
+//! let mut number = 0;
+//! let length = nexus::archive::nexus_write(b"no record", &mut [], &mut number);
+//! assert_eq!((length, number), (0, 31));
+//! ```
 
 /// Is the archive linked?
 ///

@@ -1,5 +1,10 @@
 //! What each refusal means: its number, a sentence, the rules behind it, a small example that is
 //! refused so, and how to mend it. docs/REFUSALS.md is made of this table.
+//!
+//! ```
+//! let entry = nexus::refusals::entry(22).expect("an entry");
+//! println!("{}\n{}\nMend: {}", entry.sentence, entry.meaning, entry.mend);
+//! ```
 
 /// These lines as a text, each ended by LF.
 macro_rules! lines {
