@@ -24,15 +24,20 @@ fn main() {
     let foreign = other_machine();
     let missing = foreign.clone().unwrap_or_else(not_there);
     println!("cargo::rustc-env=NEXUS_MISSING={missing}");
+    if made.is_ok() && foreign.is_none() && archive.is_file() {
+        link(&archive);
+        return;
+    }
+    // Nothing has this name, so this is run again each time, until the archive is there. It may then
+    // be older than this run.
+    println!("cargo::rerun-if-changed=no-such-file");
     if let Err(fault) = made {
         println!("cargo::error={fault}");
-    } else if foreign.is_none() && archive.is_file() {
-        link(&archive);
     } else if wish == "required" || wish == "make" {
         println!("cargo::error={missing}");
     } else {
         println!(
-            "cargo::warning={missing}. Until then no call can be made, and its tests are ignored"
+            "cargo::warning={missing}. So no call can be made, and the tests of calls are ignored"
         );
     }
 }
