@@ -3,7 +3,7 @@
 //! crates/record/specs/Calls.antt. Where the archive was not there when this crate was built, a call
 //! panics and says so.
 //!
-//! ```no_run
+#![doc = example!()]
 //! let text = b"#NEXUS BEGIN DATA; DIMENSIONS NTAX=1 NCHAR=2; MATRIX a 01; END;";
 //! match nexus::read(text) {
 //!     Ok(record) => println!("{}", String::from_utf8_lossy(record.as_bytes())),
@@ -11,29 +11,76 @@
 //! }
 //! ```
 //!
-//! A record can be written as a text again, and has a taxon's cells by its name.
+//! A record says what it holds, part by part; it can be written as a text again, and has a taxon's
+//! cells by its name.
 //!
-//! ```no_run
-//! # fn main() -> Result<(), nexus::Refusal> {
-//! # let text = b"#NEXUS BEGIN DATA; DIMENSIONS NTAX=1 NCHAR=2; MATRIX a 01; END;";
+#![doc = example!()]
+//! use nexus::Cell;
+//! let text = b"#NEXUS BEGIN DATA; DIMENSIONS NTAX=1 NCHAR=2; MATRIX a 0?; END;";
 //! let record = nexus::read(text)?;
-//! assert_eq!(record.cells(b"A")?, b"0 1");
+//! for taxon in record.taxa() {
+//!     let missing = taxon.cells().filter(|cell| *cell == Cell::Missing).count();
+//!     println!("{}: {missing} of {} cells missing", taxon.name(), record.character_count());
+//! }
+//! assert_eq!(record.cells(b"A")?, b"0 m");
 //! assert_eq!(nexus::read(&record.write()?)?, record);
-//! # Ok(())
-//! # }
+//! # Ok::<(), nexus::Refusal>(())
 //! ```
+//!
+//! A host that allocates nothing lends the memory itself: see [`read_into`], [`write_into`],
+//! [`lookup`] and [`View`].
+
+#![deny(unsafe_code)]
+#![warn(missing_docs)]
+
+/// The line that opens an example of the documentation which makes a call. Where the archive is not
+/// linked the example is compiled, and not run.
+#[cfg(archive)]
+macro_rules! example {
+    () => {
+        "```"
+    };
+}
+#[cfg(not(archive))]
+macro_rules! example {
+    () => {
+        "```no_run"
+    };
+}
+use example;
+
+#[cfg(not(archive))]
+#[path = "absent.rs"]
+mod functions;
+#[cfg(archive)]
+#[allow(unsafe_code)]
+mod functions;
 
 pub mod archive;
 mod record;
 mod refusal;
+pub mod refusals;
+mod view;
 
 pub use record::Record;
 pub use refusal::Refusal;
+pub use view::{
+    Cell, Cells, Character, CharacterNumber, Characters, DataType, Ordering, State, StateLabels,
+    States, Symbols, Taxa, Taxon, TaxonNumber, Text, TextBytes, View,
+};
 
 /// The longest text that is read, and the longest form that is written, in bytes.
+///
+/// ```
+/// assert_eq!(nexus::TEXT_LIMIT, 1_048_576);
+/// ```
 pub const TEXT_LIMIT: usize = 1_048_576;
 
 /// How many numbers of work memory a text needs.
+///
+/// ```
+/// assert_eq!(nexus::work_needed(b"#NEXUS"), 88);
+/// ```
 pub fn work_needed(text: &[u8]) -> usize {
     4 * text.len() + 64
 }
@@ -41,6 +88,14 @@ pub fn work_needed(text: &[u8]) -> usize {
 /// Reads a text into lent memory: the length of its record, which then begins the buffer. The rest
 /// of the buffer is as it was, and all of it where the text is refused. Whatever the memory held
 /// before does not matter, and what work memory holds afterwards means nothing.
+///
+#[doc = example!()]
+/// # use inputs::example::{RECORD, TEXT};
+/// let (mut work, mut buffer) = ([0; 1_000], [0; 1_000]);
+/// let length = nexus::read_into(TEXT.as_bytes(), &mut work, &mut buffer)?;
+/// assert_eq!(&buffer[..length], RECORD.as_bytes());
+/// # Ok::<(), nexus::Refusal>(())
+/// ```
 pub fn read_into(text: &[u8], work: &mut [u32], buffer: &mut [u8]) -> Result<usize, Refusal> {
     let (mut number, mut line, mut column) = (0, 0, 0);
     let length = archive::nexus_read(text, work, buffer, &mut number, &mut line, &mut column);
@@ -55,6 +110,13 @@ pub fn read_into(text: &[u8], work: &mut [u32], buffer: &mut [u8]) -> Result<usi
 }
 
 /// Reads a text into a record of its own.
+///
+#[doc = example!()]
+/// # use inputs::example::TEXT;
+/// let record = nexus::read(TEXT.as_bytes())?;
+/// assert_eq!(record.taxon_count(), 2);
+/// # Ok::<(), nexus::Refusal>(())
+/// ```
 pub fn read(text: &[u8]) -> Result<Record, Refusal> {
     // A text that is too long is refused for that, whatever it is lent.
     let read = if text.len() > TEXT_LIMIT { &[] } else { text };
@@ -88,6 +150,14 @@ fn longest_record(text: &[u8]) -> usize {
 /// the buffer is as it was, and all of it where the record is refused: by 31 where it is none, by 32
 /// where its form is longer than a text may be, by 30 where it is longer than the buffer. Whatever
 /// the memory held before does not matter.
+///
+#[doc = example!()]
+/// # use inputs::example::{FORM, RECORD};
+/// let mut buffer = [0; 1_000];
+/// let length = nexus::write_into(RECORD.as_bytes(), &mut buffer)?;
+/// assert_eq!(&buffer[..length], FORM.as_bytes());
+/// # Ok::<(), nexus::Refusal>(())
+/// ```
 pub fn write_into(record: &[u8], buffer: &mut [u8]) -> Result<usize, Refusal> {
     let mut number = 0;
     match archive::nexus_write(record, buffer, &mut number) {
@@ -99,6 +169,12 @@ pub fn write_into(record: &[u8], buffer: &mut [u8]) -> Result<usize, Refusal> {
 /// The cells of the taxon with this name: the stretch of the record behind `cells=`. It is refused by
 /// 31 where this is no record, and by 33 where no taxon has the name. The case of ASCII letters does
 /// not matter; the name is given as it is, and not as the record escapes it.
+///
+#[doc = example!()]
+/// # use inputs::example::RECORD;
+/// assert_eq!(nexus::lookup(RECORD.as_bytes(), b"c")?, b"1 p1 0");
+/// # Ok::<(), nexus::Refusal>(())
+/// ```
 pub fn lookup<'record>(record: &'record [u8], name: &[u8]) -> Result<&'record [u8], Refusal> {
     let (mut number, mut start) = (0, 0);
     match archive::nexus_lookup(record, name, &mut number, &mut start) {

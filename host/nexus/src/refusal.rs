@@ -3,26 +3,56 @@
 use std::error::Error;
 use std::fmt;
 
+use crate::refusals::{self, Entry};
+
 /// Why a call has refused what it was given, and where. Line and column count from 1; both are 0
 /// where the refusal has no place.
+///
+#[doc = example!()]
+/// let refusal = nexus::read(b"#NEXUS BEGIN DATA;").expect_err("no END");
+/// assert_eq!((refusal.number, refusal.line, refusal.column), (9, 1, 14));
+/// assert_eq!(
+///     refusal.to_string(),
+///     "line 1, column 14: This block is not ended by END. (refusal 9)"
+/// );
+/// ```
 #[derive(Clone, Copy, Debug, Eq, Hash, PartialEq)]
 pub struct Refusal {
+    /// Which of the 33 it is: see [`crate::refusals`].
     pub number: u32,
+    /// The line, counting from 1; 0 where there is no place.
     pub line: usize,
+    /// The column, counting from 1, in characters; 0 where there is no place.
     pub column: usize,
 }
 
 impl Refusal {
     /// The refusal that says that a result is longer than its buffer.
+    ///
+    /// ```
+    /// assert_eq!(nexus::Refusal::NO_ROOM, 30);
+    /// ```
     pub const NO_ROOM: u32 = 30;
 
     /// The refusal of bytes that are no record.
+    ///
+    /// ```
+    /// assert_eq!(nexus::Refusal::NO_RECORD, 31);
+    /// ```
     pub const NO_RECORD: u32 = 31;
 
     /// The refusal of a record whose form is longer than a text may be.
+    ///
+    /// ```
+    /// assert_eq!(nexus::Refusal::FORM_TOO_LONG, 32);
+    /// ```
     pub const FORM_TOO_LONG: u32 = 32;
 
     /// The refusal of a name that no taxon has.
+    ///
+    /// ```
+    /// assert_eq!(nexus::Refusal::NO_NAME, 33);
+    /// ```
     pub const NO_NAME: u32 = 33;
 
     /// A refusal without a place.
@@ -34,44 +64,38 @@ impl Refusal {
         }
     }
 
+    /// What is wrong, in a sentence.
+    ///
+    /// ```
+    /// let refusal = nexus::Refusal { number: 18, line: 6, column: 1 };
+    /// assert_eq!(refusal.sentence(), "A taxon has this name already.");
+    /// ```
+    pub fn sentence(&self) -> &'static str {
+        self.entry()
+            .map_or("There is no refusal with this number.", |entry| {
+                entry.sentence
+            })
+    }
+
     /// What the number stands for, in a few words.
+    ///
+    /// ```
+    /// let refusal = nexus::Refusal { number: 18, line: 6, column: 1 };
+    /// assert_eq!(refusal.reason(), "taxon twice");
+    /// ```
     pub fn reason(&self) -> &'static str {
-        match self.number {
-            1 => "the text is too long",
-            2 => "work memory is short",
-            3 => "the text is not UTF-8",
-            4 => "open quote",
-            5 => "open comment",
-            6 => "no #NEXUS",
-            7 => "empty command",
-            8 => "no `;`",
-            9 => "no END",
-            10 => "words after END",
-            11 => "not BEGIN and a name",
-            12 => "block repeated, misplaced or unsupported",
-            13 => "command repeated, misplaced or unsupported",
-            14 => "a needed command, dimension or matrix is absent",
-            15 => "DIMENSIONS option or value",
-            16 => "a count differs from what was declared",
-            17 => "not a name",
-            18 => "taxon twice",
-            19 => "`=` or its value is absent",
-            20 => "FORMAT option or value",
-            21 => "symbols too few, invalid or clashing",
-            22 => "cell symbol",
-            23 => "state set open, empty or holding what is no state",
-            24 => "row short, too long, empty, of another width or out of order",
-            25 => "declared taxon absent",
-            26 => "label entry",
-            27 => "type word, form of a TYPESET, or a character typed twice",
-            28 => "character list",
-            29 => "ordered DNA",
-            Self::NO_ROOM => "the result is longer than its buffer",
-            Self::NO_RECORD => "not a record",
-            Self::FORM_TOO_LONG => "the written form is too long",
-            Self::NO_NAME => "no taxon has the name",
-            _ => "unknown refusal",
-        }
+        self.entry().map_or("unknown refusal", |entry| entry.title)
+    }
+
+    /// All that there is to say of the number, if it is one of the 33.
+    ///
+    /// ```
+    /// let refusal = nexus::Refusal { number: 18, line: 6, column: 1 };
+    /// let entry = refusal.entry().expect("an entry");
+    /// assert!(entry.mend.starts_with("Rename one of the taxa."));
+    /// ```
+    pub fn entry(&self) -> Option<&'static Entry> {
+        refusals::entry(self.number)
     }
 }
 
@@ -80,7 +104,7 @@ impl fmt::Display for Refusal {
         if self.line > 0 {
             write!(f, "line {}, column {}: ", self.line, self.column)?;
         }
-        write!(f, "{} ({})", self.reason(), self.number)
+        write!(f, "{} (refusal {})", self.sentence(), self.number)
     }
 }
 
@@ -100,9 +124,18 @@ mod tests {
             };
             refusal.to_string()
         };
-        assert_eq!(said(22, 6, 3), "line 6, column 3: cell symbol (22)");
-        assert_eq!(said(2, 0, 0), "work memory is short (2)");
-        assert_eq!(said(34, 0, 0), "unknown refusal (34)");
+        assert_eq!(
+            said(18, 6, 3),
+            "line 6, column 3: A taxon has this name already. (refusal 18)"
+        );
+        assert_eq!(
+            said(2, 0, 0),
+            "The work memory is shorter than the text needs. (refusal 2)"
+        );
+        assert_eq!(
+            said(34, 0, 0),
+            "There is no refusal with this number. (refusal 34)"
+        );
     }
 
     #[test]
