@@ -38,6 +38,20 @@ module _ (text front work : List ℕ) (at characters : ℕ) (typed : Bool) (o : 
   characters·behind k =
       spell·characters (k + 1) (characters·from text front work o typed (at + k) (at + characters + k) (at + 2 * characters + k) (characters - k))
 
+  -- The character behind so many, and those behind it.
+  pub turned : (k : ℕ) → k < characters → (behind : List ℕ)
+      → characters·behind k behind
+      ≡ spell·character (k + 1) (slot·character text front (getD work (at + k) 0) (getD work (at + characters + k) 0) (slot·type work o typed (at + 2 * characters + k)))
+      (characters·behind (k + 1) behind)
+  unfolding characters·behind spell·characters
+  turned k h behind =
+      let l : suc (at + k) ≡ at + (k + 1) = omega arith in
+      let s : suc (at + characters + k) ≡ at + characters + (k + 1) = omega arith in
+      let t : suc (at + 2 * characters + k) ≡ at + 2 * characters + (k + 1) = omega arith in
+      let number : suc (k + 1) ≡ k + 1 + 1 = omega arith in
+      let left : characters - k ≡ suc (characters - (k + 1)) = omega arith in
+      rw (left, characters-next text front work o typed (at + k) (at + characters + k) (at + 2 * characters + k) (characters - (k + 1)), l, s, t, number) refl
+
   -- What was put so far and the characters from this one on are the whole.
   pub record Spelling (before : List ℕ) (n : ℕ) (whole : List ℕ → List ℕ) (buffer : List ℕ) (m k : ℕ) : Type 0 where
     pub below : k ≤ characters
@@ -54,23 +68,10 @@ module _ (text front work : List ℕ) (at characters : ℕ) (typed : Bool) (o : 
       record { below = omega arith; walk = rw (s, t, l, all) putting-start }
 
   module _ (before : List ℕ) (n : ℕ) (whole : List ℕ → List ℕ) (buffer : List ℕ) (m k : ℕ) (w : Spelling before n whole buffer m k) where
-    turned : k < characters → (behind : List ℕ)
-        → characters·behind k behind
-        ≡ spell·character (k + 1) (slot·character text front (getD work (at + k) 0) (getD work (at + characters + k) 0) (slot·type work o typed (at + 2 * characters + k)))
-        (characters·behind (k + 1) behind)
-    unfolding characters·behind spell·characters
-    turned h behind =
-        let l : suc (at + k) ≡ at + (k + 1) = omega arith in
-        let s : suc (at + characters + k) ≡ at + characters + (k + 1) = omega arith in
-        let t : suc (at + 2 * characters + k) ≡ at + 2 * characters + (k + 1) = omega arith in
-        let number : suc (k + 1) ≡ k + 1 + 1 = omega arith in
-        let left : characters - k ≡ suc (characters - (k + 1)) = omega arith in
-        rw (left, characters-next text front work o typed (at + k) (at + characters + k) (at + 2 * characters + k) (characters - (k + 1)), l, s, t, number) refl
-
     pub spelling-turn : (label states : ℕ) (ordering : CharacterOrdering) (after : List ℕ) (next : ℕ) → k < characters
         → label ≡ getD work (at + k) 0 → states ≡ getD work (at + characters + k) 0 → ordering ≡ slot·type work o typed (at + 2 * characters + k)
         → Puts buffer m (spell·character (k + 1) (slot·character text front label states ordering)) after next → Spelling before n whole after next (k + 1)
-    spelling-turn label states ordering after next h l s t p = record { below = omega arith; walk = putting-turn (w .walk) p (λ behind. rw (l, s, t) (turned h behind)) }
+    spelling-turn label states ordering after next h l s t p = record { below = omega arith; walk = putting-turn (w .walk) p (λ behind. rw (l, s, t) (turned k h behind)) }
 
     pub spelling-end : characters ≤ k → Puts before n whole buffer m
     unfolding characters·behind spell·characters

@@ -2,6 +2,7 @@
 mod CharacterPuts
 mod CharacterWalk
 mod CodesRead
+mod DecimalLast
 mod DecodedLaws
 mod FewNames
 mod HeadPieces
@@ -10,7 +11,9 @@ mod LinesWalk
 mod MarkLaws
 mod NamePuts
 mod PageCells
+mod PlainTens
 mod PutWalks
+mod PutsOver
 mod RecordPieces
 mod RowCounts
 mod RowLaws
@@ -23,6 +26,7 @@ mod SetPieces
 mod ShortLaws
 mod TaxaCounts
 mod TaxonPieces
+mod TenWalk
 mod ToldRows
 mod WholePuts
 mod WordCells

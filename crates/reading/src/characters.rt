@@ -1,19 +1,19 @@
 // Names and characters of a record, put into a lent buffer.
 
-ghost use Prim.Native.Nat.{_*_, _+_, _≤_, min};
+ghost use Prim.Native.Nat.{_*_, _+_, _≤_};
 ghost use Rattle.assumptions.specs.TypesHeld.{type·word};
 ghost use Rattle.block.specs.Commands.{words};
 ghost use Rattle.block.specs.NamesHeld.{names·of};
 ghost use Rattle.block.specs.declared.model.CharacterOrdering.{CharacterOrdering};
 ghost use Rattle.commands.specs.MatrixHeld.{reading·held};
 ghost use Rattle.commands.specs.WorkMap.{map·fits};
-ghost use Rattle.emit.specs.Puts.{Puts, last·place};
-ghost use Rattle.lexer.specs.Base.{bytes, pick};
+ghost use Rattle.emit.specs.Puts.{Puts};
+ghost use Rattle.lexer.specs.Base.{pick};
 ghost use Rattle.lexer.specs.Bytes.{left};
 ghost use Rattle.lexer.specs.Stored.{range};
 ghost use Rattle.lexer.specs.Words.{spaced};
 ghost use Rattle.matrix.specs.WholeSets.{part};
-ghost use Rattle.reading.specs.CharactersHeld.{bare·piece, characters·from, plain·bytes, slot·character, slot·label, slot·states, slot·type, states·piece};
+ghost use Rattle.reading.specs.CharactersHeld.{characters·from, slot·character, slot·label, slot·states, slot·type, states·piece};
 ghost use Rattle.reading.specs.Pieces.{name·piece};
 ghost use Rattle.record.specs.Decimal.{decimal};
 ghost use Rattle.record.specs.Spell.{escape, escaped, line, order·word, spell·character, spell·characters, spell·states};
@@ -23,19 +23,21 @@ ghost use mathlib.Core.Bool.{true};
 ghost use mathlib.Core.List.{_∷_, _++_};
 ghost use mathlib.Core.Option.{Option·getD};
 ghost use mathlib.Core.Path.{_≡_};
+use super::plain::plain_size;
+use super::plain::put_plain;
+use super::plain::put_ten;
+use super::plain::ten_plain;
+use super::plain::ten_room;
 use assumptions::TypeWord;
 use block::CharacterOrdering;
 use block::newline;
 use commands::Held;
 use commands::labels_place;
-use emit::digits_of;
 use emit::further;
 use emit::has_room;
 use emit::put;
 use emit::put_all;
 use emit::put_decimal;
-use emit::put_digits;
-use emit::put_whole;
 use lexer::Cursor;
 use lexer::Item;
 use lexer::next_byte;
@@ -212,38 +214,6 @@ fn put_state_labels(text: &[u8], starts: &[u32], buffer: &mut [u8], n: usize, sl
     put_states(text, starts, buffer, m, i, most)
 }
 
-// The place behind a character that has neither a label nor state labels, of which nothing has room.
-fn behind_plain(n: usize, number: usize, ordering: CharacterOrdering) -> usize
-    ensures { λ r. ⌜ (r ≡ min last·place (n + length (plain·bytes number ordering))) × (n ≤ r) ⌝ }
-{
-    let m = further(n, digits_of(number as u64));
-    match ordering {
-        CharacterOrdering::Unordered => further(m, 39),
-        CharacterOrdering::Ordered => further(m, 37),
-    }
-}
-
-// Puts what stands behind the number of a character that has neither a label nor state labels, where it has room.
-fn put_bare(buffer: &mut [u8], n: usize, ordering: CharacterOrdering) -> usize
-    requires { ⌜ n + 29 ≤ length (now buffer) ⌝ }
-    ensures { λ r. ⌜ Puts (now (buffer .entry)) n (bare·piece ordering) (now (buffer .exit)) r ⌝ }
-{
-    match ordering {
-        CharacterOrdering::Unordered => put_whole(buffer, n, b"\nlabel=\norder=UNORD\nstates=0\n"),
-        CharacterOrdering::Ordered => put_whole(buffer, n, b"\nlabel=\norder=ORD\nstates=0\n"),
-    }
-}
-
-// Puts a character that has neither a label nor state labels, its number and its type, where it has room.
-fn put_plain(buffer: &mut [u8], n: usize, number: usize, ordering: CharacterOrdering) -> usize
-    requires { ⌜ n + 64 ≤ length (now buffer) ⌝ }
-    ensures { λ r. ⌜ Puts (now (buffer .entry)) n (λ behind. bytes "character=" ++ (decimal number ++ bare·piece ordering behind)) (now (buffer .exit)) r ⌝ }
-{
-    let m = put_whole(buffer, n, b"character=");
-    let m = put_digits(buffer, m, number as u64);
-    put_bare(buffer, m, ordering)
-}
-
 // Puts a character: its number, its label and its state labels by the numbers that work memory holds, and its type.
 fn put_character(
     text: &[u8],
@@ -259,7 +229,7 @@ fn put_character(
 {
     let plain = (label == 0) & (states == 0);
     if plain & (buffer.len() <= n) {
-        return behind_plain(n, number, ordering);
+        return further(n, plain_size(number, ordering));
     }
     if plain & has_room(buffer.len(), n, 64) {
         return put_plain(buffer, n, number, ordering);
@@ -314,6 +284,11 @@ fn put_each(
     let mut m = n;
     let mut k = 0;
     while k < characters {
+        if ten_plain(work, at, characters, typed, k) & ten_room(buffer.len(), m) {
+            m = put_ten(buffer, m, k + 1, o);
+            k += 10;
+            continue;
+        }
         let label = start_of(work, at + k);
         let states = start_of(work, at + characters + k);
         let ordering = type_at(work, at + 2 * characters + k, typed, o);

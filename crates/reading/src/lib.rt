@@ -3,6 +3,7 @@
 pub mod cells;
 pub mod characters;
 pub mod lines;
+pub mod plain;
 pub mod spelling;
 pub mod taxa;
 

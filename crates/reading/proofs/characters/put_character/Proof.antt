@@ -9,11 +9,14 @@ use borrow.Author.Needs.{needs}
 use lib.Dec.{eqb}
 use mathlib.Core.Bool.{_&&_}
 
-behind-plain-requires : tie.Need-behind-plain-requires
-behind-plain-requires c κs = search needs
+plain-size-requires : tie.Need-plain-size-requires
+plain-size-requires c κs = search needs
+
+further-requires : tie.Need-further-requires
+further-requires c κs = search needs
 
 returns : tie.Need-returns
-returns c = plain-past _ _ _ _ _ _ _ _ _ (c .before .if1 .taken) (c .behind-plain .ensures)
+returns c = plain-past _ _ _ _ _ _ _ _ _ (c .before .before .if1 .taken) (rw (c .before .plain-size .ensures) at (c .further .ensures))
 
 has-room-requires : tie.Need-has-room-requires
 has-room-requires c κs = search needs
@@ -60,7 +63,8 @@ pub put-character-spec : {M : Type 1} → statement M
 put-character-spec =
     tie.close
     (tie.spec
-    behind-plain-requires
+    plain-size-requires
+    further-requires
     returns
     has-room-requires
     put-plain-requires

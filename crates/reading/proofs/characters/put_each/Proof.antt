@@ -1,6 +1,8 @@
--- The function `put_each` meets its contract: a turn puts one character. The measure is how many are left. Assumes nothing.
+-- The function `put_each` meets its contract: a turn puts ten characters or one. The measure is how many are left. Assumes nothing.
 use Prim.Native.Nat.{_+_, _*_, _-_}
+use Rattle.lexer.proofs.Basics.{and-left, and-right}
 use Rattle.reading.proofs.CharacterWalk.{Spelling, spelling-end, spelling-start, spelling-turn}
+use Rattle.reading.proofs.TenWalk.{spelling-ten}
 use Rattle.reading.proofs.characters.put_each.Statement.{statement}
 use Rattle.reading.proofs.characters.put_each.Tie as tie
 use Rattle.reading.specs.CharactersHeld.{characters·from}
@@ -20,6 +22,40 @@ abbrev μ-loop : tie.MeasureT-loop
 
 loop-holds : tie.Need-loop-holds Inv-loop μ-loop
 loop-holds c = spelling-start _ _ _ _ _ _ _ _ _
+
+ten-plain-requires : tie.Need-ten-plain-requires Inv-loop μ-loop
+ten-plain-requires c κs = (c .before .before .before .before .before .pre, c .before .loop .inv .below)
+
+ten-room-requires : tie.Need-ten-room-requires Inv-loop μ-loop
+ten-room-requires c κs = search needs
+
+add-put-ten : tie.Need-add-put-ten Inv-loop μ-loop
+add-put-ten c = search needs
+
+put-ten-requires : tie.Need-put-ten-requires Inv-loop μ-loop
+put-ten-requires c κs =
+    let room = c .before .before .ten-room in
+    let plain = c .before .before .before .ten-plain in
+    let t = plain .ensures (and-left (plain .result) (room .result) (c .before .if1 .taken)) in
+    (room .ensures (and-right (plain .result) (room .result) (c .before .if1 .taken)), omega arith, omega (arith, t .few), omega (arith, t .tenth))
+
+add-k : tie.Need-add-k Inv-loop μ-loop
+add-k c =
+    let room = c .before .before .before .before .before in
+    let t = room .before .ten-plain .ensures (and-left (room .before .ten-plain .result) (room .ten-room .result) (c .before .before .before .before .if1 .taken)) in
+    omega (arith, t .within)
+
+loop-less : tie.Need-loop-less Inv-loop μ-loop
+loop-less c =
+    let room = c .before .before .before .before .before in
+    let t = room .before .ten-plain .ensures (and-left (room .before .ten-plain .result) (room .ten-room .result) (c .before .before .before .before .if1 .taken)) in
+    omega (arith, t .within)
+
+loop-again : tie.Need-loop-again Inv-loop μ-loop
+loop-again c =
+    let room = c .before .before .before .before .before in
+    let t = room .before .ten-plain .ensures (and-left (room .before .ten-plain .result) (room .ten-room .result) (c .before .before .before .before .if1 .taken)) in
+    spelling-ten _ _ _ _ _ _ _ _ _ _ (room .before .before .before .loop .inv) t (c .before .before .put-ten .ensures)
 
 add-start-of : tie.Need-add-start-of Inv-loop μ-loop
 add-start-of c = search needs
@@ -50,7 +86,7 @@ type-at-requires c κs = search needs
 
 slice-aggregate-put-character : tie.Need-slice-aggregate-put-character Inv-loop μ-loop
 slice-aggregate-put-character c =
-    let s = c .before .before .before .before .before .before .before .before .before in
+    let s = c .before .before .before .before .before .before .before .before .before .before .before .before in
     sym (length-take-le _ (s .args .work .now) (omega (arith, s .pre)))
 
 add-put-character : tie.Need-add-put-character Inv-loop μ-loop
@@ -59,16 +95,16 @@ add-put-character c = search needs
 put-character-requires : tie.Need-put-character-requires Inv-loop μ-loop
 put-character-requires c κs = search needs
 
-add-k : tie.Need-add-k Inv-loop μ-loop
-add-k c = search needs
+add-k-2 : tie.Need-add-k-2 Inv-loop μ-loop
+add-k-2 c = search needs
 
-loop-less : tie.Need-loop-less Inv-loop μ-loop
-loop-less c = search needs
+loop-less-2 : tie.Need-loop-less-2 Inv-loop μ-loop
+loop-less-2 c = search needs
 
-loop-again : tie.Need-loop-again Inv-loop μ-loop
-loop-again c =
+loop-again-2 : tie.Need-loop-again-2 Inv-loop μ-loop
+loop-again-2 c =
     let t = c .before .before .before .before .before in
-    let l = t .before .before .before in
+    let l = t .before .before .before .before .before .before in
     spelling-turn _ _ _ _ _ _ _ _ _ _ _ _ _ (l .before .loop .inv) _ _ _ _ _ (l .loop-test .taken) (t .before .before .start-of .ensures) (t .before .start-of2 .ensures) (t .type-at .ensures) (c .before .before .put-character .ensures)
 
 same-length : tie.Need-same-length Inv-loop μ-loop
@@ -84,6 +120,13 @@ put-each-spec =
     Inv-loop
     μ-loop
     loop-holds
+    ten-plain-requires
+    ten-room-requires
+    add-put-ten
+    put-ten-requires
+    add-k
+    loop-less
+    loop-again
     add-start-of
     start-of-requires
     add-start-of-2
@@ -96,8 +139,8 @@ put-each-spec =
     slice-aggregate-put-character
     add-put-character
     put-character-requires
-    add-k
-    loop-less
-    loop-again
+    add-k-2
+    loop-less-2
+    loop-again-2
     same-length
     returns)

@@ -2,8 +2,8 @@
 use Rattle.emit.proofs.PutLaws.{puts-as}
 use Rattle.lexer.specs.Base.{bytes}
 use Rattle.reading.proofs.CharacterPuts.{bare-ordered, bare-unordered}
-use Rattle.reading.proofs.characters.put_bare.Statement.{statement}
-use Rattle.reading.proofs.characters.put_bare.Tie as tie
+use Rattle.reading.proofs.plain.put_bare.Statement.{statement}
+use Rattle.reading.proofs.plain.put_bare.Tie as tie
 use borrow.Author.Needs.{needs}
 
 enum-told : tie.Need-enum-told

@@ -1,8 +1,8 @@
 -- The function `put_plain` meets its contract: three pieces, one behind another. Assumes nothing.
 use Rattle.emit.proofs.PutLaws.{puts-then}
 use Rattle.lexer.specs.Base.{bytes}
-use Rattle.reading.proofs.characters.put_plain.Statement.{statement}
-use Rattle.reading.proofs.characters.put_plain.Tie as tie
+use Rattle.reading.proofs.plain.put_plain.Statement.{statement}
+use Rattle.reading.proofs.plain.put_plain.Tie as tie
 use borrow.Author.Needs.{needs}
 
 slice-aggregate-put-whole : tie.Need-slice-aggregate-put-whole
