@@ -1,21 +1,27 @@
 -- The bytes of a name as they are put, each escaped, `_` as a blank; and the walk over what is left of its text. Assumes nothing.
-use Prim.Native.Nat.{ℕ, _+_, _-_, _≤_, _<_}
+use Prim.Native.Nat.{ℕ, suc, _+_, _-_, _≤_, _<_, min}
 use Rattle.block.specs.NamesHeld.{name·of}
+use Rattle.emit.proofs.PutLaws.{puts-past}
+use Rattle.emit.specs.Puts.{Puts, last·place}
+use Rattle.lexer.proofs.Basics.{by-test, not-both}
 use Rattle.lexer.proofs.ListLaws.{take-next}
 use Rattle.lexer.proofs.NextBytes.{front-left}
 use Rattle.lexer.specs.Base.{pick}
+use Rattle.lexer.specs.ByteBlocks.{plain?}
 use Rattle.lexer.specs.Bytes.{left, front·at}
+use Rattle.lexer.specs.PlainWords.{Plain·word, part}
 use Rattle.lexer.specs.Stored.{word·of}
 use Rattle.lexer.specs.Words.{spaced}
 use Rattle.lexer.specs.declared.Cursor.{Cursor}
-use Rattle.matrix.specs.WholeSets.{Plain·word, part}
 use Rattle.reading.specs.Pieces.{name·piece}
 use Rattle.record.specs.Spell.{escape, escaped}
 use borrow.Author.Tests.{ne-eqb}
 use lib.Dec.{eqb}
-use lib.ListN.{length, getD}
+use lib.ListN.{length, getD, drop, length-append, length-drop}
+use lib.Seq.{getD-drop, getD-take, length-take-le}
+use mathlib.Core.Bool.{true}
 use mathlib.Core.List.{List, [], _∷_, _++_, append-assoc}
-use mathlib.Core.Path.{_≡_, refl}
+use mathlib.Core.Path.{_≡_, refl, _∙_}
 use native.Mathlib.Omega.{arith}
 
 -- A byte of a name, escaped.
@@ -62,6 +68,27 @@ pub plain-name : (text starts : List ℕ) (i start end : ℕ) (behind : List ℕ
     → text·piece (part text start end) behind ≡ name·piece text starts i behind
 unfolding name·piece name·of word·of
 plain-name text starts i start end behind s w = rw (← s, w .told) refl
+
+-- Plain bytes are not escaped, so that each takes one byte.
+plain-short : (b : ℕ) → plain? b ≡ true → length (name·byte b) ≡ 1
+unfolding escape pick plain?
+plain-short b t = by-test (eqb b 95) (λ e. rw e refl) (λ f. rw (f, ne-eqb b 10 (λ e. not-both refl (rw e at t)), ne-eqb b 92 (λ e. not-both refl (rw e at t))) refl)
+
+names-short : (l : List ℕ) → ((k : ℕ) → k < length l → plain? (getD l k 0) ≡ true) → length (escaped (spaced l)) ≡ length l
+unfolding escaped spaced
+names-short [] each = refl
+names-short (b ∷ r) each = length-append (name·byte b) (escaped (spaced r)) ∙ rw (plain-short b (each 0 (omega arith)), names-short r (λ k h. each (suc k) (omega arith))) (omega arith)
+
+plain-size : (text : List ℕ) (start end : ℕ) → Plain·word text start end → length (escaped (spaced (part text start end))) ≡ end - start
+plain-size text start end w =
+    let within = w .within in
+    let size : length (part text start end) ≡ end - start = length-take-le (end - start) (drop start text) (rw (length-drop start text) (omega arith)) in
+    names-short (part text start end) (λ k h. rw (getD-take (end - start) (drop start text) k 0 (omega (arith, size)), getD-drop start text k 0) (w .each k (omega (arith, size)))) ∙ size
+
+-- So the place behind such a name, of which nothing has room, is known.
+pub name-past : (text : List ℕ) (start end : ℕ) (buffer : List ℕ) (n next : ℕ) → Plain·word text start end → length buffer ≤ n → (next ≡ min last·place (n + (end - start))) × (n ≤ next)
+    → Puts buffer n (text·piece (part text start end)) buffer next
+name-past text start end buffer n next w h e = puts-past buffer n (escaped (spaced (part text start end))) next h (rw (plain-size text start end w) e)
 
 -- Bytes of a name one after another.
 pub bytes-next : (text : List ℕ) (i end : ℕ) (behind : List ℕ) → i < end → i < length text → text·piece (part text i end) behind ≡ name·byte (getD text i 0) ++ text·piece (part text (i + 1) end) behind

@@ -1,15 +1,16 @@
 -- Words and whole sets that are told by their bytes at once and put behind a row, one after another. Assumes nothing.
 use Prim.Native.Nat.{ℕ, suc, _+_, _-_, _≤_, _<_}
 use Rattle.block.specs.Cell.{Cell}
+use Rattle.block.specs.Chunk.{set·cell}
 use Rattle.block.specs.Commands.{newline}
 use Rattle.block.specs.Format.{Format}
 use Rattle.lexer.proofs.SmallBytes.{Small}
+use Rattle.lexer.specs.PlainWords.{Plain·word, part, word·token}
 use Rattle.lexer.specs.Stored.{word·of}
 use Rattle.lexer.specs.Words.{line·end?, mark?, punct}
 use Rattle.matrix.proofs.SetLaws.{open-line}
 use Rattle.matrix.specs.Taken.{also}
-use Rattle.matrix.specs.WholeSets.{Plain·word, Set·closed, bracket·of, part, word·token}
-use Rattle.block.specs.Chunk.{set·cell}
+use Rattle.matrix.specs.WholeSets.{Set·closed, bracket·of}
 use Rattle.reading.proofs.RowSteps.{plain-word}
 use Rattle.reading.proofs.RowWalks.{Rowing, Words·left, step-ahead, step-kept, step-on}
 use Rattle.reading.proofs.WordCells.{plain-put}

@@ -9,11 +9,12 @@ use Rattle.emit.specs.Puts.{Puts}
 use Rattle.lexer.proofs.Basics.{and-left, and-right, by-test, eqb-same}
 use Rattle.lexer.proofs.ListLaws.{take-next}
 use Rattle.lexer.specs.Base.{pick}
+use Rattle.lexer.specs.PlainWords.{part}
 use Rattle.lexer.specs.Stored.{word·of}
 use Rattle.lexer.specs.Words.{mark?, punct, word?}
 use Rattle.lexer.specs.declared.Kind.{Kind}
 use Rattle.matrix.specs.Taken.{also, states·taken, taken, word·taken}
-use Rattle.matrix.specs.WholeSets.{Set·bytes, Whole·set, bracket·of, opener, part, rising, simple?}
+use Rattle.matrix.specs.WholeSets.{Set·bytes, Whole·set, bracket·of, opener, rising, simple?}
 use Rattle.reading.proofs.DecodedLaws.{decoded-state}
 use Rattle.reading.proofs.RowPieces.{row-one}
 use Rattle.reading.proofs.RowSteps.{taken-brace, taken-closer, taken-parenthesis, taken-states}

@@ -2,10 +2,10 @@
 use Prim.Native.Nat.{ℕ}
 use Rattle.lexer.specs.Base.{pick}
 use Rattle.lexer.specs.Lexing.{token·at}
+use Rattle.lexer.specs.PlainWords.{Plain·word, part}
 use Rattle.lexer.specs.Stored.{word·of}
 use Rattle.lexer.specs.Words.{Numbered, punct, word?}
 use Rattle.lexer.specs.declared.Kind.{Kind}
-use Rattle.matrix.specs.WholeSets.{Plain·word, part}
 use Rattle.reading.specs.CodedCells.{Row·put, cells·coded, has·cells, word·coded}
 use Rattle.reading.specs.declared.cells.Putting.{Putting}
 use lib.ListN.{getD}

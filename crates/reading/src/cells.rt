@@ -6,9 +6,10 @@ ghost use Rattle.block.specs.declared.kinds.Bracket.{Bracket};
 ghost use Rattle.emit.specs.Puts.{Puts, last·place};
 ghost use Rattle.lexer.specs.Base.{given, pick};
 ghost use Rattle.lexer.specs.Lexing.{token·at};
+ghost use Rattle.lexer.specs.PlainWords.{part};
 ghost use Rattle.lexer.specs.Stored.{word·of};
 ghost use Rattle.matrix.specs.Taken.{also, states·taken};
-ghost use Rattle.matrix.specs.WholeSets.{Set·bytes, bracket·of, part};
+ghost use Rattle.matrix.specs.WholeSets.{Set·bytes, bracket·of};
 ghost use Rattle.reading.specs.CodedCells.{Cleared, Digits, Row·put, cell·byte, cells·coded, codes·of, decoded, dotted·on, has·cells, letter·of, marked, marked·digits, marks, members, spell·maybe, topped, word·coded};
 ghost use Rattle.reading.specs.RowWalk.{Told·put};
 ghost use Rattle.reading.specs.ShortCells.{Ran·put, Short·run, Short·wrote};
@@ -23,13 +24,16 @@ use emit::put;
 use emit::put_decimal;
 use lexer::Item;
 use lexer::Kind;
+use lexer::entry_of;
 use lexer::kind_at;
 use lexer::next_byte;
 use lexer::plain_run;
 use lexer::start_of;
 use lexer::text_start;
+use lexer::word_bytes;
+use lexer::word_stop;
+use lexer::word_stop_by;
 use matrix::sets::set_closes;
-use matrix::sets::word_stop;
 
 // A row that is put: the next place, whether a cell was put, and how many cells are lacking.
 pub struct Putting {
@@ -143,13 +147,6 @@ fn has_cell(code: u8) -> bool
     code == 127
 }
 
-// The code of a byte.
-fn code_of(codes: &[u8; 256], b: u8) -> u8
-    ensures { λ r. ⌜ r ≡ getD (now (codes .entry)) b 0 ⌝ }
-{
-    codes[b as usize]
-}
-
 // One fewer; none is fewer than none.
 fn fewer(left: usize) -> usize
     ensures { λ r. ⌜ r ≡ left - 1 ⌝ }
@@ -193,7 +190,7 @@ fn short_end(text: &[u8], from: usize, end: usize, codes: &[u8; 256]) -> usize
 {
     let mut i = from;
     while i < end {
-        if cell_byte(code_of(codes, text[i])) == 0 {
+        if cell_byte(entry_of(codes, text[i])) == 0 {
             return i;
         }
         i += 1;
@@ -226,7 +223,7 @@ fn write_short(
     let mut at = n;
     let mut i = from;
     while i < end {
-        let b = cell_byte(code_of(codes, text[i]));
+        let b = cell_byte(entry_of(codes, text[i]));
         if b == 0 {
             return i;
         }
@@ -308,7 +305,7 @@ fn put_rest(
     let mut last = row;
     let mut i = from;
     while i < end {
-        last = put_cell(buffer, last, code_of(codes, text[i]));
+        last = put_cell(buffer, last, entry_of(codes, text[i]));
         let ran = put_short(text, i + 1, end, buffer, last, codes);
         last = ran.row;
         i = ran.next;
@@ -372,7 +369,7 @@ fn put_digits(
     let mut mark = letter;
     let mut i = from;
     while i < end {
-        let code = code_of(codes, text[i]);
+        let code = entry_of(codes, text[i]);
         let behind = put(buffer, at, mark);
         at = put(buffer, behind, 48 + code);
         mark = 46;
@@ -421,7 +418,7 @@ fn put_cells(
         row = put_run(text, at, run.at, buffer, row, codes);
         match next_byte(text, run) {
             Item::Byte(b, d) => {
-                row = put_cell(buffer, row, code_of(codes, b));
+                row = put_cell(buffer, row, entry_of(codes, b));
                 c = d;
             }
             Item::End => {
@@ -463,7 +460,7 @@ fn mark_states(
     loop {
         match next_byte(text, c) {
             Item::Byte(b, d) => {
-                top = mark_state(set, top, code_of(codes, b));
+                top = mark_state(set, top, entry_of(codes, b));
                 c = d;
             }
             Item::End => {
@@ -547,22 +544,23 @@ pub fn put_told(
 ) -> Ran
     ensures { λ r. ⌜ Told·put (now (codes .entry)) (now (text .entry)) (now (starts .entry)) to (now (buffer .entry)) row from (now (buffer .exit)) (r .row) (r .next) ⌝ }
 {
+    let table = word_bytes();
     let mut last = row;
     let mut i = from;
     while i < to {
         let start = start_of(starts, i);
-        let close = set_closes(text, starts, i, to, codes);
-        if close == 0 {
-            let end = word_stop(text, start);
-            if end <= start {
-                return Ran { row: last, next: i };
-            }
+        let end = word_stop_by(text, start, &table);
+        if start < end {
             if last.left <= end - start {
                 return Ran { row: last, next: i };
             }
             last = put_run(text, start, end, buffer, last, codes);
             i += 1;
             continue;
+        }
+        let close = set_closes(text, starts, i, to, codes);
+        if close == 0 {
+            return Ran { row: last, next: i };
         }
         if last.left <= 1 {
             return Ran { row: last, next: i };

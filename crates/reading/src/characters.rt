@@ -10,9 +10,9 @@ ghost use Rattle.commands.specs.WorkMap.{map·fits};
 ghost use Rattle.emit.specs.Puts.{Puts};
 ghost use Rattle.lexer.specs.Base.{pick};
 ghost use Rattle.lexer.specs.Bytes.{left};
+ghost use Rattle.lexer.specs.PlainWords.{part};
 ghost use Rattle.lexer.specs.Stored.{range};
 ghost use Rattle.lexer.specs.Words.{spaced};
-ghost use Rattle.matrix.specs.WholeSets.{part};
 ghost use Rattle.reading.specs.CharactersHeld.{characters·from, slot·character, slot·label, slot·states, slot·type, states·piece};
 ghost use Rattle.reading.specs.Pieces.{name·piece};
 ghost use Rattle.record.specs.Decimal.{decimal};
@@ -43,7 +43,7 @@ use lexer::Item;
 use lexer::next_byte;
 use lexer::start_of;
 use lexer::text_start;
-use matrix::sets::word_stop;
+use lexer::word_stop;
 
 // Puts a byte of a name: `_` is a blank, LF is `\0`, a backslash `\1`.
 fn put_escaped(buffer: &mut [u8], n: usize, b: u8) -> usize
@@ -94,13 +94,16 @@ fn put_bytes(text: &[u8], from: usize, end: usize, buffer: &mut [u8], n: usize) 
     m
 }
 
-// Puts the name that the word of an index is, escaped. Most names are told at once by their bytes.
+// Puts the name that the word of an index is, escaped. Most names are told at once by their bytes, of which none is escaped: each takes one byte.
 pub fn put_name(text: &[u8], starts: &[u32], buffer: &mut [u8], n: usize, i: usize) -> usize
     ensures { λ r. ⌜ Puts (now (buffer .entry)) n (name·piece (now (text .entry)) (now (starts .entry)) i) (now (buffer .exit)) r ⌝ }
 {
     let start = start_of(starts, i);
     let end = word_stop(text, start);
     if start < end {
+        if buffer.len() <= n {
+            return further(n, end - start);
+        }
         return put_bytes(text, start, end, buffer, n);
     }
     put_text(text, text_start(text, start), buffer, n)

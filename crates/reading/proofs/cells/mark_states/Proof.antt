@@ -26,8 +26,8 @@ next-byte-requires c κs = search needs
 enum-known-b : tie.Need-enum-known-b Inv-loop μ-loop
 enum-known-b c = search needs
 
-code-of-requires : tie.Need-code-of-requires Inv-loop μ-loop
-code-of-requires c κs = search needs
+entry-of-requires : tie.Need-entry-of-requires Inv-loop μ-loop
+entry-of-requires c κs = search needs
 
 mark-state-requires : tie.Need-mark-state-requires Inv-loop μ-loop
 mark-state-requires c κs = search needs
@@ -42,7 +42,7 @@ loop-again : tie.Need-loop-again Inv-loop μ-loop
 loop-again c =
     let k = c .before .before .before .before in
     let n = k .before .before in
-    marking-turn _ _ _ _ (n .before .loop .inv) _ _ _ (yielded _ _ _ (n .next-byte .ensures) .byte _ _ (k .b .given .1)) (c .before .code-of .ensures) (c .mark-state .ensures .0) (c .mark-state .ensures .1)
+    marking-turn _ _ _ _ (n .before .loop .inv) _ _ _ (yielded _ _ _ (n .next-byte .ensures) .byte _ _ (k .b .given .1)) (c .before .entry-of .ensures) (c .mark-state .ensures .0) (c .mark-state .ensures .1)
 
 enum-told : tie.Need-enum-told Inv-loop μ-loop
 enum-told c = search needs
@@ -60,7 +60,7 @@ mark-states-spec =
     loop-holds
     next-byte-requires
     enum-known-b
-    code-of-requires
+    entry-of-requires
     mark-state-requires
     loop-less
     loop-again

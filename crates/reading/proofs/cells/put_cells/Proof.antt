@@ -37,8 +37,8 @@ next-byte-requires c κs = search needs
 enum-known-b : tie.Need-enum-known-b Inv-loop μ-loop
 enum-known-b c = search needs
 
-code-of-requires : tie.Need-code-of-requires Inv-loop μ-loop
-code-of-requires c κs = search needs
+entry-of-requires : tie.Need-entry-of-requires Inv-loop μ-loop
+entry-of-requires c κs = search needs
 
 put-cell-requires : tie.Need-put-cell-requires Inv-loop μ-loop
 put-cell-requires c κs = search needs
@@ -61,7 +61,7 @@ loop-again c =
     let l = q .before .loop in
     let a = q .before .before .before .before .before .args in
     let ran = cells-run (now (a .codes)) (now (a .text)) (a .start) (l .c) (q .plain-run .result) (l .inv .1) (run-left _ _ _ (q .plain-run .ensures)) (r .put-run .ensures) in
-    (p .put-cell .ensures .put .kept ∙ r .put-run .ensures .put .kept ∙ l .inv .0, cells-turn _ _ _ _ ran _ _ (yielded _ _ _ (n .next-byte .ensures) .byte _ _ (k .b .given .1)) (rw (p .before .code-of .ensures) at (p .put-cell .ensures)))
+    (p .put-cell .ensures .put .kept ∙ r .put-run .ensures .put .kept ∙ l .inv .0, cells-turn _ _ _ _ ran _ _ (yielded _ _ _ (n .next-byte .ensures) .byte _ _ (k .b .given .1)) (rw (p .before .entry-of .ensures) at (p .put-cell .ensures)))
 
 enum-told : tie.Need-enum-told Inv-loop μ-loop
 enum-told c = search needs
@@ -93,7 +93,7 @@ put-cells-spec =
     put-run-requires
     next-byte-requires
     enum-known-b
-    code-of-requires
+    entry-of-requires
     put-cell-requires
     loop-less
     loop-again

@@ -16,11 +16,11 @@ abbrev μ-loop : tie.MeasureT-loop
 loop-holds : tie.Need-loop-holds Inv-loop μ-loop
 loop-holds c = let p = c .before .before .pre in record { ahead = omega arith; within = p .ahead; kept = refl; rest = λ after next q. q }
 
-shared-slice-read-code-of : tie.Need-shared-slice-read-code-of Inv-loop μ-loop
-shared-slice-read-code-of c = let p = c .before .before .before .before .before .pre in omega (arith, p .within)
+shared-slice-read-entry-of : tie.Need-shared-slice-read-entry-of Inv-loop μ-loop
+shared-slice-read-entry-of c = let p = c .before .before .before .before .before .pre in omega (arith, p .within)
 
-code-of-requires : tie.Need-code-of-requires Inv-loop μ-loop
-code-of-requires c κs = search needs
+entry-of-requires : tie.Need-entry-of-requires Inv-loop μ-loop
+entry-of-requires c κs = search needs
 
 put-requires : tie.Need-put-requires Inv-loop μ-loop
 put-requires c κs = search needs
@@ -30,7 +30,7 @@ add-put c =
     let t = c .before .before .before .before .before .before .before in
     let l = t .before in
     let low = l .before .before .before .pre .each (l .loop .i) (l .loop .inv .ahead) (t .loop-test .taken) in
-    omega (arith, c .before .before .before .before .before .code-of .ensures, low)
+    omega (arith, c .before .before .before .before .before .entry-of .ensures, low)
 
 put-requires-2 : tie.Need-put-requires-2 Inv-loop μ-loop
 put-requires-2 c κs = search needs
@@ -46,7 +46,7 @@ loop-again c =
     let m = c .before .before .before .before .before .before in
     let d = m .before .before in
     let l = d .before .before in
-    digits-turn _ _ _ _ _ _ _ _ (l .before .loop .inv) (l .loop-test .taken) (omega (arith, l .before .before .before .before .pre .within, l .loop-test .taken)) (d .code-of .ensures) (m .put .ensures) (c .before .before .put2 .ensures)
+    digits-turn _ _ _ _ _ _ _ _ (l .before .loop .inv) (l .loop-test .taken) (omega (arith, l .before .before .before .before .pre .within, l .loop-test .taken)) (d .entry-of .ensures) (m .put .ensures) (c .before .before .put2 .ensures)
 
 same-length : tie.Need-same-length Inv-loop μ-loop
 same-length c = c .before .loop .inv .kept
@@ -61,8 +61,8 @@ put-digits-spec =
     Inv-loop
     μ-loop
     loop-holds
-    shared-slice-read-code-of
-    code-of-requires
+    shared-slice-read-entry-of
+    entry-of-requires
     put-requires
     add-put
     put-requires-2

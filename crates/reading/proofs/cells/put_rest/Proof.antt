@@ -20,11 +20,11 @@ abbrev μ-loop : tie.MeasureT-loop
 loop-holds : tie.Need-loop-holds Inv-loop μ-loop
 loop-holds c = (omega arith, search needs, refl, λ after next p. p)
 
-shared-slice-read-code-of : tie.Need-shared-slice-read-code-of Inv-loop μ-loop
-shared-slice-read-code-of c = search needs
+shared-slice-read-entry-of : tie.Need-shared-slice-read-entry-of Inv-loop μ-loop
+shared-slice-read-entry-of c = search needs
 
-code-of-requires : tie.Need-code-of-requires Inv-loop μ-loop
-code-of-requires c κs = search needs
+entry-of-requires : tie.Need-entry-of-requires Inv-loop μ-loop
+entry-of-requires c κs = search needs
 
 put-cell-requires : tie.Need-put-cell-requires Inv-loop μ-loop
 put-cell-requires c κs = search needs
@@ -46,7 +46,7 @@ loop-again c =
     let l = t .before .loop in
     let a = t .before .before .before .before .args in
     let r = s .put-short .ensures in
-    let one = part-one (now (a .codes)) (now (a .text)) (l .i) (omega arith) (rw (p .before .code-of .ensures) at (p .put-cell .ensures)) in
+    let one = part-one (now (a .codes)) (now (a .text)) (l .i) (omega arith) (rw (p .before .entry-of .ensures) at (p .put-cell .ensures)) in
     let first = run-part (now (a .codes)) (now (a .text)) (a .from) (a .end) (l .i) (l .inv .3) (l .i + 1) (omega arith) (omega arith) one in
     (omega (arith, r .ahead), r .within, r .put .put .kept ∙ p .put-cell .ensures .put .kept ∙ l .inv .2, run-part (now (a .codes)) (now (a .text)) (a .from) (a .end) (l .i + 1) first (s .put-short .result .next) (r .ahead) (r .within) (r .put))
 
@@ -66,8 +66,8 @@ put-rest-spec =
     Inv-loop
     μ-loop
     loop-holds
-    shared-slice-read-code-of
-    code-of-requires
+    shared-slice-read-entry-of
+    entry-of-requires
     put-cell-requires
     add-put-short
     put-short-requires

@@ -8,10 +8,13 @@ use borrow.Author.Needs.{needs}
 use native.Mathlib.Omega.{arith}
 
 abbrev Inv-loop : tie.InvT-loop
-Inv-loop text starts from to buffer₀ codes last₀ i₀ buffer last i = Told·put codes text starts to buffer₀ last₀ from buffer last i
+Inv-loop text starts from to buffer₀ codes table last₀ i₀ buffer last i = Told·put codes text starts to buffer₀ last₀ from buffer last i
 
 abbrev μ-loop : tie.MeasureT-loop
-μ-loop text starts from to buffer₀ codes last₀ i₀ buffer last i = to - i
+μ-loop text starts from to buffer₀ codes table last₀ i₀ buffer last i = to - i
+
+word-bytes-requires : tie.Need-word-bytes-requires Inv-loop μ-loop
+word-bytes-requires c κs = search needs
 
 loop-holds : tie.Need-loop-holds Inv-loop μ-loop
 loop-holds c = none·told
@@ -19,32 +22,22 @@ loop-holds c = none·told
 start-of-requires : tie.Need-start-of-requires Inv-loop μ-loop
 start-of-requires c κs = search needs
 
-set-closes-requires : tie.Need-set-closes-requires Inv-loop μ-loop
-set-closes-requires c κs = search needs
+word-stop-by-requires : tie.Need-word-stop-by-requires Inv-loop μ-loop
+word-stop-by-requires c κs = c .before .before .before .before .word-bytes .ensures
 
-word-stop-requires : tie.Need-word-stop-requires Inv-loop μ-loop
-word-stop-requires c κs = search needs
+sub-if2 : tie.Need-sub-if2 Inv-loop μ-loop
+sub-if2 c = search needs
 
 same-length : tie.Need-same-length Inv-loop μ-loop
-same-length c = told-kept (c .before .before .before .before .before .before .loop .inv) .0
+same-length c = told-kept (c .before .before .before .before .before .before .before .loop .inv) .0
 
 returns : tie.Need-returns Inv-loop μ-loop
-returns c = c .before .before .before .before .before .before .loop .inv
-
-sub-if3 : tie.Need-sub-if3 Inv-loop μ-loop
-sub-if3 c = search needs
-
-same-length-2 : tie.Need-same-length-2 Inv-loop μ-loop
-same-length-2 c = told-kept (c .before .before .before .before .before .before .before .before .loop .inv) .0
-
-returns-2 : tie.Need-returns-2 Inv-loop μ-loop
-returns-2 c = c .before .before .before .before .before .before .before .before .loop .inv
+returns c = c .before .before .before .before .before .before .before .loop .inv
 
 put-run-requires : tie.Need-put-run-requires Inv-loop μ-loop
 put-run-requires c κs =
-    let some = c .before .before .before .if2 .left in
-    let within = c .before .before .before .before .word-stop .ensures (omega (arith, some)) .within in
-    (omega (arith, some), omega (arith, some))
+    let within = c .before .before .before .before .word-stop-by .ensures (c .before .before .before .if1 .taken) .within in
+    (omega arith, omega arith)
 
 add-i : tie.Need-add-i Inv-loop μ-loop
 add-i c = search needs
@@ -54,39 +47,48 @@ loop-less c = search needs
 
 loop-again : tie.Need-loop-again Inv-loop μ-loop
 loop-again c =
-    let some = c .before .before .before .before .before .before .if2 .left in
     let w = c .before .before .before .before .before .before .before in
-    let t = c .before .before .before .before .before .before .before .before .before .before .before in
-    told-word (t .before .loop .inv) (t .loop-test .taken) _ _ (c .before .before .before .before .before .before .before .before .before .before .start-of .ensures) (w .word-stop .ensures (omega (arith, some))) (c .before .before .before .before .if3 .left) (c .before .before .put-run .ensures)
+    let t = w .before .before .before in
+    told-word (t .before .loop .inv) (t .loop-test .taken) _ _ (w .before .before .start-of .ensures) (w .word-stop-by .ensures (c .before .before .before .before .before .before .if1 .taken)) (c .before .before .before .before .if2 .left) (c .before .before .put-run .ensures)
+
+set-closes-requires : tie.Need-set-closes-requires Inv-loop μ-loop
+set-closes-requires c κs = search needs
+
+same-length-2 : tie.Need-same-length-2 Inv-loop μ-loop
+same-length-2 c = told-kept (c .before .before .before .before .before .before .before .loop .inv) .0
+
+returns-2 : tie.Need-returns-2 Inv-loop μ-loop
+returns-2 c = c .before .before .before .before .before .before .before .loop .inv
 
 same-length-3 : tie.Need-same-length-3 Inv-loop μ-loop
-same-length-3 c = told-kept (c .before .before .before .before .before .before .loop .inv) .0
+same-length-3 c = told-kept (c .before .before .before .before .before .before .before .before .before .loop .inv) .0
 
 returns-3 : tie.Need-returns-3 Inv-loop μ-loop
-returns-3 c = c .before .before .before .before .before .before .loop .inv
+returns-3 c = c .before .before .before .before .before .before .before .before .before .loop .inv
 
 put-whole-set-requires : tie.Need-put-whole-set-requires Inv-loop μ-loop
 put-whole-set-requires c κs =
-    let some = c .before .before .before .if1 .left in
-    rw (c .before .before .before .before .before .start-of .ensures) (c .before .before .before .before .set-closes .ensures (omega (arith, some)) .bytes)
+    let some = c .before .before .before .if3 .left in
+    rw (c .before .before .before .before .before .before .before .before .start-of .ensures) (c .before .before .before .before .set-closes .ensures (omega (arith, some)) .bytes)
 
 add-i-2 : tie.Need-add-i-2 Inv-loop μ-loop
 add-i-2 c =
-    let some = c .before .before .before .before .before .before .if1 .left in
+    let some = c .before .before .before .before .before .before .if3 .left in
     let whole = c .before .before .before .before .before .before .before .set-closes .ensures (omega (arith, some)) .whole in
     omega (arith, whole .room)
 
 loop-less-2 : tie.Need-loop-less-2 Inv-loop μ-loop
 loop-less-2 c =
-    let some = c .before .before .before .before .before .before .if1 .left in
+    let some = c .before .before .before .before .before .before .if3 .left in
     let whole = c .before .before .before .before .before .before .before .set-closes .ensures (omega (arith, some)) .whole in
     omega (arith, whole .room)
 
 loop-again-2 : tie.Need-loop-again-2 Inv-loop μ-loop
 loop-again-2 c =
-    let some = c .before .before .before .before .before .before .if1 .left in
-    let t = c .before .before .before .before .before .before .before .before .before in
-    told-set (t .before .loop .inv) (t .loop-test .taken) _ (c .before .before .before .before .before .before .before .set-closes .ensures (omega (arith, some))) (c .before .before .before .before .if4 .left) (rw (c .before .before .before .before .before .before .before .before .start-of .ensures) at (c .before .before .put-whole-set .ensures))
+    let some = c .before .before .before .before .before .before .if3 .left in
+    let s = c .before .before .before .before .before .before .before in
+    let t = s .before .before .before .before .before in
+    told-set (t .before .loop .inv) (t .loop-test .taken) _ (s .set-closes .ensures (omega (arith, some))) (c .before .before .before .before .if4 .left) (rw (s .before .before .before .before .start-of .ensures) at (c .before .before .put-whole-set .ensures))
 
 same-length-4 : tie.Need-same-length-4 Inv-loop μ-loop
 same-length-4 c = told-kept (c .before .loop .inv) .0
@@ -100,19 +102,20 @@ put-told-spec =
     (tie.spec
     Inv-loop
     μ-loop
+    word-bytes-requires
     loop-holds
     start-of-requires
-    set-closes-requires
-    word-stop-requires
+    word-stop-by-requires
+    sub-if2
     same-length
     returns
-    sub-if3
-    same-length-2
-    returns-2
     put-run-requires
     add-i
     loop-less
     loop-again
+    set-closes-requires
+    same-length-2
+    returns-2
     same-length-3
     returns-3
     put-whole-set-requires

@@ -18,11 +18,11 @@ abbrev μ-loop : tie.MeasureT-loop
 loop-holds : tie.Need-loop-holds Inv-loop μ-loop
 loop-holds c = (search needs, search needs, shorts-none _ _ _)
 
-shared-slice-read-code-of : tie.Need-shared-slice-read-code-of Inv-loop μ-loop
-shared-slice-read-code-of c = search needs
+shared-slice-read-entry-of : tie.Need-shared-slice-read-entry-of Inv-loop μ-loop
+shared-slice-read-entry-of c = search needs
 
-code-of-requires : tie.Need-code-of-requires Inv-loop μ-loop
-code-of-requires c κs = search needs
+entry-of-requires : tie.Need-entry-of-requires Inv-loop μ-loop
+entry-of-requires c κs = search needs
 
 cell-byte-requires : tie.Need-cell-byte-requires Inv-loop μ-loop
 cell-byte-requires c κs = search needs
@@ -35,7 +35,7 @@ returns c =
       ahead = l .0;
       within = l .1;
       short = l .2 .each;
-      stopped = λ h. sym (b .cell-byte .ensures ∙ ap cell·byte (b .before .code-of .ensures)) ∙ c .if1 .taken;
+      stopped = λ h. sym (b .cell-byte .ensures ∙ ap cell·byte (b .before .entry-of .ensures)) ∙ c .if1 .taken;
     }
 
 add-i : tie.Need-add-i Inv-loop μ-loop
@@ -48,7 +48,7 @@ loop-again : tie.Need-loop-again Inv-loop μ-loop
 loop-again c =
     let b = c .before in
     let l = b .before .before .before .before .loop .inv in
-    (omega arith, omega arith, shorts-more _ _ _ _ (l .2) (λ e. c .if1 .left (b .cell-byte .ensures ∙ ap cell·byte (b .before .code-of .ensures) ∙ e)))
+    (omega arith, omega arith, shorts-more _ _ _ _ (l .2) (λ e. c .if1 .left (b .cell-byte .ensures ∙ ap cell·byte (b .before .entry-of .ensures) ∙ e)))
 
 returns-2 : tie.Need-returns-2 Inv-loop μ-loop
 returns-2 c =
@@ -62,8 +62,8 @@ short-end-spec =
     Inv-loop
     μ-loop
     loop-holds
-    shared-slice-read-code-of
-    code-of-requires
+    shared-slice-read-entry-of
+    entry-of-requires
     cell-byte-requires
     returns
     add-i

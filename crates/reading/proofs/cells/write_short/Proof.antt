@@ -19,11 +19,11 @@ abbrev μ-loop : tie.MeasureT-loop
 loop-holds : tie.Need-loop-holds Inv-loop μ-loop
 loop-holds c = let p = c .before .before .pre in wrote-start _ _ _ _ _ _ (p .0) (p .2)
 
-shared-slice-read-code-of : tie.Need-shared-slice-read-code-of Inv-loop μ-loop
-shared-slice-read-code-of c = search needs
+shared-slice-read-entry-of : tie.Need-shared-slice-read-entry-of Inv-loop μ-loop
+shared-slice-read-entry-of c = search needs
 
-code-of-requires : tie.Need-code-of-requires Inv-loop μ-loop
-code-of-requires c κs = search needs
+entry-of-requires : tie.Need-entry-of-requires Inv-loop μ-loop
+entry-of-requires c κs = search needs
 
 cell-byte-requires : tie.Need-cell-byte-requires Inv-loop μ-loop
 cell-byte-requires c κs = search needs
@@ -55,7 +55,7 @@ loop-less c = search needs
 loop-again : tie.Need-loop-again Inv-loop μ-loop
 loop-again c =
     let t = c .before .before .before .before in
-    wrote-turn _ _ _ _ _ _ (t .before .loop .inv) _ (c .before .cell-byte .ensures ∙ ap cell·byte (c .before .before .code-of .ensures)) (t .loop-test .taken) (omega arith) (c .if1 .left)
+    wrote-turn _ _ _ _ _ _ (t .before .loop .inv) _ (c .before .cell-byte .ensures ∙ ap cell·byte (c .before .before .entry-of .ensures)) (t .loop-test .taken) (omega arith) (c .if1 .left)
 
 same-length-2 : tie.Need-same-length-2 Inv-loop μ-loop
 same-length-2 c = c .before .loop .inv .kept
@@ -70,8 +70,8 @@ write-short-spec =
     Inv-loop
     μ-loop
     loop-holds
-    shared-slice-read-code-of
-    code-of-requires
+    shared-slice-read-entry-of
+    entry-of-requires
     cell-byte-requires
     same-length
     returns

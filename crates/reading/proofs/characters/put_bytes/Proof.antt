@@ -1,6 +1,6 @@
 -- The function `put_bytes` meets its contract: a turn puts one byte. The measure is what is left of the bytes. Assumes nothing.
 use Prim.Native.Nat.{_-_}
-use Rattle.matrix.specs.WholeSets.{part}
+use Rattle.lexer.specs.PlainWords.{part}
 use Rattle.reading.proofs.NamePuts.{bytes-end, bytes-next, text·piece}
 use Rattle.reading.proofs.PutWalks.{Putting, putting-end, putting-start, putting-turn}
 use Rattle.reading.proofs.characters.put_bytes.Statement.{statement}
