@@ -16,7 +16,7 @@ fn keyed_cells(source: &[u8], i: usize, characters: CharacterNumber, states: usi
     ensures { λ r. ⌜ (1 ≤ characters .0 → Cells·told (now (source .entry)) i (characters .0) states r) ⌝ }
 {
     match key_at(source, i, b"cells=") {
-        Behind::At(j) => cells_line(source, j, characters.0, states),
+        Behind::At(j) => cells_line(source, j, characters, states),
         Behind::Wrong => Cells::Wrong,
     }
 }
