@@ -2,7 +2,7 @@
 use Prim.Native.Nat.{ℕ, suc, _+_, _-_, _≤_, _<_}
 use Rattle.judging.proofs.TellLaws.{same-told, tells-none, tells-nothing, tells-no-first, tells-then}
 use Rattle.judging.specs.Judges.{Stands}
-use Rattle.judging.specs.Lists.{Each, Listed, List·told, spelled·all, told·all}
+use Rattle.judging.specs.Lists.{Listed, List·told, spelled·all, told·all}
 use Rattle.judging.specs.Tells.{Part, nothing, until, Tells}
 use lib.ListN.{length, drop}
 use mathlib.Core.List.{List, [], _∷_, _++_}

@@ -12,7 +12,7 @@ use Rattle.judging.specs.Parts.{Cells·told, Row·good, Row·told, Rows�
 use Rattle.judging.specs.Tells.{Part, nothing, until, Tells, behind·of, cells·of}
 use Rattle.judging.specs.declared.Behind.{Behind}
 use Rattle.judging.specs.declared.cells.Cells.{Cells}
-use Rattle.lexer.specs.Base.{bytes, byte}
+use Rattle.lexer.specs.Base.{bytes}
 use Rattle.record.specs.Spell.{escaped, line, spell·cells}
 use lib.ListN.{length, drop, length-append}
 use mathlib.Core.Bool.{Bool, true, false, _||_}

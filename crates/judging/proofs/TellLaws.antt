@@ -9,7 +9,7 @@ use Rattle.judging.specs.declared.Behind.{Behind}
 use Rattle.lexer.proofs.Basics.{not-both}
 use lib.ListN.{length, drop, length-append}
 use mathlib.Core.Bool.{Bool, true, false}
-use mathlib.Core.List.{List, [], _++_, append-assoc}
+use mathlib.Core.List.{List, _++_, append-assoc}
 use mathlib.Core.Path.{_≡_, refl, sym, ap, _∙_, subst}
 use native.Mathlib.Omega.{arith}
 

@@ -1,7 +1,6 @@
 // The rows of a record, each a name and its cells.
 
 ghost use Prim.Native.Nat.{_≤_};
-ghost use Rattle.judging.specs.Judges.{Judges};
 ghost use Rattle.judging.specs.Parts.{Cells·told, Row·told, Rows·told};
 use super::Behind;
 use super::cells::Cells;
