@@ -15,7 +15,7 @@ pub wrong-no-end : (j : ℕ) → Behind.Wrong ≡ Behind.At j → ⊥
 wrong-no-end j e = let z : _≡_ {A = ℕ} 0 1 = cc in omega arith
 
 -- Ends that are the same answer are equal.
-pub same-end : (j k : ℕ) → Behind.At j ≡ Behind.At k → j ≡ k
+same-end : (j k : ℕ) → Behind.At j ≡ Behind.At k → j ≡ k
 same-end j k e = cc
 
 module _ {A : Type 0} (b : List ℕ) (i : ℕ) (good : A → Type 0) (spelled : A → List ℕ) where

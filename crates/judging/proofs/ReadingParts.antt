@@ -72,19 +72,19 @@ rows-gap before [] = sym (or-false before)
 rows-gap before (t ∷ ts) = rows-gap (before || gap·among (t .cells)) ts ∙ sym (or-assoc before (gap·among (t .cells)) (gap·in ts))
 
 -- State labels.
-pub states-spelled : (k : ℕ) (ss : List (List ℕ)) (behind : List ℕ) → spell·states ss behind ≡ spelled·all spell·state k ss ++ behind
+states-spelled : (k : ℕ) (ss : List (List ℕ)) (behind : List ℕ) → spell·states ss behind ≡ spelled·all spell·state k ss ++ behind
 unfolding spell·states spelled·all spell·state
 states-spelled k [] behind = refl
 states-spelled k (s ∷ ss) behind =
     line-behind "state=" (escaped s) (spell·states ss behind) ∙ ap (λ l. line "state=" (escaped s) [] ++ l) (states-spelled (suc k) ss behind)
     ∙ sym (append-assoc (line "state=" (escaped s) []) (spelled·all spell·state (suc k) ss) behind)
 
-pub states-names : (k : ℕ) (ss : List (List ℕ)) → Each States·good k ss → sound·names ss ≡ true
+states-names : (k : ℕ) (ss : List (List ℕ)) → Each States·good k ss → sound·names ss ≡ true
 unfolding sound·names
 states-names k [] g = refl
 states-names k (s ∷ ss) (g, more) = and-both g (states-names (suc k) ss more)
 
-pub states-good : (k : ℕ) (ss : List (List ℕ)) → sound·names ss ≡ true → Each States·good k ss
+states-good : (k : ℕ) (ss : List (List ℕ)) → sound·names ss ≡ true → Each States·good k ss
 unfolding sound·names
 states-good k [] g = tt
 states-good k (s ∷ ss) g = (and-left (sound·name s) (sound·names ss) g, states-good (suc k) ss (and-right (sound·name s) (sound·names ss) g))

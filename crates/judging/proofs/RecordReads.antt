@@ -97,7 +97,7 @@ opening-front o =
     ∙ line-append "datatype=" (type·word (o .data·type)) (taxa (characters (bytes "symbols="))) rest
 
 -- Fewer symbols are allowed beside a gap than without.
-pub symbols-without : (t : DataType) (s : List ℕ) (gaps : Bool) → sound·symbols t s gaps ≡ true → sound·symbols t s false ≡ true
+symbols-without : (t : DataType) (s : List ℕ) (gaps : Bool) → sound·symbols t s gaps ≡ true → sound·symbols t s false ≡ true
 unfolding sound·symbols most·symbols
 symbols-without DataType.Dna s gaps g = g
 symbols-without DataType.Standard s false g = g

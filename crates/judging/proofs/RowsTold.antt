@@ -42,7 +42,7 @@ module _ (b : List ℕ) (characters states : ℕ) where
   abbrev Cells·good : List Cell → Type 0
   Cells·good cs = (sound·cells states cs ≡ true) × (length cs ≡ characters)
 
-  pub cells-told : (i : ℕ) → 1 ≤ characters → (r : Cells) → Cells·judged b i characters states r
+  cells-told : (i : ℕ) → 1 ≤ characters → (r : Cells) → Cells·judged b i characters states r
       → Tells b i Cells·good (λ cs. spell·cells cs ++ (10 ∷ [])) gap·among (cells·of r)
   unfolding cells·of
   cells-told i some r judged = record { found = found r judged; all = all }

@@ -1,12 +1,11 @@
 // The names of rows, whether no two are alike, ASCII case ignored. Some thousand are entered into a table at a time and all later ones are looked up in
 // it. A name is looked for from its slot on up to a free one; where the table ends first, all names that were entered are looked at.
 
-ghost use Prim.Native.Nat.{_+_, _≤_, _<_};
+ghost use Prim.Native.Nat.{_≤_, _<_};
 ghost use Rattle.block.specs.Names.{known};
 ghost use Rattle.naming.specs.Entries.{Block·judged, Line·entered, Line·sought, Lines·kept, Names·entered, Room·for, Room·of, Rows·judged, Slot·like, lines·at, none·known};
 ghost use Rattle.naming.specs.Lines.{line·at};
 ghost use Rattle.naming.specs.Rows.{Names·judged};
-ghost use Rattle.naming.specs.declared.names.Entered.{Entered};
 ghost use Rattle.slots.specs.Filling.{Table·sound, slot·of};
 ghost use Rattle.slots.specs.Hashes.{hash};
 ghost use lib.ListN.{length, take};
