@@ -1,13 +1,12 @@
 -- The characters of a record: what judging their lines tells of each, and of all. Assumes nothing.
 use Prim.Native.Nat.{ℕ, suc, _+_, _-_, _≤_, _<_}
 use Rattle.block.specs.Blocks.{ordered?}
-use Rattle.block.specs.Reading.{Character}
 use Rattle.block.specs.Sound.{sound·label}
 use Rattle.block.specs.declared.model.CharacterOrdering.{CharacterOrdering}
 use Rattle.judging.proofs.ListTold.{Listing, listing-over, listing-short, listing-start, listing-step}
 use Rattle.judging.proofs.RowsTold.{line-behind}
 use Rattle.judging.proofs.TellLaws.{no-end, tells-as, tells-no-first, tells-none, tells-same, tells-then}
-use Rattle.judging.specs.Lists.{Listed, spelled·all, told·all}
+use Rattle.judging.specs.Lists.{Listed, spelled·all}
 use Rattle.judging.specs.Parts.{Character·good, Character·told, Characters·told, Counted·told, Few, Keyed·number, Label·told, Number·told, Order·told, States·good, States·told, Tail, Tail·told, character·marks, join·marks, no·marks, spell·counted, spell·one, spell·state, spell·tail, tail·marks}
 use Rattle.judging.specs.Tells.{Marks, Part, nothing, until, Tells, behind·of, characters·of, flag·of, number·of}
 use Rattle.judging.specs.declared.Behind.{Behind}

@@ -1,5 +1,5 @@
--- Laws of judging parts of a record: where nothing stands, where one thing stands, a part that goes on behind its first bytes, the same part taken for
--- something else, a part behind bytes that are always the same, and a part behind another. Assumes nothing.
+-- Laws of judging parts of a record: where nothing stands, where one thing stands, a part that goes on behind its first bytes, and the same part taken
+-- for something else. Assumes nothing.
 use Prim.Native.Nat.{ℕ, _+_}
 use Rattle.judging.specs.Judges.{Stands, Judges}
 use Rattle.judging.specs.declared.Behind.{Behind}
@@ -15,7 +15,7 @@ pub wrong-no-end : (j : ℕ) → Behind.Wrong ≡ Behind.At j → ⊥
 wrong-no-end j e = let z : _≡_ {A = ℕ} 0 1 = cc in omega arith
 
 -- Ends that are the same answer are equal.
-pub same-end : (j k : ℕ) → Behind.At j ≡ Behind.At k → j ≡ k
+same-end : (j k : ℕ) → Behind.At j ≡ Behind.At k → j ≡ k
 same-end j k e = cc
 
 module _ {A : Type 0} (b : List ℕ) (i : ℕ) (good : A → Type 0) (spelled : A → List ℕ) where
@@ -74,55 +74,3 @@ module _ {A B : Type 0} (b : List ℕ) (i : ℕ) (good : A → Type 0) (spelled 
     (maker : (w : B) (rest : List ℕ) → more w → drop i b ≡ whole w ++ rest → (a : A) × (w ≡ made a)) where
   pub judges-as : (r : Behind) → Judges b i good spelled r → Judges b i more whole r
   judges-as = judges-on b i i [] good spelled more whole made (sym (add-zero i)) refl spells alike maker
-
--- A part behind bytes that are always the same, as a line's key.
-module _ {A : Type 0} (b : List ℕ) (i : ℕ) (key : List ℕ) (good : A → Type 0) (spelled : A → List ℕ) where
-  abbrev pub keyed : A → List ℕ
-  keyed a = key ++ spelled a
-
-  -- Where they stand, it is judged as what stands behind them.
-  pub judges-keyed : drop i b ≡ key ++ drop (i + length key) b → (r : Behind) → Judges b (i + length key) good spelled r → Judges b i good keyed r
-  judges-keyed here = judges-on b i (i + length key) key good spelled good keyed (λ a. a) refl here (λ a. refl) (λ a rest e. ((λ g. g), (λ g. g))) (λ a rest g e. (a, refl))
-
-  -- Where they do not stand, there is none.
-  pub judges-no-key : ((rest : List ℕ) → drop i b ≡ key ++ rest → ⊥) → Judges b i good keyed Behind.Wrong
-  judges-no-key none = judges-none b i good keyed (λ a rest g e. none (spelled a ++ rest) (e ∙ append-assoc key (spelled a) rest))
-
--- A part behind another: both together, one spelling behind the other.
-module _ {A B : Type 0} (b : List ℕ) (i : ℕ) (good : A → Type 0) (spelled : A → List ℕ) (good' : B → Type 0) (spelled' : B → List ℕ) where
-  abbrev pub Both : A × B → Type 0
-  Both p = good (p .0) × good' (p .1)
-
-  abbrev pub joined : A × B → List ℕ
-  joined p = spelled (p .0) ++ spelled' (p .1)
-
-  -- Where there is no first, there are not both.
-  pub judges-no-first : Judges b i good spelled Behind.Wrong → Judges b i Both joined Behind.Wrong
-  judges-no-first judged =
-      judges-none b i Both joined
-      (λ p rest g e. wrong-no-end _ (judged .all (p .0) (spelled' (p .1) ++ rest) (g .0) (e ∙ append-assoc (spelled (p .0)) (spelled' (p .1)) rest)))
-
-  -- Behind the end of the first, both are judged as the second.
-  pub judges-then : (k : ℕ) (r : Behind) → Judges b i good spelled (Behind.At k) → Judges b k good' spelled' r → Judges b i Both joined r
-  judges-then k r first second = record { found = found; all = all }
-    where
-      found : (j : ℕ) → r ≡ Behind.At j → Stands b i Both joined j
-      found j e =
-          let s = first .found k refl in
-          let t = second .found j e in
-          let stands : drop i b ≡ joined (s .what, t .what) ++ drop j b =
-          s .here ∙ ap (λ l. spelled (s .what) ++ l) (t .here) ∙ sym (append-assoc (spelled (s .what)) (spelled' (t .what)) (drop j b)) in
-          record {
-            what = (s .what, t .what);
-            sound = (s .sound, t .sound);
-            here = stands;
-            end = simp length-append (omega (arith, s .end, t .end));
-          }
-
-      all : (p : A × B) (rest : List ℕ) → Both p → drop i b ≡ joined p ++ rest → r ≡ Behind.At (i + length (joined p))
-      all p rest g e =
-          let stands : drop i b ≡ spelled (p .0) ++ (spelled' (p .1) ++ rest) = e ∙ append-assoc (spelled (p .0)) (spelled' (p .1)) rest in
-          let end : k ≡ i + length (spelled (p .0)) = same-end k _ (first .all (p .0) _ (g .0) stands) in
-          let behind : drop k b ≡ spelled' (p .1) ++ rest = rw end (drop-behind b i (spelled (p .0)) _ stands) in
-          let sum : k + length (spelled' (p .1)) ≡ i + length (joined p) = simp length-append (omega arith) in
-          second .all (p .1) rest (g .1) behind ∙ ap Behind.At sum

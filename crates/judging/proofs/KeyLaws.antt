@@ -6,7 +6,7 @@ use Rattle.judging.specs.declared.Behind.{Behind}
 use Rattle.lexer.proofs.ListLaws.{drop-next}
 use lib.ListN.{length, drop, getD, take, length-append, length-drop, List·getD-append}
 use lib.Seq.{append-snoc, getD-drop, take-all, take-suc}
-use mathlib.Core.List.{List, _∷_, _++_}
+use mathlib.Core.List.{List, _++_}
 use mathlib.Core.Path.{_≡_, refl, sym, ap, subst, _∙_}
 use native.Mathlib.Numerals.{add-one}
 use native.Mathlib.Omega.{arith}

@@ -20,6 +20,8 @@ mod NameRests
 mod NumberLaws
 mod OpeningTold
 mod ReadingParts
+mod RecordParts
+mod RecordReads
 mod RowsTold
 mod SymbolRuns
 mod TellLaws

@@ -1,31 +1,27 @@
 -- The lines of a character: what judging its number, its label, its type and its state labels tells. Assumes nothing.
 use Prim.Native.Nat.{ℕ, suc, _+_, _-_, _≤_, _<_}
-use Rattle.block.specs.Blocks.{ordered?}
 use Rattle.block.specs.Sound.{sound·label, sound·name}
-use Rattle.block.specs.declared.model.CharacterOrdering.{CharacterOrdering}
 use Rattle.judging.proofs.EscapedLines.{ended, front}
 use Rattle.judging.proofs.JudgeLaws.{wrong-no-end}
-use Rattle.naming.proofs.RowLaws.{drop-behind}
 use Rattle.judging.proofs.ListTold.{Listing, listing-over, listing-short, listing-step}
 use Rattle.judging.proofs.NameJudged.{lf-within}
-use Rattle.judging.proofs.TellLaws.{no-end, same-told, tells-as, tells-end, tells-keyed, tells-no-key, tells-no-first, tells-none, tells-retold, tells-same, tells-then}
+use Rattle.judging.proofs.TellLaws.{no-end, same-told, tells-end, tells-keyed, tells-no-key, tells-none, tells-retold}
 use Rattle.judging.specs.Judges.{Judges, Stands}
-use Rattle.judging.specs.Lists.{Each, Listed, spelled·all, told·all}
 use Rattle.judging.specs.Numbers.{Number·judged}
-use Rattle.judging.specs.Parts.{Counted·told, Few, Keyed·number, Label·told, Number·told, Order·told, States·good, States·told, spell·counted, spell·state}
-use Rattle.judging.specs.Tells.{Part, nothing, until, Tells, behind·of, flag·of, number·of}
+use Rattle.judging.specs.Parts.{Keyed·number, Label·told, Number·told, States·good, States·told, spell·state}
+use Rattle.judging.specs.Tells.{nothing, until, Tells, behind·of, flag·of, number·of}
 use Rattle.judging.specs.declared.Behind.{Behind}
 use Rattle.judging.specs.declared.characters.Flag.{Flag}
 use Rattle.judging.specs.declared.numbers.Number.{Number}
 use Rattle.lexer.proofs.ListLaws.{drop-next}
-use Rattle.lexer.specs.Base.{bytes, byte, empty?}
+use Rattle.lexer.specs.Base.{bytes, empty?}
 use Rattle.record.specs.Decimal.{decimal}
-use Rattle.record.specs.Spell.{escaped, line, order·word}
+use Rattle.record.specs.Spell.{escaped, line}
 use borrow.Author.Tests.{eq-eqb, ne-eqb}
-use lib.Dec.{eqb, ltb}
+use lib.Dec.{eqb}
 use lib.ListN.{length, drop, getD, length-append}
 use lib.Seq.{getD-drop}
-use mathlib.Core.Bool.{Bool, true, false, not}
+use mathlib.Core.Bool.{true, not}
 use mathlib.Core.List.{List, [], _∷_, _++_, append-assoc}
 use mathlib.Core.Path.{_≡_, refl, sym, ap, _∙_, subst}
 use native.Mathlib.Nat.{add-zero}

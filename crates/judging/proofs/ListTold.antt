@@ -2,7 +2,7 @@
 use Prim.Native.Nat.{ℕ, suc, _+_, _-_, _≤_, _<_}
 use Rattle.judging.proofs.TellLaws.{same-told, tells-none, tells-nothing, tells-no-first, tells-then}
 use Rattle.judging.specs.Judges.{Stands}
-use Rattle.judging.specs.Lists.{Each, Listed, List·told, spelled·all, told·all}
+use Rattle.judging.specs.Lists.{Listed, List·told, spelled·all, told·all}
 use Rattle.judging.specs.Tells.{Part, nothing, until, Tells}
 use lib.ListN.{length, drop}
 use mathlib.Core.List.{List, [], _∷_, _++_}
@@ -12,7 +12,7 @@ use native.Mathlib.Omega.{arith}
 
 module _ {A T : Type 0} (b : List ℕ) (good : ℕ → A → Type 0) (spelled : ℕ → A → List ℕ) (tell : A → T) (join : T → T → T) where
   -- Where there are to be none, they end where they begin.
-  pub list-over : (i k : ℕ) (before : T) → List·told b good spelled tell join i k 0 before (until i before)
+  list-over : (i k : ℕ) (before : T) → List·told b good spelled tell join i k 0 before (until i before)
   unfolding spelled·all told·all
   list-over i k before = record { found = found; all = all }
     where
@@ -36,7 +36,7 @@ module _ {A T : Type 0} (b : List ℕ) (good : ℕ → A → Type 0) (spelled : 
 
   module _ (i k n : ℕ) (before : T) where
     -- One more stands there: they are judged as those behind it.
-    pub list-step : (j : ℕ) (v : T) (r : Part T) → Tells b i (good k) (spelled k) tell (until j v) → List·told b good spelled tell join j (suc k) n (join before v) r
+    list-step : (j : ℕ) (v : T) (r : Part T) → Tells b i (good k) (spelled k) tell (until j v) → List·told b good spelled tell join j (suc k) n (join before v) r
         → List·told b good spelled tell join i k (suc n) before r
     unfolding spelled·all told·all
     list-step j v r first others =
@@ -56,7 +56,7 @@ module _ {A T : Type 0} (b : List ℕ) (good : ℕ → A → Type 0) (spelled : 
         all both l rest (p, g, same) e = rw same (both p rest g (rw same at e))
 
     -- It does not stand there: there are not so many.
-    pub list-short : Tells b i (good k) (spelled k) tell nothing → List·told b good spelled tell join i k (suc n) before nothing
+    list-short : Tells b i (good k) (spelled k) tell nothing → List·told b good spelled tell join i k (suc n) before nothing
     unfolding spelled·all told·all
     list-short first =
         let none = tells-no-first b i (good k) (spelled k) tell (λ u. Listed good (suc k) n) (λ u. spelled·all spelled (suc k)) (λ u. told·all tell join (join before u)) first in

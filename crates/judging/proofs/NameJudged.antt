@@ -29,7 +29,7 @@ abbrev byte : List ℕ → ℕ → ℕ
 byte b i = getD b i 0
 
 -- A number other than 0 stands within the list.
-pub some-within : (l : List ℕ) (i : ℕ) → (getD l i 0 ≡ 0 → ⊥) → i < length l
+some-within : (l : List ℕ) (i : ℕ) → (getD l i 0 ≡ 0 → ⊥) → i < length l
 some-within l i some = by-test (ltb i (length l)) (ltb-true i (length l)) (λ f. absurd (some (List·getD-eq-default l 0 (ltb-false i (length l) f))))
 
 -- So does an LF.
@@ -126,7 +126,7 @@ module _ (b : List ℕ) (i : ℕ) (lt : i < length b) (slash : getD b i 0 ≡ 92
         narrow n = wide-below d n (omega (arith, meant, unescape-ascii (getD b (i + 1) 0)))
 
 -- Two tests that agree on each text judge alike.
-pub line-alike : (b : List ℕ) (i : ℕ) (test more : List ℕ → Bool) → ((n rest : List ℕ) → drop i b ≡ ended n ++ rest → test n ≡ more n) → (r : Behind)
+line-alike : (b : List ℕ) (i : ℕ) (test more : List ℕ → Bool) → ((n rest : List ℕ) → drop i b ≡ ended n ++ rest → test n ≡ more n) → (r : Behind)
     → Lined b i more r → Lined b i test r
 line-alike b i test more same =
     judges-as b i _ ended _ ended (λ n. n) (λ n. refl)

@@ -62,26 +62,26 @@ leading-ended : (n : ℕ) (rest : List ℕ) → leading n (10 ∷ rest) ≡ n
 unfolding leading pick
 leading-ended n rest = refl
 
-pub leading-decimal : (v : ℕ) (rest : List ℕ) → v ≤ 1048576 → leading 0 (decimal v ++ (10 ∷ rest)) ≡ v
+leading-decimal : (v : ℕ) (rest : List ℕ) → v ≤ 1048576 → leading 0 (decimal v ++ (10 ∷ rest)) ≡ v
 unfolding decimal
 leading-decimal v rest h =
     ap (leading 0) (from-append v v [] (10 ∷ rest)) ∙ leading-from v v (10 ∷ rest) (omega arith) h ∙ leading-ended v rest
 
 -- One digit more, or another byte.
 module _ (n b : ℕ) (rest : List ℕ) where
-  pub leading-digit : 48 ≤ b → b ≤ 57 → n ≤ 1048576 → leading n (b ∷ rest) ≡ leading (n * 10 + (b - 48)) rest
+  leading-digit : 48 ≤ b → b ≤ 57 → n ≤ 1048576 → leading n (b ∷ rest) ≡ leading (n * 10 + (b - 48)) rest
   unfolding leading pick
   leading-digit l h s = rw (le-leb 48 b l, le-leb b 57 h, le-leb n 1048576 s)
 
-  pub leading-low : b < 48 → leading n (b ∷ rest) ≡ n
+  leading-low : b < 48 → leading n (b ∷ rest) ≡ n
   unfolding leading pick
   leading-low h = rw (lt-leb 48 b h)
 
-  pub leading-high : 57 < b → leading n (b ∷ rest) ≡ n
+  leading-high : 57 < b → leading n (b ∷ rest) ≡ n
   unfolding leading pick
   leading-high h = rw (le-leb 48 b (omega arith), lt-leb b 57 h)
 
-  pub leading-many : 1048576 < n → leading n (b ∷ rest) ≡ n
+  leading-many : 1048576 < n → leading n (b ∷ rest) ≡ n
   unfolding leading pick
   leading-many h = go (leb 48 b) (leb b 57)
     where

@@ -1,5 +1,5 @@
 -- The first four lines of a record: what judging words, counts and symbols tells. Assumes nothing.
-use Prim.Native.Nat.{ℕ, suc, _+_, _-_, _≤_, _<_}
+use Prim.Native.Nat.{ℕ, _+_, _-_, _≤_, _<_}
 use Rattle.block.specs.Blocks.{ordered?}
 use Rattle.block.specs.Dna.{acgt}
 use Rattle.block.specs.Format.{all·valid}
@@ -32,7 +32,7 @@ use borrow.Author.Tests.{le-leb, le-ltb, leb-true, ltb-false}
 use lib.Dec.{leb, ltb}
 use lib.ListN.{length, drop, getD, take, length-append, length-drop, take-append-drop}
 use lib.Seq.{drop-drop, getD-drop, length-take-le}
-use mathlib.Core.Bool.{Bool, true, false, _&&_, _||_}
+use mathlib.Core.Bool.{Bool, true, false, _||_}
 use mathlib.Core.List.{List, [], _∷_, _++_, append-assoc}
 use mathlib.Core.Path.{_≡_, refl, sym, ap, _∙_, subst}
 use native.Mathlib.Nat.{add-zero}

@@ -1,6 +1,6 @@
 -- The parts of a reading: its rows and characters are spelled one behind another, each is good just if all are sound, and what is told of them all
 -- is what the definitions say. Assumes nothing.
-use Prim.Native.Nat.{ℕ, suc, _≤_}
+use Prim.Native.Nat.{ℕ, suc}
 use Rattle.block.specs.Blocks.{has·ordered, ordered?}
 use Rattle.block.specs.Interleaved.{all·long}
 use Rattle.block.specs.Reading.{Taxon, Character}
@@ -8,7 +8,7 @@ use Rattle.block.specs.Sequential.{names}
 use Rattle.block.specs.Sound.{few·states, gap·among, gap·in, sound·cells, sound·label, sound·labels, sound·name, sound·names, sound·rows}
 use Rattle.judging.proofs.RowsTold.{line-behind}
 use Rattle.judging.specs.Lists.{Each, spelled·all, told·all}
-use Rattle.judging.specs.Parts.{Character·good, Few, Row·good, States·good, character·marks, join·marks, row·gap, spell·counted, spell·one, spell·row, spell·state}
+use Rattle.judging.specs.Parts.{Character·good, Row·good, States·good, character·marks, join·marks, row·gap, spell·counted, spell·one, spell·row, spell·state}
 use Rattle.judging.specs.Tells.{Marks}
 use Rattle.lexer.proofs.Basics.{and-both, and-left, and-right, or-assoc, or-false}
 use Rattle.record.specs.Decimal.{decimal}
@@ -17,7 +17,7 @@ use Rattle.record.specs.Spell.{escaped, line, order·word, spell·cells, spell�
 use borrow.Author.Tests.{eq-eqb, eqb-true, le-leb, leb-true}
 use lib.Dec.{eqb, leb}
 use lib.ListN.{length}
-use mathlib.Core.Bool.{Bool, true, false, _&&_, _||_}
+use mathlib.Core.Bool.{Bool, true, _&&_, _||_}
 use mathlib.Core.List.{List, [], _∷_, _++_, append-assoc}
 use mathlib.Core.Path.{_≡_, refl, sym, ap, _∙_}
 
@@ -72,19 +72,19 @@ rows-gap before [] = sym (or-false before)
 rows-gap before (t ∷ ts) = rows-gap (before || gap·among (t .cells)) ts ∙ sym (or-assoc before (gap·among (t .cells)) (gap·in ts))
 
 -- State labels.
-pub states-spelled : (k : ℕ) (ss : List (List ℕ)) (behind : List ℕ) → spell·states ss behind ≡ spelled·all spell·state k ss ++ behind
+states-spelled : (k : ℕ) (ss : List (List ℕ)) (behind : List ℕ) → spell·states ss behind ≡ spelled·all spell·state k ss ++ behind
 unfolding spell·states spelled·all spell·state
 states-spelled k [] behind = refl
 states-spelled k (s ∷ ss) behind =
     line-behind "state=" (escaped s) (spell·states ss behind) ∙ ap (λ l. line "state=" (escaped s) [] ++ l) (states-spelled (suc k) ss behind)
     ∙ sym (append-assoc (line "state=" (escaped s) []) (spelled·all spell·state (suc k) ss) behind)
 
-pub states-names : (k : ℕ) (ss : List (List ℕ)) → Each States·good k ss → sound·names ss ≡ true
+states-names : (k : ℕ) (ss : List (List ℕ)) → Each States·good k ss → sound·names ss ≡ true
 unfolding sound·names
 states-names k [] g = refl
 states-names k (s ∷ ss) (g, more) = and-both g (states-names (suc k) ss more)
 
-pub states-good : (k : ℕ) (ss : List (List ℕ)) → sound·names ss ≡ true → Each States·good k ss
+states-good : (k : ℕ) (ss : List (List ℕ)) → sound·names ss ≡ true → Each States·good k ss
 unfolding sound·names
 states-good k [] g = tt
 states-good k (s ∷ ss) g = (and-left (sound·name s) (sound·names ss) g, states-good (suc k) ss (and-right (sound·name s) (sound·names ss) g))

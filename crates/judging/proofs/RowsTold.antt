@@ -12,7 +12,7 @@ use Rattle.judging.specs.Parts.{Cells·told, Row·good, Row·told, Rows�
 use Rattle.judging.specs.Tells.{Part, nothing, until, Tells, behind·of, cells·of}
 use Rattle.judging.specs.declared.Behind.{Behind}
 use Rattle.judging.specs.declared.cells.Cells.{Cells}
-use Rattle.lexer.specs.Base.{bytes, byte}
+use Rattle.lexer.specs.Base.{bytes}
 use Rattle.record.specs.Spell.{escaped, line, spell·cells}
 use lib.ListN.{length, drop, length-append}
 use mathlib.Core.Bool.{Bool, true, false, _||_}
@@ -42,7 +42,7 @@ module _ (b : List ℕ) (characters states : ℕ) where
   abbrev Cells·good : List Cell → Type 0
   Cells·good cs = (sound·cells states cs ≡ true) × (length cs ≡ characters)
 
-  pub cells-told : (i : ℕ) → 1 ≤ characters → (r : Cells) → Cells·judged b i characters states r
+  cells-told : (i : ℕ) → 1 ≤ characters → (r : Cells) → Cells·judged b i characters states r
       → Tells b i Cells·good (λ cs. spell·cells cs ++ (10 ∷ [])) gap·among (cells·of r)
   unfolding cells·of
   cells-told i some r judged = record { found = found r judged; all = all }

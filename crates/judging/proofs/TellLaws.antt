@@ -9,7 +9,7 @@ use Rattle.judging.specs.declared.Behind.{Behind}
 use Rattle.lexer.proofs.Basics.{not-both}
 use lib.ListN.{length, drop, length-append}
 use mathlib.Core.Bool.{Bool, true, false}
-use mathlib.Core.List.{List, [], _++_, append-assoc}
+use mathlib.Core.List.{List, _++_, append-assoc}
 use mathlib.Core.Path.{_≡_, refl, sym, ap, _∙_, subst}
 use native.Mathlib.Omega.{arith}
 
@@ -86,7 +86,7 @@ module _ {A B T W : Type 0} (b : List ℕ) (i : ℕ) {good : A → Type 0} {spel
           rw (far, said) refl
 
   -- Where there is none, there is no other.
-  pub tells-as-none : Tells b i good spelled tell nothing → Tells b i more whole say nothing
+  tells-as-none : Tells b i good spelled tell nothing → Tells b i more whole say nothing
   tells-as-none told =
       tells-none b i more whole say
       (λ w rest g e. let (a, h, same) = maker w g in no-end (told .all a rest h ((rw same at e) ∙ ap (λ l. l ++ rest) (spells a h))))

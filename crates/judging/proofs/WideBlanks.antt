@@ -27,12 +27,12 @@ module _ (k : ℕ) (low : k < 128) where
   far j h = ne-eqb k j (λ e. omega arith)
 
   -- An ASCII byte behind it is as none.
-  pub wide-first : (b : ℕ) (n : List ℕ) → wide·blank b (k ∷ n) ≡ wide·blank b []
+  wide-first : (b : ℕ) (n : List ℕ) → wide·blank b (k ∷ n) ≡ wide·blank b []
   unfolding wide·blank next1 next2 general·blank
   wide-first b [] = rw (far 133 (omega arith), far 160 (omega arith))
   wide-first b (y ∷ n) = rw (far 133 (omega arith), far 160 (omega arith), far 154 (omega arith), far 128 (omega arith), far 129 (omega arith))
 
-  pub wide-second : (b x : ℕ) (n : List ℕ) → wide·blank b (x ∷ k ∷ n) ≡ wide·blank b (x ∷ [])
+  wide-second : (b x : ℕ) (n : List ℕ) → wide·blank b (x ∷ k ∷ n) ≡ wide·blank b (x ∷ [])
   unfolding wide·blank next1 next2 general·blank general
   wide-second b x n =
       rw (lt-leb 128 k low, far 128 (omega arith), far 168 (omega arith), far 169 (omega arith), far 175 (omega arith), far 159 (omega arith), and-false (eqb x 154), and-false (eqb x 128), and-false (eqb x 129))

@@ -1,7 +1,6 @@
 -- The parts of a record, and what judging each tells.
 use Prim.Native.Nat.{ℕ, _≤_}
 use Rattle.block.specs.Blocks.{ordered?}
-use Rattle.block.specs.Cell.{Cell}
 use Rattle.block.specs.Reading.{Taxon, Character}
 use Rattle.block.specs.Sound.{sound·cells, sound·label, sound·name, gap·among}
 use Rattle.block.specs.declared.model.CharacterOrdering.{CharacterOrdering}

@@ -1,5 +1,5 @@
 -- What the shape of a record says of it.
-use Prim.Native.Nat.{ℕ, _+_}
+use Prim.Native.Nat.{ℕ}
 use Rattle.block.specs.Blocks.{has·ordered}
 use Rattle.block.specs.Reading.{Reading}
 use Rattle.block.specs.Sound.{Sound, gap·in}

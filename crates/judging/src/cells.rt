@@ -8,6 +8,7 @@ ghost use lib.Dec.{eqb, ltb};
 ghost use lib.ListN.{length, getD};
 ghost use mathlib.Core.Bool.{true};
 ghost use mathlib.Core.Path.{_≡_};
+use block::CharacterNumber;
 
 // The cells of a row end at a place, and whether a gap is among them; or there are none.
 pub enum Cells {
@@ -234,22 +235,22 @@ fn walk_on(source: &[u8], walk: Walk, symbols: usize) -> Walk
 }
 
 // What a row that was read up to its LF is: as many cells as there are characters, or none.
-fn end_row(end: usize, walk: Walk, characters: usize) -> Cells
-    ensures { λ r. ⌜ r ≡ row·end end (walk .mode) (walk .blanks) (walk .gap) characters ⌝ }
+fn end_row(end: usize, walk: Walk, characters: CharacterNumber) -> Cells
+    ensures { λ r. ⌜ r ≡ row·end end (walk .mode) (walk .blanks) (walk .gap) (characters .0) ⌝ }
 {
-    if characters == 0 {
+    if characters.0 == 0 {
         return Cells::Wrong;
     }
     let mode = walk.mode;
-    if ends_cell(mode) & (characters - 1 == walk.blanks) {
+    if ends_cell(mode) & (characters.0 - 1 == walk.blanks) {
         return Cells::Behind(end, walk.gap);
     }
     Cells::Wrong
 }
 
 // Judges the cells of a row that begins at a place: where the row ends, behind its LF, and whether a gap is among its cells.
-pub fn cells_line(source: &[u8], i: usize, characters: usize, symbols: usize) -> Cells
-    ensures { λ r. ⌜ Cells·judged (now (source .entry)) i characters symbols r ⌝ }
+pub fn cells_line(source: &[u8], i: usize, characters: CharacterNumber, symbols: usize) -> Cells
+    ensures { λ r. ⌜ Cells·judged (now (source .entry)) i (characters .0) symbols r ⌝ }
 {
     let mut walk = Walk {
         at: i,

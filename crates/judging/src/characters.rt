@@ -1,10 +1,7 @@
 // The characters of a record, each by its number, its label, its type and its state labels.
 
 ghost use Prim.Native.Nat.{_≤_};
-ghost use Rattle.judging.specs.Judges.{Judges};
 ghost use Rattle.judging.specs.Parts.{Character·told, Characters·told, Counted·told, Label·told, Order·told, States·told, Tail·told, Number·told};
-ghost use Rattle.record.specs.Decimal.{decimal};
-ghost use mathlib.Core.List.{[], _∷_, _++_};
 use super::Behind;
 use super::heads::two_words;
 use super::keys::key_at;

@@ -1,6 +1,5 @@
 // Numbers of a record's lines: decimal digits without leading zeros.
 
-ghost use Prim.Native.Nat.{_≤_};
 ghost use Rattle.judging.specs.Judges.{Judges};
 ghost use Rattle.judging.specs.Parts.{Keyed·number};
 ghost use Rattle.judging.specs.Numbers.{Number·judged, leading};

@@ -1,7 +1,6 @@
 // The rows of a record, each a name and its cells.
 
 ghost use Prim.Native.Nat.{_≤_};
-ghost use Rattle.judging.specs.Judges.{Judges};
 ghost use Rattle.judging.specs.Parts.{Cells·told, Row·told, Rows·told};
 use super::Behind;
 use super::cells::Cells;
@@ -16,7 +15,7 @@ fn keyed_cells(source: &[u8], i: usize, characters: CharacterNumber, states: usi
     ensures { λ r. ⌜ (1 ≤ characters .0 → Cells·told (now (source .entry)) i (characters .0) states r) ⌝ }
 {
     match key_at(source, i, b"cells=") {
-        Behind::At(j) => cells_line(source, j, characters.0, states),
+        Behind::At(j) => cells_line(source, j, characters, states),
         Behind::Wrong => Cells::Wrong,
     }
 }

@@ -1,7 +1,6 @@
 // A record judged as a whole: its first four lines, its rows, its characters, and nothing behind them.
 
 ghost use Prim.Native.Nat.{_-_, _<_};
-ghost use Rattle.block.specs.declared.data.DataType.{DataType};
 ghost use Rattle.judging.specs.Opening.{Opening·told};
 ghost use Rattle.judging.specs.Shapes.{Record·judged};
 ghost use Rattle.judging.specs.Whole.{Rows·fine, dna?};

@@ -25,15 +25,14 @@ pub fn find_cells(
 ) -> Sought
     ensures { λ r. ⌜ Cells·sought (now (source .entry)) at (taxa .0) (characters .0) (now (name .entry)) r ⌝ }
 {
-    let columns = characters.0;
     let mut here = at;
     let mut left = taxa.0;
     while 0 < left {
         if name_alike(source, name_begin(source, here), name) {
             let begin = cells_begin(source, here);
-            return Sought::At(begin, cells_end(source, begin, columns));
+            return Sought::At(begin, cells_end(source, begin, characters));
         }
-        here = next_row(source, here, columns);
+        here = next_row(source, here, characters);
         left -= 1;
     }
     Sought::None

@@ -16,13 +16,13 @@ use mathlib.Core.Path.{_≡_, refl, sym, ap, _∙_}
 use native.Mathlib.Omega.{arith}
 
 -- The answer that two are alike is no place, and places that are the same answer are equal.
-pub twice-nowhere : (next : ℕ) → Entered.Twice ≡ Entered.Behind next → ⊥
+twice-nowhere : (next : ℕ) → Entered.Twice ≡ Entered.Behind next → ⊥
 twice-nowhere next e = let z : _≡_ {A = ℕ} 0 1 = cc in omega arith
 
-pub behind-somewhere : (next : ℕ) → Entered.Behind next ≡ Entered.Twice → ⊥
+behind-somewhere : (next : ℕ) → Entered.Behind next ≡ Entered.Twice → ⊥
 behind-somewhere next e = let z : _≡_ {A = ℕ} 0 1 = cc in omega arith
 
-pub same-behind : (p q : ℕ) → Entered.Behind p ≡ Entered.Behind q → p ≡ q
+same-behind : (p q : ℕ) → Entered.Behind p ≡ Entered.Behind q → p ≡ q
 same-behind p q e = cc
 
 -- The line at one place more.

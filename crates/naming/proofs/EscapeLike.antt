@@ -76,7 +76,7 @@ escape-slash c e = rw e
 
 -- The bytes of a backslash and a byte, and those of a byte that is not escaped, in front of a line.
 module _ (b : List ℕ) (i : ℕ) where
-  pub bytes-none : (front : List ℕ) → ((m : List ℕ) → alike (front ++ m) (line·at b i) ≡ false) → Bytes·like b i front 0
+  bytes-none : (front : List ℕ) → ((m : List ℕ) → alike (front ++ m) (line·at b i) ≡ false) → Bytes·like b i front 0
   bytes-none front none = record { none = λ _. none; some = λ s. absurd (s refl); within = λ s. absurd (s refl) }
 
   module _ {x : ℕ} (is : x ≡ getD b i 10) (y : ℕ) where
@@ -106,7 +106,7 @@ module _ (b : List ℕ) (i : ℕ) where
             }
 
   module _ (c : ℕ) (line : c ≡ 10 → ⊥) (slash : c ≡ 92 → ⊥) where
-    pub escape-plain : escape c ≡ c ∷ []
+    escape-plain : escape c ≡ c ∷ []
     unfolding escape pick
     escape-plain = rw (ne-eqb c 10 line, ne-eqb c 92 slash)
 

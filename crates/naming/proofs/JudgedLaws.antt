@@ -1,5 +1,5 @@
 -- Names that differ, with those that were entered, and what remains to be judged of rows. Assumes nothing.
-use Prim.Native.Nat.{ℕ, suc, _+_, _-_, _<_}
+use Prim.Native.Nat.{ℕ, suc, _+_, _<_}
 use Rattle.block.specs.Names.{known}
 use Rattle.block.specs.Reading.{Taxon}
 use Rattle.block.specs.Sequential.{names}

@@ -41,7 +41,7 @@ module _ (b : List ℕ) (j c : ℕ) (m : List ℕ) where
 
 -- The first bytes of two lines.
 module _ (b : List ℕ) (i j : ℕ) where
-  pub lines-unlike : (lower (getD b i 10) ≡ lower (getD b j 10) → ⊥) → false ≡ alike (line·at b i) (line·at b j)
+  lines-unlike : (lower (getD b i 10) ≡ lower (getD b j 10) → ⊥) → false ≡ alike (line·at b i) (line·at b j)
   unfolding alike lower pick
   lines-unlike other =
       by-test (eqb (getD b i 10) 10)
@@ -52,16 +52,16 @@ module _ (b : List ℕ) (i j : ℕ) where
       (λ f. sym (rw (line-more b i (eqb-false (getD b i 10) 10 f)) (first-unlike b j (getD b i 10) (line·at b (i + 1)) other)))
 
   module _ (same : lower (getD b i 10) ≡ lower (getD b j 10)) where
-    pub lines-ended : getD b i 10 ≡ 10 → true ≡ alike (line·at b i) (line·at b j)
+    lines-ended : getD b i 10 ≡ 10 → true ≡ alike (line·at b i) (line·at b j)
     unfolding lower pick
     lines-ended ten =
         let both : getD b j 10 ≡ 10 = lower-mark (getD b j 10) 10 (lit< tt) (sym same ∙ ap lower ten) in
         sym (rw (line-ended b i ten) (sym (ended-like b j) ∙ eq-eqb (getD b j 10) 10 both))
 
-    pub lines-next : (getD b i 10 ≡ 10 → ⊥) → alike (line·at b i) (line·at b j) ≡ alike (line·at b (i + 1)) (line·at b (j + 1))
+    lines-next : (getD b i 10 ≡ 10 → ⊥) → alike (line·at b i) (line·at b j) ≡ alike (line·at b (i + 1)) (line·at b (j + 1))
     lines-next other = rw (line-more b i other) (first-like b j (getD b i 10) (line·at b (i + 1)) same other)
 
-    pub lines-within : (getD b i 10 ≡ 10 → ⊥) → (i < length b) × (j < length b)
+    lines-within : (getD b i 10 ≡ 10 → ⊥) → (i < length b) × (j < length b)
     lines-within other = (before-end b i other, first-within b j (getD b i 10) [] same other)
 
 -- Two lines are compared as far as here: what is left of them decides.

@@ -48,7 +48,7 @@ line-front (a ∷ l) rest h =
     rw (other, line-front l rest (or-right (eqb 10 a) (among 10 l) h))
 
 -- A line is not longer than what is left of the bytes.
-pub to-end-short : (l : List ℕ) → length (to·end l) ≤ length l
+to-end-short : (l : List ℕ) → length (to·end l) ≤ length l
 unfolding to·end pick
 to-end-short [] = omega arith
 to-end-short (a ∷ l) = go (eqb a 10) (to-end-short l)

@@ -29,7 +29,7 @@ pub drop-behind : (b : List ℕ) (i : ℕ) (x rest : List ℕ) → drop i b ≡ 
 drop-behind b i x rest e = sym (drop-drop (length x) i b) ∙ ap (drop (length x)) e ∙ drop-append-seam x rest
 
 -- Where a byte stands is before the end.
-pub stands-before : (b : List ℕ) (i c : ℕ) (rest : List ℕ) → drop i b ≡ c ∷ rest → i < length b
+stands-before : (b : List ℕ) (i c : ℕ) (rest : List ℕ) → drop i b ≡ c ∷ rest → i < length b
 stands-before b i c rest e = omega (arith, length-drop i b, ap length e)
 
 -- A row that stands first: its name, its cells, and the rows behind it.
@@ -38,18 +38,18 @@ module _ (b : List ℕ) (at : ℕ) (t : Taxon) (ts : List Taxon) (rest : List �
   unfolding spell·taxa line bytes
   row-before = stands-before b at 110 _ here
 
-  pub name-stands : drop (at + 5) b ≡ escaped (t .name) ++ (10 ∷ line "cells=" (spell·cells (t .cells)) (spell·taxa ts rest))
+  name-stands : drop (at + 5) b ≡ escaped (t .name) ++ (10 ∷ line "cells=" (spell·cells (t .cells)) (spell·taxa ts rest))
   unfolding spell·taxa line bytes
   name-stands = drop-behind b at (bytes "name=") _ here
 
   pub row-name : line·at b (at + 5) ≡ escaped (t .name)
   row-name = line-name b (at + 5) (t .name) _ name-stands
 
-  pub before-length : at + before·cells t ≡ at + 5 + length (escaped (t .name)) + 7
+  before-length : at + before·cells t ≡ at + 5 + length (escaped (t .name)) + 7
   unfolding before·cells line bytes
   before-length = omega (arith, length-append (escaped (t .name)) (10 ∷ []))
 
-  pub cells-stand : drop (at + before·cells t) b ≡ spell·cells (t .cells) ++ (10 ∷ spell·taxa ts rest)
+  cells-stand : drop (at + before·cells t) b ≡ spell·cells (t .cells) ++ (10 ∷ spell·taxa ts rest)
   unfolding line bytes
   cells-stand =
       let front = escaped (t .name) ++ (10 ∷ bytes "cells=") in
@@ -64,7 +64,7 @@ module _ (b : List ℕ) (at : ℕ) (t : Taxon) (ts : List Taxon) (rest : List �
   pub cells-before : at + before·cells t + length (spell·cells (t .cells)) < length b
   cells-before = stands-before b (at + before·cells t + length (spell·cells (t .cells))) 10 (spell·taxa ts rest) cells-ended
 
-  pub rows-stand : drop (at + before·cells t + length (spell·cells (t .cells)) + 1) b ≡ spell·taxa ts rest
+  rows-stand : drop (at + before·cells t + length (spell·cells (t .cells)) + 1) b ≡ spell·taxa ts rest
   rows-stand = drop-behind b (at + before·cells t + length (spell·cells (t .cells))) (10 ∷ []) (spell·taxa ts rest) cells-ended
 
   -- Its name is like another where the line behind the key is.
@@ -72,11 +72,11 @@ module _ (b : List ℕ) (at : ℕ) (t : Taxon) (ts : List Taxon) (rest : List �
   row-like begins name like = like (t .name) _ (ap (λ n. drop n b) (begins row-before) ∙ name-stands)
 
 -- All rows have so many cells: the first has, and the others have.
-pub row-long : (characters : ℕ) (t : Taxon) (ts : List Taxon) → all·long characters (t ∷ ts) ≡ true → length (t .cells) ≡ characters
+row-long : (characters : ℕ) (t : Taxon) (ts : List Taxon) → all·long characters (t ∷ ts) ≡ true → length (t .cells) ≡ characters
 unfolding all·long
 row-long characters t ts h = eqb-true (length (t .cells)) characters (and-left _ (all·long characters ts) h)
 
-pub rows-long : (characters : ℕ) (t : Taxon) (ts : List Taxon) → all·long characters (t ∷ ts) ≡ true → all·long characters ts ≡ true
+rows-long : (characters : ℕ) (t : Taxon) (ts : List Taxon) → all·long characters (t ∷ ts) ≡ true → all·long characters ts ≡ true
 unfolding all·long
 rows-long characters t ts h = and-right (eqb (length (t .cells)) characters) _ h
 
@@ -101,14 +101,14 @@ cell-some (polymorphic s) = omega arith
 cell-some missing = omega arith
 cell-some gap = omega arith
 
-pub cells-many : (cs : List Cell) → length cs * 2 ≤ length (spell·cells cs) + 1
+cells-many : (cs : List Cell) → length cs * 2 ≤ length (spell·cells cs) + 1
 unfolding spell·cells
 cells-many [] = omega arith
 cells-many (c ∷ []) = omega (arith, cell-some c)
 cells-many (c ∷ d ∷ r) = omega (arith, length-append (spell·cell c) (32 ∷ spell·cells (d ∷ r)), cell-some c, cells-many (d ∷ r))
 
 -- What is left behind some bytes without LF has none.
-pub drop-clean : (k : ℕ) (l : List ℕ) → among 10 l ≡ false → among 10 (drop k l) ≡ false
+drop-clean : (k : ℕ) (l : List ℕ) → among 10 l ≡ false → among 10 (drop k l) ≡ false
 unfolding among
 drop-clean zero l h = h
 drop-clean (suc k) [] h = h

@@ -11,7 +11,7 @@ ghost use mathlib.Core.Path.{_≡_};
 use lexer::lower;
 
 // The byte at i, or LF behind the end.
-pub fn line_byte(source: &[u8], i: usize) -> u8
+fn line_byte(source: &[u8], i: usize) -> u8
     ensures { λ r. ⌜ r ≡ getD (now (source .entry)) i 10 ⌝ }
 {
     if i < source.len() {

@@ -1,12 +1,11 @@
 // The names of rows, whether no two are alike, ASCII case ignored. Some thousand are entered into a table at a time and all later ones are looked up in
 // it. A name is looked for from its slot on up to a free one; where the table ends first, all names that were entered are looked at.
 
-ghost use Prim.Native.Nat.{_+_, _≤_, _<_};
+ghost use Prim.Native.Nat.{_≤_, _<_};
 ghost use Rattle.block.specs.Names.{known};
 ghost use Rattle.naming.specs.Entries.{Block·judged, Line·entered, Line·sought, Lines·kept, Names·entered, Room·for, Room·of, Rows·judged, Slot·like, lines·at, none·known};
 ghost use Rattle.naming.specs.Lines.{line·at};
 ghost use Rattle.naming.specs.Rows.{Names·judged};
-ghost use Rattle.naming.specs.declared.names.Entered.{Entered};
 ghost use Rattle.slots.specs.Filling.{Table·sound, slot·of};
 ghost use Rattle.slots.specs.Hashes.{hash};
 ghost use lib.ListN.{length, take};
@@ -48,12 +47,12 @@ fn line_slot(source: &[u8], at: usize, table: Table) -> usize
 }
 
 // Is the line at a place like one of those at so many others?
-fn known_line(source: &[u8], at: usize, places: &[usize], count: usize) -> bool
-    requires { ⌜ count ≤ length (now places) ⌝ }
-    ensures { λ r. ⌜ r ≡ known (line·at (now (source .entry)) at) (lines·at (now (source .entry)) (take count (now (places .entry)))) ⌝ }
+fn known_line(source: &[u8], at: usize, places: &[usize], count: TaxonNumber) -> bool
+    requires { ⌜ count .0 ≤ length (now places) ⌝ }
+    ensures { λ r. ⌜ r ≡ known (line·at (now (source .entry)) at) (lines·at (now (source .entry)) (take (count .0) (now (places .entry)))) ⌝ }
 {
     let mut k = 0;
-    while k < count {
+    while k < count.0 {
         if lines_alike(source, at, places[k]) {
             return true;
         }
@@ -62,15 +61,21 @@ fn known_line(source: &[u8], at: usize, places: &[usize], count: usize) -> bool
     false
 }
 
-// Is the line at a place like the one that a slot holds, by its number among so many with 1 added?
-fn slot_like(source: &[u8], at: usize, places: &[usize], count: usize, value: usize) -> bool
-    requires { ⌜ count ≤ length (now places) ⌝ }
-    ensures { λ r. ⌜ Slot·like (now (source .entry)) at (take count (now (places .entry))) value r ⌝ }
+// Is the line at a place like that of a row, which a slot holds by its number among so many, counted from 1 on? No row has the number 0.
+fn slot_like(
+    source: &[u8],
+    at: usize,
+    places: &[usize],
+    count: TaxonNumber,
+    row: TaxonNumber,
+) -> bool
+    requires { ⌜ count .0 ≤ length (now places) ⌝ }
+    ensures { λ r. ⌜ Slot·like (now (source .entry)) at (take (count .0) (now (places .entry))) (row .0) r ⌝ }
 {
-    if (value == 0) | (count < value) {
+    if (row.0 == 0) | (count.0 < row.0) {
         return false;
     }
-    lines_alike(source, at, places[value - 1])
+    lines_alike(source, at, places[row.0 - 1])
 }
 
 // Is the line at a place like one of those at so many others, which a table has? The search begins at the line's slot.
@@ -79,12 +84,12 @@ fn found_line(
     at: usize,
     slots: &[u32],
     places: &[usize],
-    count: usize,
+    count: TaxonNumber,
     from: usize,
     end: usize,
 ) -> bool
-    requires { ⌜ Line·sought (now source) at (now slots) (now places) count from end ⌝ }
-    ensures { λ r. ⌜ r ≡ known (line·at (now (source .entry)) at) (lines·at (now (source .entry)) (take count (now (places .entry)))) ⌝ }
+    requires { ⌜ Line·sought (now source) at (now slots) (now places) (count .0) from end ⌝ }
+    ensures { λ r. ⌜ r ≡ known (line·at (now (source .entry)) at) (lines·at (now (source .entry)) (take (count .0) (now (places .entry)))) ⌝ }
 {
     let mut p = from;
     while p < end {
@@ -92,7 +97,7 @@ fn found_line(
         if value == 0 {
             return false;
         }
-        if slot_like(source, at, places, count, value) {
+        if slot_like(source, at, places, count, TaxonNumber(value)) {
             return true;
         }
         p += 1;
@@ -106,19 +111,20 @@ fn enter_line(
     at: usize,
     slots: &mut [u32],
     places: &mut [usize],
-    count: usize,
+    count: TaxonNumber,
     table: Table,
 ) -> bool
-    requires { ⌜ Room·for (now source) (now slots) (now places) count table ⌝ }
-    ensures { λ r. ⌜ Line·entered (now (source .entry)) at (now (slots .entry)) (now (slots .exit)) (now (places .entry)) (now (places .exit)) count table r ⌝ }
+    requires { ⌜ Room·for (now source) (now slots) (now places) (count .0) table ⌝ }
+    ensures { λ r. ⌜ Line·entered (now (source .entry)) at (now (slots .entry)) (now (slots .exit)) (now (places .entry)) (now (places .exit)) (count .0) table r ⌝ }
 {
     let end = table.end;
     let from = line_slot(source, at, table);
     if found_line(source, at, slots, places, count, from, end) {
         return true;
     }
-    fill_slot(slots, from, end, (count + 1) as u32);
-    places[count] = at;
+    let last = count.0;
+    fill_slot(slots, from, end, (last + 1) as u32);
+    places[last] = at;
     false
 }
 
@@ -126,20 +132,20 @@ fn enter_line(
 fn enter_names(
     source: &[u8],
     at: usize,
-    rows: usize,
-    characters: usize,
+    rows: TaxonNumber,
+    characters: CharacterNumber,
     slots: &mut [u32],
     places: &mut [usize],
     table: Table,
 ) -> Entered
-    requires { ⌜ Room·of (now slots) (now places) rows table ⌝ }
-    ensures { λ r. ⌜ Names·entered (now (source .entry)) characters at rows (now (slots .entry)) (now (slots .exit)) (now (places .entry)) (now (places .exit)) table r ⌝ }
+    requires { ⌜ Room·of (now slots) (now places) (rows .0) table ⌝ }
+    ensures { λ r. ⌜ Names·entered (now (source .entry)) (characters .0) at (rows .0) (now (slots .entry)) (now (slots .exit)) (now (places .entry)) (now (places .exit)) table r ⌝ }
 {
     let mut here = at;
     let mut count = 0;
-    while count < rows {
+    while count < rows.0 {
         let name = name_begin(source, here);
-        if enter_line(source, name, slots, places, count, table) {
+        if enter_line(source, name, slots, places, TaxonNumber(count), table) {
             return Entered::Twice;
         }
         here = next_row(source, here, characters);
@@ -152,19 +158,19 @@ fn enter_names(
 fn none_known(
     source: &[u8],
     at: usize,
-    rows: usize,
-    characters: usize,
+    rows: TaxonNumber,
+    characters: CharacterNumber,
     slots: &[u32],
     places: &[usize],
-    count: usize,
+    count: TaxonNumber,
     table: Table,
 ) -> bool
-    requires { ⌜ Table·sound table × (count ≤ length (now places)) × Lines·kept (now source) (now slots) (take count (now places)) table ⌝ }
-    ensures { λ r. ⌜ Rows·judged (now (source .entry)) characters at rows (none·known (lines·at (now (source .entry)) (take count (now (places .entry))))) r ⌝ }
+    requires { ⌜ Table·sound table × (count .0 ≤ length (now places)) × Lines·kept (now source) (now slots) (take (count .0) (now places)) table ⌝ }
+    ensures { λ r. ⌜ Rows·judged (now (source .entry)) (characters .0) at (rows .0) (none·known (lines·at (now (source .entry)) (take (count .0) (now (places .entry))))) r ⌝ }
 {
     let end = table.end;
     let mut here = at;
-    let mut left = rows;
+    let mut left = rows.0;
     while 0 < left {
         let name = name_begin(source, here);
         let from = line_slot(source, name, table);
@@ -181,16 +187,16 @@ fn none_known(
 fn block_differs(
     source: &[u8],
     at: usize,
-    rows: usize,
-    later: usize,
-    characters: usize,
+    rows: TaxonNumber,
+    later: TaxonNumber,
+    characters: CharacterNumber,
     slots: &mut [u32],
     places: &mut [usize],
 ) -> Entered
-    requires { ⌜ (rows ≤ length (now places)) × (rows ≤ 1048576) ⌝ }
-    ensures { λ r. ⌜ Block·judged (now (source .entry)) characters at rows later (now (slots .entry)) (now (slots .exit)) (now (places .entry)) (now (places .exit)) r ⌝ }
+    requires { ⌜ (rows .0 ≤ length (now places)) × (rows .0 ≤ 1048576) ⌝ }
+    ensures { λ r. ⌜ Block·judged (now (source .entry)) (characters .0) at (rows .0) (later .0) (now (slots .entry)) (now (slots .exit)) (now (places .entry)) (now (places .exit)) r ⌝ }
 {
-    let table = free_table(slots, 0, rows / 2);
+    let table = free_table(slots, 0, rows.0 / 2);
     match enter_names(source, at, rows, characters, slots, places, table) {
         Entered::Behind(next) => {
             if none_known(source, next, later, characters, slots, places, rows, table) {
@@ -218,22 +224,31 @@ fn least(a: usize, b: usize) -> usize
 fn differ_by(
     source: &[u8],
     at: usize,
-    taxa: usize,
-    characters: usize,
+    taxa: TaxonNumber,
+    characters: CharacterNumber,
     slots: &mut [u32],
     places: &mut [usize],
 ) -> bool
     requires { ⌜ (0 < length (now places)) × (length (now places) ≤ 1048576) ⌝ }
-    ensures { λ r. ⌜ Names·judged (now (source .entry)) at taxa characters r ⌝ }
+    ensures { λ r. ⌜ Names·judged (now (source .entry)) at (taxa .0) (characters .0) r ⌝ }
 {
     let mut here = at;
-    let mut left = taxa;
+    let mut left = taxa.0;
     while 0 < left {
         let rows = least(left, places.len());
-        match block_differs(source, here, rows, left - rows, characters, slots, places) {
+        let later = left - rows;
+        match block_differs(
+            source,
+            here,
+            TaxonNumber(rows),
+            TaxonNumber(later),
+            characters,
+            slots,
+            places,
+        ) {
             Entered::Behind(next) => {
                 here = next;
-                left -= rows;
+                left = later;
             }
             Entered::Twice => {
                 return false;
@@ -244,8 +259,8 @@ fn differ_by(
 }
 
 // The same with room for few names.
-fn few_differ(source: &[u8], at: usize, taxa: usize, characters: usize) -> bool
-    ensures { λ r. ⌜ Names·judged (now (source .entry)) at taxa characters r ⌝ }
+fn few_differ(source: &[u8], at: usize, taxa: TaxonNumber, characters: CharacterNumber) -> bool
+    ensures { λ r. ⌜ Names·judged (now (source .entry)) at (taxa .0) (characters .0) r ⌝ }
 {
     let mut slots = [0u32; 512];
     let mut places = [0usize; 200];
@@ -253,8 +268,8 @@ fn few_differ(source: &[u8], at: usize, taxa: usize, characters: usize) -> bool
 }
 
 // The same with room for some thousand names.
-fn many_differ(source: &[u8], at: usize, taxa: usize, characters: usize) -> bool
-    ensures { λ r. ⌜ Names·judged (now (source .entry)) at taxa characters r ⌝ }
+fn many_differ(source: &[u8], at: usize, taxa: TaxonNumber, characters: CharacterNumber) -> bool
+    ensures { λ r. ⌜ Names·judged (now (source .entry)) at (taxa .0) (characters .0) r ⌝ }
 {
     let mut slots = [0u32; 16384];
     let mut places = [0usize; 8000];
@@ -271,7 +286,7 @@ pub fn names_differ(
     ensures { λ r. ⌜ Names·judged (now (source .entry)) at (taxa .0) (characters .0) r ⌝ }
 {
     if taxa.0 <= 200 {
-        return few_differ(source, at, taxa.0, characters.0);
+        return few_differ(source, at, taxa, characters);
     }
-    many_differ(source, at, taxa.0, characters.0)
+    many_differ(source, at, taxa, characters)
 }

@@ -5,6 +5,7 @@ ghost use Rattle.naming.specs.Rows.{Cells·begin, Cells·end, Row·passe
 ghost use lib.ListN.{length};
 ghost use mathlib.Core.Path.{_≡_};
 use super::lines::line_end;
+use block::CharacterNumber;
 
 // Where the name of a row at a place begins, behind the key `name=`.
 pub fn name_begin(source: &[u8], at: usize) -> usize
@@ -27,21 +28,21 @@ pub fn cells_begin(source: &[u8], at: usize) -> usize
 }
 
 // Where so many cells at a place end. Each has a byte, and each but the last a blank behind it, so that no LF stands among these.
-pub fn cells_end(source: &[u8], at: usize, characters: usize) -> usize
-    ensures { λ r. ⌜ Cells·end (now (source .entry)) at characters r ⌝ }
+pub fn cells_end(source: &[u8], at: usize, characters: CharacterNumber) -> usize
+    ensures { λ r. ⌜ Cells·end (now (source .entry)) at (characters .0) r ⌝ }
 {
     if source.len() <= at {
         return at;
     }
-    if (characters == 0) | ((source.len() - at) / 2 < characters) {
+    if (characters.0 == 0) | ((source.len() - at) / 2 < characters.0) {
         return at;
     }
-    line_end(source, at + (characters * 2 - 1))
+    line_end(source, at + (characters.0 * 2 - 1))
 }
 
 // Where the row behind one at a place begins.
-pub fn next_row(source: &[u8], at: usize, characters: usize) -> usize
-    ensures { λ r. ⌜ Row·passed (now (source .entry)) at characters r ⌝ }
+pub fn next_row(source: &[u8], at: usize, characters: CharacterNumber) -> usize
+    ensures { λ r. ⌜ Row·passed (now (source .entry)) at (characters .0) r ⌝ }
 {
     let end = cells_end(source, cells_begin(source, at), characters);
     if end < source.len() {

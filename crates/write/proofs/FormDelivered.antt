@@ -5,27 +5,25 @@ use Rattle.emit.proofs.Delivery.{short-delivered, whole-delivered}
 use Rattle.emit.proofs.PutLaws.{puts-measured}
 use Rattle.emit.specs.Delivered.{Delivered}
 use Rattle.emit.specs.Puts.{Puts}
-use Rattle.judging.specs.Shapes.{Record·judged, Shape·of}
+use Rattle.judging.specs.Shapes.{Record·judged}
 use Rattle.judging.specs.declared.Judged.{Judged}
 use Rattle.judging.specs.declared.Shape.{Shape}
 use Rattle.lexer.proofs.Basics.{pick-first, pick-second}
-use Rattle.lexer.specs.Base.{pick}
 use Rattle.lexer.specs.Lexing.{longest}
 use Rattle.lexer.specs.Places.{nowhere}
 use Rattle.lexer.specs.declared.refusal.Refusal.{Refusal}
-use Rattle.record.specs.Calls.{Result, bytes·of, refuse, answer, leaves, written, write·answer, write·leaves, write·result}
+use Rattle.record.specs.Calls.{bytes·of, refuse, answer, leaves, written, write·answer, write·leaves, write·result}
 use Rattle.record.specs.Form.{form}
-use Rattle.record.specs.Unspell.{unspell}
 use Rattle.record.specs.declared.Answer.{Answer}
 use Rattle.write.specs.Call.{Form·delivered, Write·call}
 use Rattle.writing.specs.FormPut.{form·piece}
 use borrow.Author.Tests.{le-leb, lt-leb}
 use lib.Dec.{leb}
 use lib.ListN.{length}
-use mathlib.Core.Bool.{true, false}
-use mathlib.Core.List.{List, []}
-use mathlib.Core.Option.{none, some}
-use mathlib.Core.Path.{_≡_, refl, sym, ap, _∙_, subst}
+use mathlib.Core.Bool.{false}
+use mathlib.Core.List.{List}
+use mathlib.Core.Option.{some}
+use mathlib.Core.Path.{_≡_, refl, sym, _∙_}
 use native.Mathlib.Omega.{arith}
 
 module _ (x : Reading) (buffer : List ℕ) (small : length buffer < 2 ^ 63) {scratch after : List ℕ} {n : ℕ} (measured : Puts scratch 0 (form·piece x) after n) where

@@ -1,6 +1,5 @@
 // The write call: the written form of a record, or its refusal.
 
-ghost use Rattle.judging.specs.declared.Shape.{Shape};
 ghost use Rattle.write.specs.Call.{Form·delivered, Write·call};
 use judging::Judged;
 use judging::Shape;

@@ -8,7 +8,7 @@ use Rattle.emit.specs.Puts.{Puts}
 use Rattle.lexer.proofs.Basics.{by-test}
 use Rattle.lexer.specs.Base.{pick}
 use Rattle.record.specs.Decimal.{decimal}
-use Rattle.record.specs.Form.{form·cell, form·set, sign}
+use Rattle.record.specs.Form.{form·cell, form·set}
 use Rattle.record.specs.Spell.{dotted, spell·cell}
 use Rattle.writing.proofs.MembersPut.{none-behind}
 use Rattle.writing.proofs.SignsRead.{front-byte, front-rest, one-digit, pair-digits, second-byte, sign-index, sign-one, signs-digit, signs-gap, signs-missing}

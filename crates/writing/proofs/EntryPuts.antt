@@ -8,7 +8,7 @@ use Rattle.judging.specs.declared.Shape.{Shape}
 use Rattle.lexer.proofs.Basics.{not-both, or-right}
 use Rattle.lexer.specs.Base.{bytes, empty?, pick}
 use Rattle.record.specs.Decimal.{decimal}
-use Rattle.record.specs.Form.{any·label, comma, form·assumptions, form·each, form·entries, form·entry, form·label, form·labels, form·states, form·types, labelled}
+use Rattle.record.specs.Form.{any·label, comma, form·assumptions, form·each, form·entries, form·entry, form·label, form·labels, form·states, form·types}
 use Rattle.record.specs.Spell.{escaped, order·word, spell·characters, spell·states}
 use Rattle.writing.proofs.LinePlaces.{byte-here, characters-begin, label-tested, line-rest, no-state-past, skip-over, states-none, states-some}
 use Rattle.writing.proofs.PutWalks.{Going, going-start}

@@ -33,10 +33,10 @@ some-one (x ∷ l) h = omega arith
 
 module _ (b : List ℕ) (s : Shape) (x : Reading) (of : Shape·of b s x) where
   -- The symbols of the reading stand where the shape says, and are few.
-  pub shape-symbols : symbols·at b s ≡ x .symbols
+  shape-symbols : symbols·at b s ≡ x .symbols
   shape-symbols = rw (of .states, of .symbols .1) (take-append-seam (x .symbols) (10 ∷ of .symbols .0))
 
-  pub shape-few : length (symbols·at b s) ≤ 74
+  shape-few : length (symbols·at b s) ≤ 74
   shape-few =
       let most = leb-true (length (x .symbols)) (most·symbols (gap·in (x .taxa))) (of .sound .symbols·most) in
       let few = most-few (gap·in (x .taxa)) in

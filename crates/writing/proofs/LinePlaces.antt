@@ -123,7 +123,7 @@ module _ (b : List ℕ) (i : ℕ) (behind : List ℕ) (other : No·state behind)
   states-some e (s ∷ r) here = (s, r, refl, here)
 
   -- A test of the byte tells whether there are any.
-  pub states-tested : (states : List (List ℕ)) → drop i b ≡ spell·states states behind → eqb (getD b i 0) 115 ≡ not (empty? states)
+  states-tested : (states : List (List ℕ)) → drop i b ≡ spell·states states behind → eqb (getD b i 0) 115 ≡ not (empty? states)
   unfolding spell·states line bytes empty?
   states-tested [] e = ne-eqb _ 115 (λ q. other (sym (byte-here b i _ e) ∙ q))
   states-tested (s ∷ r) e = rw (byte-here b i _ e)

@@ -16,7 +16,7 @@ use Rattle.writing.specs.Signs.{Signed}
 use Rattle.writing.specs.declared.Putting.{Putting}
 use Rattle.writing.specs.declared.cells.Sign.{Sign}
 use lib.ListN.{length, getD, drop, drop-of-length-le, length-append}
-use mathlib.Core.Bool.{true, false, false≢true}
+use mathlib.Core.Bool.{true, false≢true}
 use mathlib.Core.List.{List, [], _∷_, _++_, append-assoc}
 use mathlib.Core.Path.{_≡_, refl, sym, ap, _∙_}
 use native.Mathlib.Omega.{arith}

@@ -120,7 +120,7 @@ run-turn b from at r h p =
 module _ (b : List ℕ) (i j : ℕ) (stands means put : List ℕ) (here : drop i b ≡ stands ++ drop j b) (next : j ≡ i + length stands)
     (escapes : escaped means ≡ stands) (quotes : (m behind : List ℕ) → quoted·from (means ++ m) behind ≡ put ++ quoted·from m behind)
     (begins : (name rest : List ℕ) → drop i b ≡ escaped name ++ (10 ∷ rest) → (m : List ℕ) × (name ≡ means ++ m)) where
-  pub quoted-on : {before middle after : List ℕ} {n k : ℕ} {r : Putting} → Puts before n (λ behind. put ++ behind) middle k
+  quoted-on : {before middle after : List ℕ} {n k : ℕ} {r : Putting} → Puts before n (λ behind. put ++ behind) middle k
       → Rest·quoted b j middle k after r → Rest·quoted b i before n after r
   quoted-on f g name rest e =
       let (m, same) = begins name rest e in
@@ -218,9 +218,6 @@ quoted-past b i h name rest e = absurd (no-line name rest (sym (drop-of-length-l
 
 -- A run is inside the bytes, and is the part of them from its first place up to its last.
 module _ (b : List ℕ) (from to : ℕ) (run : Run b from to) where
-  pub run-ahead : from ≤ to
-  run-ahead = omega (arith, run .ahead)
-
   pub run-inside : from < to → to ≤ length b
   run-inside h = omega (arith, run .ahead, simp (length-append, length-drop) at (ap length (run .here)))
 

@@ -35,20 +35,20 @@ run-then b signs from f h t symbols g cs rest row =
 
 -- The parts of a row with one cell, and with more.
 module _ (b : List ℕ) (count at : ℕ) (c : Cell) (rest : List ℕ) where
-  pub row-one : Row·here b count at (c ∷ []) rest → drop at b ≡ spell·cell c ++ (10 ∷ rest)
+  row-one : Row·here b count at (c ∷ []) rest → drop at b ≡ spell·cell c ++ (10 ∷ rest)
   unfolding spell·cells
   row-one row = row .here
 
-  pub row-more : (d : Cell) (ds : List Cell) → Row·here b count at (c ∷ d ∷ ds) rest → drop at b ≡ spell·cell c ++ (32 ∷ (spell·cells (d ∷ ds) ++ (10 ∷ rest)))
+  row-more : (d : Cell) (ds : List Cell) → Row·here b count at (c ∷ d ∷ ds) rest → drop at b ≡ spell·cell c ++ (32 ∷ (spell·cells (d ∷ ds) ++ (10 ∷ rest)))
   unfolding spell·cells
   row-more d ds row = row .here ∙ append-assoc (spell·cell c) (32 ∷ spell·cells (d ∷ ds)) (10 ∷ rest)
 
-  pub row-first : (ds : List Cell) → Row·here b count at (c ∷ ds) rest → sound·cell count c ≡ true
+  row-first : (ds : List Cell) → Row·here b count at (c ∷ ds) rest → sound·cell count c ≡ true
   unfolding sound·cells
   row-first ds row = and-left (sound·cell count c) (sound·cells count ds) (row .sound)
 
   -- Behind the first cell and a blank stand the others.
-  pub row-behind : (d : Cell) (ds : List Cell) (to : ℕ) → Row·here b count at (c ∷ d ∷ ds) rest → to ≡ at + length (spell·cell c) → Row·here b count (to + 1) (d ∷ ds) rest
+  row-behind : (d : Cell) (ds : List Cell) (to : ℕ) → Row·here b count at (c ∷ d ∷ ds) rest → to ≡ at + length (spell·cell c) → Row·here b count (to + 1) (d ∷ ds) rest
   unfolding sound·cells
   row-behind d ds to row e =
       record {

@@ -40,11 +40,11 @@ two-bounds y z h =
     let each = all-four (leb 48 y) (leb y 57) (leb 48 z) (leb z 57) (sym (and-assoc (leb 48 y && leb y 57) (leb 48 z) (leb z 57)) ∙ h) in
     (leb-true 48 y (each .0), leb-true y 57 (each .1), leb-true 48 z (each .2), leb-true z 57 (each .3))
 
-pub two-digits : (y z : ℕ) → 48 ≤ y → y ≤ 57 → 48 ≤ z → z ≤ 57 → two·digits y z ≡ true
+two-digits : (y z : ℕ) → 48 ≤ y → y ≤ 57 → 48 ≤ z → z ≤ 57 → two·digits y z ≡ true
 unfolding two·digits
 two-digits y z a b c d = and-both (and-both (le-leb 48 y a) (le-leb y 57 b)) (and-both (le-leb 48 z c) (le-leb z 57 d))
 
-pub not-two : (y z : ℕ) → z < 48 → two·digits y z ≡ false
+not-two : (y z : ℕ) → z < 48 → two·digits y z ≡ false
 not-two y z h = by-test (two·digits y z) (λ t. absurd (omega (arith, two-bounds y z t .2))) (λ f. f)
 
 -- A number below 10 is one digit, and one below 74 that is not is two.
@@ -64,7 +64,7 @@ module _ {t : DataType} {symbols signs : List ℕ} (g : Signed t symbols signs) 
       let back : 48 + i - 48 ≡ i = omega arith in
       g .each (48 + i) (omega arith) ∙ rw (le-leb 48 (48 + i) (omega arith), le-leb (48 + i) 57 (omega arith)) (ap (sign symbols) back)
 
-  pub signs-index : (i : ℕ) → i < 74 → getD signs (128 + i) 0 ≡ sign symbols i
+  signs-index : (i : ℕ) → i < 74 → getD signs (128 + i) 0 ≡ sign symbols i
   unfolding sign·of sign·by pick
   signs-index i h =
       let back : 128 + i - 128 ≡ i = omega arith in
@@ -101,7 +101,7 @@ module _ (b signs : List ℕ) (at : ℕ) (r : Sign) (read : Sign·read b signs a
   sign-one y x rest e h = (rw (front-byte b at y (x ∷ rest) e, second-byte b at y x rest e, not-two y x h) at (read .sign), rw (front-byte b at y (x ∷ rest) e, second-byte b at y x rest e, not-two y x h) at (read .next))
 
   -- Where two digits stand, the sign is that of the index that they are.
-  pub sign-two : (y z : ℕ) (rest : List ℕ) → drop at b ≡ y ∷ z ∷ rest → two·digits y z ≡ true → (r .sign ≡ getD signs (128 + ((y - 48) * 10 + (z - 48))) 0) × (r .at ≡ at + 2)
+  sign-two : (y z : ℕ) (rest : List ℕ) → drop at b ≡ y ∷ z ∷ rest → two·digits y z ≡ true → (r .sign ≡ getD signs (128 + ((y - 48) * 10 + (z - 48))) 0) × (r .at ≡ at + 2)
   unfolding sign·here size·here pick
   sign-two y z rest e h = (rw (front-byte b at y (z ∷ rest) e, second-byte b at y z rest e, h) at (read .sign), rw (front-byte b at y (z ∷ rest) e, second-byte b at y z rest e, h) at (read .next))
 

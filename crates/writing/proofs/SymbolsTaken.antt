@@ -20,7 +20,7 @@ use native.Mathlib.Omega.{arith}
 
 -- Of some bytes from a place on, the first and the others.
 module _ (b : List ℕ) (x : ℕ) where
-  pub among-turn : (left at : ℕ) → at < length b → (left ≡ 0 → ⊥) → among x (take left (drop at b)) ≡ eqb x (getD b at 0) || among x (take (left - 1) (drop (at + 1) b))
+  among-turn : (left at : ℕ) → at < length b → (left ≡ 0 → ⊥) → among x (take left (drop at b)) ≡ eqb x (getD b at 0) || among x (take (left - 1) (drop (at + 1) b))
   unfolding among
   among-turn zero at h some = absurd (some refl)
   among-turn (suc k) at h some = let less : suc k - 1 ≡ k = omega arith in rw (drop-next b at h, less)
@@ -67,7 +67,7 @@ free-other x taken [] h = refl
 free-other x taken (s ∷ r) h = rw (eqb-sym s x, or-left (eqb x s) (among x r) h, free-other x taken r (or-right (eqb x s) (among x r) h))
 
 -- So may 0.
-pub free-zero : (taken : List ℕ) → first·free (0 ∷ taken) valid·symbols ≡ first·free taken valid·symbols
+free-zero : (taken : List ℕ) → first·free (0 ∷ taken) valid·symbols ≡ first·free taken valid·symbols
 unfolding valid·symbols bytes among
 free-zero taken = free-other 0 taken valid·symbols refl
 

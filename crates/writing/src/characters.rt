@@ -4,7 +4,7 @@ ghost use Prim.Native.Nat.{_+_, _≤_, min};
 ghost use Rattle.emit.specs.Puts.{Puts};
 ghost use Rattle.record.specs.Form.{comma, form·each, form·states};
 ghost use Rattle.writing.specs.CharacterLines.{Assumptions·put, Entries·put, Entry·put, Label·found, Label·put, Labels·put, Labels·told, Line·behind, Next·found, Order·found, Plain·at, States·found, States·put, Type·put, Types·put};
-ghost use lib.ListN.{length, getD};
+ghost use lib.ListN.{length};
 ghost use mathlib.Core.Bool.{true};
 ghost use mathlib.Core.Path.{_≡_};
 use super::Putting;

@@ -6,20 +6,27 @@ ghost use Rattle.writing.specs.RowsPut.{form·counts, form·standard};
 ghost use Rattle.writing.specs.Signs.{Signs·made, symbols·at};
 ghost use lib.ListN.{drop, take};
 ghost use mathlib.Core.List.{_++_};
+use block::CharacterNumber;
 use block::DataType;
+use block::TaxonNumber;
 use emit::put;
 use emit::put_all;
 use emit::put_decimal;
 use judging::Shape;
 
 // Puts DIMENSIONS.
-pub fn put_dimensions(buffer: &mut [u8], n: usize, taxa: usize, characters: usize) -> usize
-    ensures { λ r. ⌜ Puts (now (buffer .entry)) n (form·counts taxa characters) (now (buffer .exit)) r ⌝ }
+pub fn put_dimensions(
+    buffer: &mut [u8],
+    n: usize,
+    taxa: TaxonNumber,
+    characters: CharacterNumber,
+) -> usize
+    ensures { λ r. ⌜ Puts (now (buffer .entry)) n (form·counts (taxa .0) (characters .0)) (now (buffer .exit)) r ⌝ }
 {
     let command = put_all(buffer, n, b"DIMENSIONS NTAX=");
-    let rows = put_decimal(buffer, command, taxa as u64);
+    let rows = put_decimal(buffer, command, taxa.0 as u64);
     let second = put_all(buffer, rows, b" NCHAR=");
-    let columns = put_decimal(buffer, second, characters as u64);
+    let columns = put_decimal(buffer, second, characters.0 as u64);
     put_all(buffer, columns, b";\n")
 }
 

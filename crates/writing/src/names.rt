@@ -1,13 +1,12 @@
 // Names of a record put in single quotes, as the written form has them.
 
-ghost use Prim.Native.Nat.{_+_, _<_, _≤_};
+ghost use Prim.Native.Nat.{_≤_};
 ghost use Rattle.emit.specs.Puts.{Puts};
 ghost use Rattle.lexer.specs.Base.{pick};
 ghost use Rattle.record.specs.Form.{quote};
 ghost use Rattle.writing.specs.FormPut.{Quoted·put};
 ghost use Rattle.writing.specs.QuotedNames.{Run};
 ghost use lib.Dec.{eqb};
-ghost use lib.ListN.{length, getD};
 ghost use mathlib.Core.List.{_++_};
 ghost use mathlib.Core.Path.{_≡_};
 use super::Putting;

@@ -4,6 +4,7 @@ ghost use Rattle.writing.specs.RowsPut.{Row·put, Rows·put};
 use super::Putting;
 use super::cells::put_cells;
 use super::names::put_quoted;
+use block::TaxonNumber;
 use emit::further;
 use emit::put;
 
@@ -25,17 +26,17 @@ fn put_row(source: &[u8], at: usize, signs: &[u8; 256], buffer: &mut [u8], n: us
 pub fn put_rows(
     source: &[u8],
     from: usize,
-    taxa: usize,
+    taxa: TaxonNumber,
     signs: &[u8; 256],
     buffer: &mut [u8],
     n: usize,
 ) -> usize
-    ensures { λ r. ⌜ Rows·put (now (source .entry)) (now (signs .entry)) taxa from (now (buffer .entry)) n (now (buffer .exit)) r ⌝ }
+    ensures { λ r. ⌜ Rows·put (now (source .entry)) (now (signs .entry)) (taxa .0) from (now (buffer .entry)) n (now (buffer .exit)) r ⌝ }
 {
     let mut at = from;
     let mut m = n;
     let mut i = 0;
-    while i < taxa {
+    while i < taxa.0 {
         let row = put_row(source, at, signs, buffer, m);
         at = row.at;
         m = row.n;

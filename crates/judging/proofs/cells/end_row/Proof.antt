@@ -17,11 +17,11 @@ sub-if2 c = search needs
 
 returns-2 : tie.Need-returns-2
 unfolding pick
-returns-2 c = sym (row-end-some _ _ _ _ _ (c .before .before .before .if1 .left) _ _ (c .before .before .ends-cell .ensures) (c .if2 .taken))
+returns-2 c = sym (row-end-some _ _ _ _ _ (c .before .before .before .before .if1 .left) _ _ (c .before .before .before .ends-cell .ensures) (c .if2 .taken))
 
 returns-3 : tie.Need-returns-3
 unfolding pick
-returns-3 c = sym (row-end-some _ _ _ _ _ (c .before .before .before .if1 .left) _ _ (c .before .before .ends-cell .ensures) (c .if2 .left))
+returns-3 c = sym (row-end-some _ _ _ _ _ (c .before .before .before .before .if1 .left) _ _ (c .before .before .before .ends-cell .ensures) (c .if2 .left))
 
 pub end-row-spec : {M : Type 1} → statement M
 end-row-spec = tie.close (tie.spec returns ends-cell-requires sub-if2 returns-2 returns-3)

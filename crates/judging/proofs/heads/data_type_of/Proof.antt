@@ -1,7 +1,6 @@
 -- The function `data_type_of` meets its contract. Assumes nothing.
 use mathlib.Core.Path.{sym}
 use Rattle.lexer.proofs.Basics.{pick-first, pick-second}
-use borrow.Author.Needs.{needs}
 use Rattle.judging.proofs.heads.data_type_of.Statement.{statement}
 use Rattle.judging.proofs.heads.data_type_of.Tie as tie
 

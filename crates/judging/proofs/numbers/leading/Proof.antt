@@ -5,7 +5,6 @@ use Rattle.judging.proofs.numbers.leading.Statement.{statement}
 use Rattle.judging.proofs.numbers.leading.Tie as tie
 use borrow.Author.Needs.{needs}
 use lib.ListN.{length}
-use native.Mathlib.Omega.{arith}
 
 abbrev Inv-loop : tie.InvT-loop
 Inv-loop source i value₀ at₀ value at = Valuing source i value at

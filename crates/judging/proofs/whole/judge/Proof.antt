@@ -1,5 +1,5 @@
 -- The function `judge` meets its contract: the first four lines stand there, and then what is behind them is judged; or they do not. Assumes nothing.
-use Rattle.judging.proofs.WholeJudged.{judged-no-opening}
+use Rattle.judging.proofs.RecordParts.{judged-no-opening}
 use borrow.Author.Needs.{needs}
 use Rattle.judging.proofs.whole.judge.Statement.{statement}
 use Rattle.judging.proofs.whole.judge.Tie as tie

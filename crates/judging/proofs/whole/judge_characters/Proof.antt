@@ -1,6 +1,7 @@
 -- The function `judge_characters` meets its contract: the characters do not stand there, something stands behind them or DNA has an ordered one, or the bytes are a record. Assumes nothing.
 use mathlib.Core.Path.{refl}
-use Rattle.judging.proofs.WholeJudged.{judged-no-characters, judged-otherwise, judged-whole}
+use Rattle.judging.proofs.RecordParts.{judged-no-characters, judged-otherwise}
+use Rattle.judging.proofs.WholeJudged.{judged-whole}
 use borrow.Author.Needs.{needs}
 use Rattle.judging.proofs.whole.judge_characters.Statement.{statement}
 use Rattle.judging.proofs.whole.judge_characters.Tie as tie

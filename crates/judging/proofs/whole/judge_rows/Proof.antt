@@ -1,5 +1,5 @@
 -- The function `judge_rows` meets its contract: the rows do not stand there, there are too many symbols beside a gap, names are alike, or the characters are judged. Assumes nothing.
-use Rattle.judging.proofs.WholeJudged.{judged-alike, judged-no-rows, judged-no-sign, rows-there}
+use Rattle.judging.proofs.RecordParts.{judged-alike, judged-no-rows, judged-no-sign, rows-there}
 use borrow.Author.Needs.{needs}
 use Rattle.judging.proofs.whole.judge_rows.Statement.{statement}
 use Rattle.judging.proofs.whole.judge_rows.Tie as tie

@@ -5,10 +5,10 @@ use Rattle.lookup.proofs.find.find_cells.Tie as tie
 use borrow.Author.Needs.{needs}
 
 abbrev Inv-loop : tie.InvT-loop
-Inv-loop source at name columns here₀ left₀ here left = Seeking source at left₀ columns name here left
+Inv-loop source at characters name here₀ left₀ here left = Seeking source at left₀ (characters .0) name here left
 
 abbrev μ-loop : tie.MeasureT-loop
-μ-loop source at name columns here₀ left₀ here left = left
+μ-loop source at characters name here₀ left₀ here left = left
 
 loop-holds : tie.Need-loop-holds Inv-loop μ-loop
 loop-holds c = seeking-all _ _ _ _ _

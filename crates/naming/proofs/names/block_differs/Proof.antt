@@ -18,7 +18,7 @@ none-known-requires : tie.Need-none-known-requires
 none-known-requires c κs =
     let e = c .before .before .before .before .before .before .before .before .before in
     let f = e .before .before .before .before .before in
-    let s = f .before .before .before .before .before in
+    let s = f .before .before .before .before .before .before in
     (f .free-table .ensures .1 .sound, omega (arith, s .pre .0, e .enter-names .ensures .room), e .enter-names .ensures .kept _ (c .before .before .before .next .given .1))
 
 same-length : tie.Need-same-length

@@ -8,10 +8,10 @@ use mathlib.Core.Path.{_∙_}
 use native.Mathlib.Omega.{arith}
 
 abbrev Inv-loop : tie.InvT-loop
-Inv-loop source at taxa characters slots₀ places₀ here₀ left₀ slots places here left = Differing source characters at taxa slots₀ places₀ slots places here left
+Inv-loop source at characters slots₀ places₀ here₀ left₀ slots places here left = Differing source (characters .0) at left₀ slots₀ places₀ slots places here left
 
 abbrev μ-loop : tie.MeasureT-loop
-μ-loop source at taxa characters slots₀ places₀ here₀ left₀ slots places here left = left
+μ-loop source at characters slots₀ places₀ here₀ left₀ slots places here left = left
 
 loop-holds : tie.Need-loop-holds Inv-loop μ-loop
 loop-holds c = differing-start _ _ _ _ _ _
@@ -19,8 +19,8 @@ loop-holds c = differing-start _ _ _ _ _ _
 least-requires : tie.Need-least-requires Inv-loop μ-loop
 least-requires c κs = search needs
 
-sub-block-differs : tie.Need-sub-block-differs Inv-loop μ-loop
-sub-block-differs c = omega (arith, c .least .ensures .0)
+sub-later : tie.Need-sub-later Inv-loop μ-loop
+sub-later c = omega (arith, c .least .ensures .0)
 
 block-differs-requires : tie.Need-block-differs-requires Inv-loop μ-loop
 block-differs-requires c κs =
@@ -31,9 +31,6 @@ block-differs-requires c κs =
 
 enum-known-next : tie.Need-enum-known-next Inv-loop μ-loop
 enum-known-next c = search needs
-
-sub-left : tie.Need-sub-left Inv-loop μ-loop
-sub-left c = omega (arith, c .before .before .before .before .before .before .before .before .before .before .least .ensures .0)
 
 loop-less : tie.Need-loop-less Inv-loop μ-loop
 loop-less c =
@@ -85,10 +82,9 @@ differ-by-spec =
     μ-loop
     loop-holds
     least-requires
-    sub-block-differs
+    sub-later
     block-differs-requires
     enum-known-next
-    sub-left
     loop-less
     loop-again
     enum-told

@@ -7,7 +7,7 @@ use Rattle.naming.specs.Entries.{Line·sought}
 use borrow.Author.Needs.{needs}
 
 abbrev Inv-loop : tie.InvT-loop
-Inv-loop source at slots places count from end p₀ p = Line·sought source at slots places count p end
+Inv-loop source at slots places count from end p₀ p = Line·sought source at slots places (count .0) p end
 
 abbrev μ-loop : tie.MeasureT-loop
 μ-loop source at slots places count from end p₀ p = end - p

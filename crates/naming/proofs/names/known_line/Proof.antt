@@ -7,10 +7,10 @@ use borrow.Author.Needs.{needs}
 use mathlib.Core.Path.{refl}
 
 abbrev Inv-loop : tie.InvT-loop
-Inv-loop source at places count k₀ k = Searching source at places count k
+Inv-loop source at places count k₀ k = Searching source at places (count .0) k
 
 abbrev μ-loop : tie.MeasureT-loop
-μ-loop source at places count k₀ k = count - k
+μ-loop source at places count k₀ k = count .0 - k
 
 loop-holds : tie.Need-loop-holds Inv-loop μ-loop
 loop-holds c = record { rest = refl }
@@ -27,7 +27,7 @@ lines-alike-requires c κs = search needs
 returns : tie.Need-returns Inv-loop μ-loop
 returns c =
     let t = c .before .before .before in
-    searching-found _ _ _ _ (t .before .before .before .before .pre) _ (t .before .loop .inv) (t .loop-test .taken) (c .before .lines-alike .ensures) (c .if1 .taken)
+    searching-found _ _ _ _ (t .before .before .before .before .before .pre) _ (t .before .before .loop .inv) (t .if1 .taken) (c .before .lines-alike .ensures) (c .if2 .taken)
 
 add-k : tie.Need-add-k Inv-loop μ-loop
 add-k c = search needs
@@ -38,10 +38,10 @@ loop-less c = search needs
 loop-again : tie.Need-loop-again Inv-loop μ-loop
 loop-again c =
     let t = c .before .before .before in
-    searching-turn _ _ _ _ (t .before .before .before .before .pre) _ (t .before .loop .inv) (t .loop-test .taken) (c .before .lines-alike .ensures) (c .if1 .left)
+    searching-turn _ _ _ _ (t .before .before .before .before .before .pre) _ (t .before .before .loop .inv) (t .if1 .taken) (c .before .lines-alike .ensures) (c .if2 .left)
 
 returns-2 : tie.Need-returns-2 Inv-loop μ-loop
-returns-2 c = searching-end _ _ _ _ (c .before .before .before .before .pre) _ (c .before .loop .inv) (c .loop-test .left)
+returns-2 c = searching-end _ _ _ _ (c .before .before .before .before .before .pre) _ (c .before .before .loop .inv) (c .if1 .left)
 
 pub known-line-spec : {M : Type 1} → statement M
 known-line-spec =

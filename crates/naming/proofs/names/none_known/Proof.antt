@@ -9,10 +9,10 @@ use borrow.Author.Needs.{needs}
 use lib.ListN.{take}
 
 abbrev Inv-loop : tie.InvT-loop
-Inv-loop source at rows characters slots places count table end here₀ left₀ here left = Looking source characters at rows (lines·at source (take count places)) here left
+Inv-loop source at characters slots places count table end here₀ left₀ here left = Looking source (characters .0) at left₀ (lines·at source (take (count .0) places)) here left
 
 abbrev μ-loop : tie.MeasureT-loop
-μ-loop source at rows characters slots places count table end here₀ left₀ here left = left
+μ-loop source at characters slots places count table end here₀ left₀ here left = left
 
 loop-holds : tie.Need-loop-holds Inv-loop μ-loop
 loop-holds c = record { rest = remains-all _ _ _ }
