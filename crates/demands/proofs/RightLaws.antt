@@ -9,6 +9,7 @@ use Rattle.block.specs.Parse.{Read, reading, fault, read}
 use Rattle.block.specs.Reading.{Taxon, Reading}
 use Rattle.block.specs.TaxonOrder.{all·rows, Follows}
 use Rattle.demands.proofs.AgainLaws.{left-whole}
+use Rattle.demands.proofs.DimensionsHeld.{dimensions-declared}
 use Rattle.demands.specs.Right as Right
 use Rattle.demands.specs.Right.{Right·reading, Left·open, Tokens·refused, Read·case, Refused·so, Recorded·so, Has·record, Rightly·read}
 use Rattle.lexer.proofs.Basics.{by-test, and-left, and-right}
@@ -67,6 +68,7 @@ right-reading text s h =
     let long = follow-long n (m .block·data .taxa) (m .rows) (s .taxa) (all-long n (m .rows) (m .long)) (follows .1) in
     record {
       matrix = m;
+      dimensions = dimensions-declared (m .before) (m .state) (m .reached) (m .block) (m .block·data) (m .inside) (m .dimensions) (m .sized);
       characters = one-length (length (s .characters)) n (s .taxa) (sound .some·taxon) (all-long (length (s .characters)) (s .taxa) (sound .rows·long)) long;
       cells = λ t among. all-member (Long n) (s .taxa) t long among;
       taxa = follow-count (m .block·data .taxa) (m .rows) (s .taxa) (m .as·names) (follows .1);

@@ -1,17 +1,23 @@
 -- Demand 2 about the read call: for every text, work memory and buffer, what it answers and leaves.
 use Prim.Native.Nat.{ℕ, _+_, _*_, _≤_, _<_}
+use Rattle.block.specs.Blocks.{Data, in·data, State, at·start, step}
+use Rattle.block.specs.Commands.{Command, command, words}
+use Rattle.block.specs.Dimensions.{dimensions}
 use Rattle.block.specs.Faults.{Whole, Quote·mark, Comment·mark, Fault·at}
 use Rattle.block.specs.LabelOrder.{Labels·follow}
+use Rattle.block.specs.Outcome.{done, fold}
 use Rattle.block.specs.Parse.{fault, read}
 use Rattle.block.specs.Reading.{Taxon, Reading}
 use Rattle.block.specs.Sequential.{names}
 use Rattle.block.specs.Sound.{Sound, label·texts}
 use Rattle.block.specs.TaxonOrder.{commands·of, all·named, Matrix·of, Follows}
+use Rattle.block.specs.declared.dimension.Dimensions.{Dimensions}
+use Rattle.lexer.specs.Base.{bytes}
 use Rattle.lexer.specs.Places.{place, nowhere}
 use Rattle.lexer.specs.Refusals.{number}
 use Rattle.lexer.specs.Tokens.{tokens, left·open}
 use Rattle.lexer.specs.Utf8.{utf8}
-use Rattle.lexer.specs.Words.{numbered}
+use Rattle.lexer.specs.Words.{Numbered, numbered, is}
 use Rattle.lexer.specs.declared.Place.{Place}
 use Rattle.lexer.specs.declared.refusal.Refusal.{Refusal}
 use Rattle.record.specs.Demands.{Reads, Taken}
@@ -20,15 +26,31 @@ use Rattle.record.specs.Unspell.{unspell}
 use Rattle.record.specs.declared.Answer.{Answer}
 use lib.ListN.{length, drop}
 use mathlib.Core.Bool.{true, false}
-use mathlib.Core.List.{List, _++_, List·Memᴰ}
+use mathlib.Core.List.{List, _∷_, _++_, List·Memᴰ}
 use mathlib.Core.Option.{some}
 use mathlib.Core.Path.{_≡_}
 
+-- A DIMENSIONS command among these whose words declare these dimensions: the commands before it lead to a data block.
+pub record Dimensioned (cs : List Command) (x : Dimensions) : Type 0 where
+  pub before : List Command
+  pub head : Numbered
+  pub raw : List Numbered
+  pub after : List Command
+  pub here : cs ≡ before ++ (command head raw ∷ after)
+  pub word : is (bytes "DIMENSIONS") head ≡ true
+  pub state : State
+  pub reached : fold step at·start before ≡ done state
+  pub block : ℕ
+  pub block·data : Data
+  pub inside : state .phase ≡ in·data block block·data
+  pub declares : dimensions (words raw) ≡ done x
+
 -- What a text's reading is to be.
 pub record Right·reading (text : List ℕ) (s : Reading) : Type 0 where
-  -- the MATRIX command of the text, with the DIMENSIONS and the declared names of its data block
+  -- the MATRIX command of the text, and the DIMENSIONS command before it
   pub matrix : Matrix·of (commands·of text)
-  -- there are as many characters as NCHAR says, and each row has exactly so many cells
+  pub dimensions : Dimensioned (matrix .before) (matrix .dimensions)
+  -- there are as many characters as its NCHAR says, and each row has exactly so many cells
   pub characters : length (s .characters) ≡ matrix .dimensions .characters
   pub cells : (t : Taxon) → List·Memᴰ t (s .taxa) → length (t .cells) ≡ matrix .dimensions .characters
   -- there are as many taxa as the matrix has rows, and they follow any declared order: the k-th taxon has the k-th declared name and the cells
