@@ -1,4 +1,4 @@
--- The dimensions of a data block are those that a DIMENSIONS command before it declares. Assumes nothing.
+-- The dimensions of a data block are those that a DIMENSIONS command in it declares. Assumes nothing.
 use Prim.Native.Nat.{ℕ}
 use Rattle.block.proofs.BlockMoves.{Away, Move, elsewhere, typed, begins, left, labels, reads, declares, command-move}
 use Rattle.block.proofs.ChunkSound.{none-some, some-inj}
@@ -22,13 +22,13 @@ use mathlib.Core.Option.{Option, none, some}
 use mathlib.Core.Path.{_≡_, refl, sym, ap, _∙_}
 
 -- What is declared in a block is declared by one of these commands.
-abbrev Declared : List Command → Data → Type 0
-Declared cs d = (x : Dimensions) → d .dimensions ≡ some x → Dimensioned cs x
+abbrev Declared : List Command → ℕ → Data → Type 0
+Declared cs b d = (x : Dimensions) → d .dimensions ≡ some x → Dimensioned cs b x
 
 abbrev pub Sized : List Command → Phase → Type 0
 Sized cs outside = Unit {0}
 Sized cs (in·taxa b count names) = Unit {0}
-Sized cs (in·data b d) = Declared cs d
+Sized cs (in·data b d) = Declared cs b d
 Sized cs (in·assumptions b default set) = Unit {0}
 Sized cs (in·trees b) = Unit {0}
 
@@ -39,16 +39,16 @@ away-sized cs (in·data b d) a = absurd a
 away-sized cs (in·assumptions b default set) a = tt
 away-sized cs (in·trees b) a = tt
 
-begun-sized : (cs : List Command) (taxa : Option (List (List ℕ))) → Declared cs (no·data taxa)
+begun-sized : (cs : List Command) (b : ℕ) (taxa : Option (List (List ℕ))) → Declared cs b (no·data taxa)
 unfolding no·data
-begun-sized cs taxa x e = none-some x e
+begun-sized cs b taxa x e = none-some x e
 
 module _ (before : List Command) (s : State) (reached : fold step at·start before ≡ done s) (h : Numbered) (raw : List Numbered) where
   abbrev now : List Command
   now = before ++ (command h raw ∷ [])
 
-  later : (x : Dimensions) → Dimensioned before x → Dimensioned now x
-  later x d =
+  later : (b : ℕ) (x : Dimensions) → Dimensioned before b x → Dimensioned now b x
+  later b x d =
       record {
         before = d .before;
         head = d .head;
@@ -58,25 +58,24 @@ module _ (before : List Command) (s : State) (reached : fold step at·start befo
         word = d .word;
         state = d .state;
         reached = d .reached;
-        block = d .block;
         block·data = d .block·data;
         inside = d .inside;
         declares = d .declares;
       }
 
   -- In a data block the command declares dimensions, or keeps those that there are.
-  module _ (b : ℕ) (d : Data) (inside : s .phase ≡ in·data b d) (k : Declared before d) where
-    command-sized : (e : Data) → data·command d h raw ≡ done e → Declared now e
+  module _ (b : ℕ) (d : Data) (inside : s .phase ≡ in·data b d) (k : Declared before b d) where
+    command-sized : (e : Data) → data·command d h raw ≡ done e → Declared now b e
     unfolding data·command label·step with·dimensions with·format with·taxa with·matrix
     command-sized e p =
-        let repeated : refused Refusal.Command (h .index) ≡ done e → Declared now e = refused-done Refusal.Command (h .index) e in
+        let repeated : refused Refusal.Command (h .index) ≡ done e → Declared now b e = refused-done Refusal.Command (h .index) e in
         pick-test (is (bytes "DIMENSIONS") h) _ _ e (λ w. pick-either (given (d .dimensions)) _ _ e repeated (sized w))
         (pick-either (is (bytes "FORMAT") h) _ _ e (pick-either (given (d .format)) _ _ e repeated (kept (format (h .index) (words raw)) (with·format d) (λ y. refl)))
         (pick-either (is (bytes "TAXLABELS") h) _ _ e (pick-either (given (d .taxa)) _ _ e repeated (kept (unique·names (words raw)) (with·taxa d) (λ y. refl)))
         (pick-either (is (bytes "MATRIX") h) _ _ e (kept (matrix d h raw) (with·matrix d) (λ y. refl))
         (labelled (labelling h))))) p
       where
-        sized : is (bytes "DIMENSIONS") h ≡ true → then (Definition.dimensions (words raw)) (λ y. done (with·dimensions d y)) ≡ done e → Declared now e
+        sized : is (bytes "DIMENSIONS") h ≡ true → then (Definition.dimensions (words raw)) (λ y. done (with·dimensions d y)) ≡ done e → Declared now b e
         sized w q =
             let y = then-done (Definition.dimensions (words raw)) (λ y. done (with·dimensions d y)) e q in
             rw (← done-inj (y .2)) (λ x same. record {
@@ -88,20 +87,19 @@ module _ (before : List Command) (s : State) (reached : fold step at·start befo
               word = w;
               state = s;
               reached = reached;
-              block = b;
               block·data = d;
               inside = inside;
               declares = y .1 ∙ ap done (some-inj same);
             })
 
-        kept : {A : Type 0} (o : Outcome A) (f : A → Data) → ((y : A) → f y .dimensions ≡ d .dimensions) → then o (λ y. done (f y)) ≡ done e → Declared now e
+        kept : {A : Type 0} (o : Outcome A) (f : A → Data) → ((y : A) → f y .dimensions ≡ d .dimensions) → then o (λ y. done (f y)) ≡ done e → Declared now b e
         kept o f same q =
             let y = then-done o (λ y. done (f y)) e q in
-            rw (← done-inj (y .2)) (λ x r. later x (k x (sym (same (y .0)) ∙ r)))
+            rw (← done-inj (y .2)) (λ x r. later b x (k x (sym (same (y .0)) ∙ r)))
 
-        labelled : (l : Option Labelling) → label·step d h (words raw) l ≡ done e → Declared now e
+        labelled : (l : Option Labelling) → label·step d h (words raw) l ≡ done e → Declared now b e
         labelled none q = refused-done Refusal.Command (h .index) e q
-        labelled (some l) q = rw (← done-inj (pick-else (labelled·by l (d .labels)) Refusal.Command (h .index) _ e q .1)) (λ x r. later x (k x r))
+        labelled (some l) q = rw (← done-inj (pick-else (labelled·by l (d .labels)) Refusal.Command (h .index) _ e q .1)) (λ x r. later b x (k x r))
 
     ended : (m : Option Reading) (t : State) → data·end s b m ≡ done t → Sized now (t .phase)
     unfolding data·end
@@ -136,7 +134,7 @@ module _ (before : List Command) (s : State) (reached : fold step at·start befo
       moved : Move s h raw t → Sized now (t .phase)
       moved (elsewhere a away m) = away-sized now (t .phase) away
       moved (typed default set a away m) = away-sized now (t .phase) away
-      moved (begins b a m at) = rw at (begun-sized now (s .taxa))
+      moved (begins b a m at) = rw at (begun-sized now b (s .taxa))
       moved (left b d r at m n away q) = away-sized now (t .phase) away
       moved (labels b d x l at m n w q g f) = stays b d at
       moved (reads b d x r at m n q g f) = stays b d at
@@ -150,6 +148,6 @@ step-keeps before s (unended i) t reached k e = refused-done Refusal.UnendedComm
 step-keeps before s (command h raw) t reached k e = command-keeps before s reached h raw t k e
 
 pub dimensions-declared : (cs : List Command) (s : State) → fold step at·start cs ≡ done s → (b : ℕ) (d : Data) → s .phase ≡ in·data b d
-    → (x : Dimensions) → d .dimensions ≡ some x → Dimensioned cs x
+    → (x : Dimensions) → d .dimensions ≡ some x → Dimensioned cs b x
 unfolding at·start
 dimensions-declared cs s reached b d at = rw at at (fold-history (λ cs s. Sized cs (s .phase)) step at·start step-keeps cs s tt reached)

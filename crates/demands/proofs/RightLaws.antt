@@ -150,17 +150,20 @@ module _ (text work work·after buffer after : List ℕ) (r : Answer) (call : Re
       let x = read-refuses-in-order text (length work) (length buffer) in
       refused-so (number n) p n refl (x .faulty n p (x .placed n p u e) .1 (h, e))
 
+  -- What stays open is refused at its opening mark.
+  mark-refused : (why : Refusal) (Mark : ℕ → Type 0) → ((p : Place) → Fault·at text why p → (at : ℕ) × Mark at × (p ≡ place text at))
+      → Left·open text (length work) why → (p : Place) × (read text ≡ fault why p) → (at : ℕ) × Mark at × Refused·so (number why) (place text at) buffer after r
+  mark-refused why Mark stands h (p, e) =
+      let at = stands p (faults-have-their-place text why p e) in
+      (at .0, at .1, rw (← at .2) (refused-fault why p (h .0) (h .1) e))
+
   quote-refused : Left·open text (length work) Refusal.OpenQuote → (at : ℕ) × Quote·mark text at × Refused·so 4 (place text at) buffer after r
   quote-refused h =
-      let x = faults-come-in-order text .open·quote .1 (h .1, h .2) in
-      let at = quote-at text Refusal.OpenQuote (x .0) (faults-have-their-place text Refusal.OpenQuote (x .0) (x .1)) refl in
-      (at .0, at .1, rw (← at .2) (refused-fault Refusal.OpenQuote (x .0) (h .0) (h .1) (x .1)))
+      mark-refused Refusal.OpenQuote (Quote·mark text) (λ p f. quote-at text Refusal.OpenQuote p f refl) h (faults-come-in-order text .open·quote .1 (h .1, h .2))
 
   comment-refused : Left·open text (length work) Refusal.OpenComment → (at : ℕ) × Comment·mark text at × Refused·so 5 (place text at) buffer after r
   comment-refused h =
-      let x = faults-come-in-order text .open·comment .1 (h .1, h .2) in
-      let at = comment-at text Refusal.OpenComment (x .0) (faults-have-their-place text Refusal.OpenComment (x .0) (x .1)) refl in
-      (at .0, at .1, rw (← at .2) (refused-fault Refusal.OpenComment (x .0) (h .0) (h .1) (x .1)))
+      mark-refused Refusal.OpenComment (Comment·mark text) (λ p f. comment-at text Refusal.OpenComment p f refl) h (faults-come-in-order text .open·comment .1 (h .1, h .2))
 
   tokens-refused : (n : Refusal) (p : Place) → Tokens·refused text (length work) n p
       → Refused·so (number n) p buffer after r × (6 ≤ number n) × (number n ≤ 29) × Fault·at text n p

@@ -30,8 +30,9 @@ use mathlib.Core.List.{List, _∷_, _++_, List·Memᴰ}
 use mathlib.Core.Option.{some}
 use mathlib.Core.Path.{_≡_}
 
--- A DIMENSIONS command among these whose words declare these dimensions: the commands before it lead to a data block.
-pub record Dimensioned (cs : List Command) (x : Dimensions) : Type 0 where
+-- A DIMENSIONS command among these whose words declare these dimensions: the commands before it lead to the data block whose name has this
+-- index.
+pub record Dimensioned (cs : List Command) (block : ℕ) (x : Dimensions) : Type 0 where
   pub before : List Command
   pub head : Numbered
   pub raw : List Numbered
@@ -40,16 +41,15 @@ pub record Dimensioned (cs : List Command) (x : Dimensions) : Type 0 where
   pub word : is (bytes "DIMENSIONS") head ≡ true
   pub state : State
   pub reached : fold step at·start before ≡ done state
-  pub block : ℕ
   pub block·data : Data
   pub inside : state .phase ≡ in·data block block·data
   pub declares : dimensions (words raw) ≡ done x
 
 -- What a text's reading is to be.
 pub record Right·reading (text : List ℕ) (s : Reading) : Type 0 where
-  -- the MATRIX command of the text, and the DIMENSIONS command before it
+  -- the MATRIX command of the text, and the DIMENSIONS command before it in its block
   pub matrix : Matrix·of (commands·of text)
-  pub dimensions : Dimensioned (matrix .before) (matrix .dimensions)
+  pub dimensions : Dimensioned (matrix .before) (matrix .block) (matrix .dimensions)
   -- there are as many characters as its NCHAR says, and each row has exactly so many cells
   pub characters : length (s .characters) ≡ matrix .dimensions .characters
   pub cells : (t : Taxon) → List·Memᴰ t (s .taxa) → length (t .cells) ≡ matrix .dimensions .characters
