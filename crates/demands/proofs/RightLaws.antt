@@ -11,7 +11,7 @@ use Rattle.block.specs.TaxonOrder.{all·rows, Follows}
 use Rattle.demands.proofs.AgainLaws.{left-whole}
 use Rattle.demands.proofs.DimensionsHeld.{dimensions-declared}
 use Rattle.demands.specs.Right as Right
-use Rattle.demands.specs.Right.{Right·reading, Left·open, Tokens·refused, Read·case, Refused·so, Recorded·so, Has·record, Rightly·read}
+use Rattle.demands.specs.Right.{Right·reading, Left·open, Tokens·refused, Has·record, Read·case, case·number, answer·number, Refused·so, Recorded·so, Rightly·read}
 use Rattle.lexer.proofs.Basics.{by-test, and-left, and-right}
 use Rattle.lexer.specs.Base.{empty?}
 use Rattle.lexer.specs.Places.{place, nowhere}
@@ -22,7 +22,7 @@ use Rattle.lexer.specs.declared.refusal.Refusal.{Refusal}
 use Rattle.read.specs.Call.{Read·call}
 use Rattle.record.proofs.Demands.{buffers-are-kept, every-reading-is-sound, faults-come-in-order, faults-have-their-place, labels-come-from-tokens, labels-follow-the-commands, names-come-from-tokens, read-gives-records, read-refuses-in-order, records-of-texts-pass, taxa-follow-the-declaration}
 use Rattle.record.specs.Calls.{read·answer, read·leaves}
-use Rattle.record.specs.Demands.{Reads, Refuses, Taken}
+use Rattle.record.specs.Demands.{Reads, Read·refuses, Refuses, Taken}
 use Rattle.record.specs.Spell.{spell}
 use Rattle.record.specs.declared.Answer.{Answer}
 use borrow.Author.Tests.{eqb-true, leb-true, leb-false}
@@ -132,6 +132,9 @@ module _ (text : List ℕ) (work room : ℕ) where
 
 -- What is answered and left
 module _ (text work work·after buffer after : List ℕ) (r : Answer) (call : Read·call text work work·after buffer after r) where
+  refusals : Read·refuses text (length work) (length buffer)
+  refusals = read-refuses-in-order text (length work) (length buffer)
+
   refused-so : (n : ℕ) (p : Place) (why : Refusal) → number why ≡ n → read·answer text (length work) (length buffer) ≡ Answer.Refused why p → Refused·so n p buffer after r
   refused-so n p why same e =
       record {
@@ -146,9 +149,7 @@ module _ (text work work·after buffer after : List ℕ) (r : Answer) (call : Re
   refused-nowhere n (why, same, e) = refused-so n nowhere why same e
 
   refused-fault : (n : Refusal) (p : Place) → Taken text (length work) → utf8 text ≡ true → read text ≡ fault n p → Refused·so (number n) p buffer after r
-  refused-fault n p h u e =
-      let x = read-refuses-in-order text (length work) (length buffer) in
-      refused-so (number n) p n refl (x .faulty n p (x .placed n p u e) .1 (h, e))
+  refused-fault n p h u e = refused-so (number n) p n refl (refusals .faulty n p (refusals .placed n p u e) .1 (h, e))
 
   -- What stays open is refused at its opening mark.
   mark-refused : (why : Refusal) (Mark : ℕ → Type 0) → ((p : Place) → Fault·at text why p → (at : ℕ) × Mark at × (p ≡ place text at))
@@ -182,18 +183,47 @@ module _ (text work work·after buffer after : List ℕ) (r : Answer) (call : Re
         right = right-reading text s e;
       }
 
+  -- The refusals that have no place.
+  long-refused : Right.Too·long text → Refused·so 1 nowhere buffer after r
+  long-refused h = refused-nowhere 1 (refusals .too·long .1 h)
+
+  memory-refused : Right.Memory·short text (length work) → Refused·so 2 nowhere buffer after r
+  memory-refused h = refused-nowhere 2 (refusals .memory·short .1 h)
+
+  utf8-refused : Right.Not·utf8 text (length work) → Refused·so 3 nowhere buffer after r
+  utf8-refused h = refused-nowhere 3 (refusals .not·utf8 .1 h)
+
+  room-refused : (s : Reading) → Right.No·room text (length work) (length buffer) s → Refused·so 30 nowhere buffer after r
+  room-refused s h = refused-nowhere 30 (refusals .no·room .1 (h .0, (s, h .1, h .2)))
+
+  -- The answer has the number of the case.
+  refused-number : {n : ℕ} {p : Place} → Refused·so n p buffer after r → answer·number r ≡ n
+  unfolding answer·number
+  refused-number x = ap answer·number (x .answer) ∙ x .numbered
+
+  case-told : (x : Read·case text (length work) (length buffer)) → answer·number r ≡ case·number x
+  unfolding answer·number case·number
+  case-told (Right.too·long h) = refused-number (long-refused h)
+  case-told (Right.memory·short h) = refused-number (memory-refused h)
+  case-told (Right.not·utf8 h) = refused-number (utf8-refused h)
+  case-told (Right.open·quote h) = refused-number (quote-refused h .2)
+  case-told (Right.open·comment h) = refused-number (comment-refused h .2)
+  case-told (Right.tokens·refused n p h) = refused-number (tokens-refused n p h .0)
+  case-told (Right.no·room s h) = refused-number (room-refused s h)
+  case-told (Right.recorded s h) = ap answer·number (recorded-so s h .answer)
+
   pub rightly-read : Rightly·read text work work·after buffer after r
   rightly-read =
-      let x = read-refuses-in-order text (length work) (length buffer) in
       record {
         decided = read-decided text (length work) (length buffer);
-        too·long = λ h. refused-nowhere 1 (x .too·long .1 h);
-        memory·short = λ h. refused-nowhere 2 (x .memory·short .1 h);
-        not·utf8 = λ h. refused-nowhere 3 (x .not·utf8 .1 h);
+        alone = case-told;
+        too·long = long-refused;
+        memory·short = memory-refused;
+        not·utf8 = utf8-refused;
         open·quote = quote-refused;
         open·comment = comment-refused;
         tokens·refused = tokens-refused;
-        no·room = λ s h. refused-nowhere 30 (x .no·room .1 (h .0, (s, h .1, h .2)));
+        no·room = room-refused;
         recorded = recorded-so;
         size = call .size;
       }

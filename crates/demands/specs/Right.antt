@@ -105,6 +105,21 @@ pub data Read·case (text : List ℕ) (work room : ℕ) : Type 0 where
   no·room : (s : Reading) → No·room text work room s → Read·case text work room
   recorded : (s : Reading) → Has·record text work room s → Read·case text work room
 
+-- The number of a case, and that of an answer: 0 where nothing is refused.
+unfoldable pub case·number : {text : List ℕ} {work room : ℕ} → Read·case text work room → ℕ
+case·number (too·long h) = 1
+case·number (memory·short h) = 2
+case·number (not·utf8 h) = 3
+case·number (open·quote h) = 4
+case·number (open·comment h) = 5
+case·number (tokens·refused n p h) = number n
+case·number (no·room s h) = 30
+case·number (recorded s h) = 0
+
+unfoldable pub answer·number : Answer → ℕ
+answer·number (Answer.Length n) = 0
+answer·number (Answer.Refused n p) = number n
+
 -- The answer is a refusal with this number, at this place, and the buffer is as it was.
 pub record Refused·so (n : ℕ) (p : Place) (buffer after : List ℕ) (r : Answer) : Type 0 where
   pub why : Refusal
@@ -124,8 +139,10 @@ pub record Recorded·so (text : List ℕ) (s : Reading) (buffer after : List ℕ
 -- A text, work memory and a buffer are lent; work memory is then `work·after`, the buffer `after`, and the answer is `r`. `nowhere` is line 0,
 -- column 0.
 pub record Rightly·read (text work work·after buffer after : List ℕ) (r : Answer) : Type 0 where
-  -- one of the cases applies; what follows says for each what is answered and left, so that nothing is open
+  -- one of the cases applies, and whichever does has the answer's number: so no two do, and a number is answered in its own case alone
   pub decided : Read·case text (length work) (length buffer)
+  pub alone : (x : Read·case text (length work) (length buffer)) → answer·number r ≡ case·number x
+  -- what is answered and left in each
   -- 1, 2 and 3
   pub too·long : Too·long text → Refused·so 1 nowhere buffer after r
   pub memory·short : Memory·short text (length work) → Refused·so 2 nowhere buffer after r
