@@ -1,20 +1,28 @@
 -- A text read and its record written, and two of them compared, by what the calls answer and leave. Assumes nothing.
 use Prim.Native.Nat.{ℕ, _≤_}
 use Rattle.block.specs.Reading.{Reading}
-use Rattle.demands.specs.Compare.{answer·then, leaves·then, formed·answer, formed·leaves, Formed, Has·room}
+use Rattle.demands.specs.Compare.{answer·then, leaves·then, formed·answer, formed·leaves, Formed, Has·room, Form·refused, not·read, form·long, no·room, Form·case, formed, refused}
+use Rattle.demands.specs.Right.{Has·record}
+use Rattle.lexer.proofs.Basics.{by-test}
+use Rattle.lexer.specs.Places.{nowhere}
+use Rattle.lexer.specs.Refusals.{number}
 use Rattle.lexer.specs.declared.Place.{Place}
 use Rattle.lexer.specs.declared.refusal.Refusal.{Refusal}
 use Rattle.read.specs.Call.{Read·call}
 use Rattle.record.proofs.CallLaws.{length-refused}
-use Rattle.record.proofs.Demands.{buffers-are-kept, read-gives-records, records-of-texts-pass, write-gives-forms}
+use Rattle.record.proofs.Demands.{buffers-are-kept, read-gives-records, read-refuses-in-order, records-of-texts-pass, write-gives-forms, write-refuses-in-order}
 use Rattle.record.specs.Calls.{read·answer, read·leaves, write·answer, write·leaves}
 use Rattle.record.specs.Demands.{Kept, Left}
 use Rattle.record.specs.Form.{form}
 use Rattle.record.specs.Spell.{spell}
+use Rattle.record.specs.Unspell.{unspell}
 use Rattle.record.specs.declared.Answer.{Answer}
 use Rattle.write.specs.Call.{Write·call}
+use borrow.Author.Tests.{leb-true, leb-false}
+use lib.Dec.{leb}
 use lib.ListN.{length, take}
 use mathlib.Core.List.{List}
+use mathlib.Core.Option.{some}
 use mathlib.Core.Path.{_≡_, refl, sym, ap, _∙_}
 use native.Mathlib.Omega.{arith}
 
@@ -69,10 +77,53 @@ module _ (text work work·after kept kept·after buffer after : List ℕ) (a : A
   pub kept-room : length kept·after ≡ length kept
   kept-room = ap length (f .stored) ∙ buffers-are-kept .0 text (length work) kept .room
 
+  -- Read leaves the record where it has room, and write is given it.
+  record-read : (s : Reading) → Has·record text (length work) (length kept) s → Left (spell s) kept (read·answer text (length work) (length kept)) (read·leaves text (length work) kept)
+  record-read s (h, e, room) = read-gives-records text (spell s) .1 (h .0, (s, e, refl)) (length work) kept (h .1) room
+
+  record-answer : (s : Reading) → Has·record text (length work) (length kept) s → a ≡ write·answer (spell s) (length buffer)
+  unfolding formed·answer answer·then
+  record-answer s h = let l = record-read s h in rw (f .answer, l .counted, l .result)
+
+  record-passes : (s : Reading) → Has·record text (length work) (length kept) s → unspell (spell s) ≡ some s
+  record-passes s (h, e, room) = records-of-texts-pass text s (h .0) e
+
   -- Where there is room, the form of the reading is left.
-  pub form-left : (r : Reading) → Has·room text r work kept buffer → Left (form r) buffer a after
+  pub form-left : (s : Reading) → Has·room text (length work) (length kept) (length buffer) s → Left (form s) buffer a after
   unfolding formed·answer formed·leaves answer·then leaves·then
-  form-left r h =
-      let l = read-gives-records text (spell r) .1 (h .text·short, (r, h .reads, refl)) (length work) kept (h .memory) (h .record·room) in
-      let w = write-gives-forms (spell r) (form r) .1 (h .form·short, (r, records-of-texts-pass text r (h .text·short) (h .reads), refl)) buffer (h .form·room) in
+  form-left s h =
+      let l = record-read s (h .record·room) in
+      let w = write-gives-forms (spell s) (form s) .1 (h .form·short, (s, record-passes s (h .record·room), refl)) buffer (h .form·room) in
       rw (f .answer, f .left, l .counted, l .result) w
+
+  -- Which refusal is answered is a matter of the text and of lengths.
+  pub form-refused : (n : ℕ) (p : Place) → Form·refused text (length work) (length kept) (length buffer) n p → (why : Refusal) × (number why ≡ n) × (a ≡ Answer.Refused why p)
+  unfolding formed·answer answer·then nowhere
+  form-refused n p (not·read {why = why} e) = (why, refl, rw (f .answer, e))
+  form-refused n p (form·long s h l) =
+      let x = write-refuses-in-order (spell s) (length buffer) .form·long .1 (s, record-passes s h, l) in
+      (x .0, x .1, record-answer s h ∙ x .2)
+  form-refused n p (no·room s h l m) =
+      let x = write-refuses-in-order (spell s) (length buffer) .no·room .1 (s, record-passes s h, l, m) in
+      (x .0, x .1, record-answer s h ∙ x .2)
+
+-- One of the cases applies.
+module _ (text : List ℕ) (work kept room : ℕ) where
+  record-case : (s : Reading) → Has·record text work kept s → Form·case text work kept room
+  record-case s h =
+      by-test (leb (length (form s)) 1048576)
+      (λ t.
+      let short = leb-true (length (form s)) 1048576 t in
+      by-test (leb (length (form s)) room)
+      (λ u. formed s (record { record·room = h; form·short = short; form·room = leb-true (length (form s)) room u }))
+      (λ u. refused 30 nowhere (no·room s h short (leb-false (length (form s)) room u))))
+      (λ t. refused 32 nowhere (form·long s h (leb-false (length (form s)) 1048576 t)))
+
+  answer-case : (a : Answer) → read·answer text work kept ≡ a → Form·case text work kept room
+  answer-case (Answer.Refused n p) e = refused (number n) p (not·read e)
+  answer-case (Answer.Length n) e =
+      let k = read-refuses-in-order text work kept .answers n .0 e in
+      record-case (k .2 .0) (k .1, k .2 .1, omega (arith, k .0, k .2 .2))
+
+  pub form-case : Form·case text work kept room
+  form-case = answer-case (read·answer text work kept) refl

@@ -1,13 +1,15 @@
 -- Demand 3: two texts are read and their records written, and the written bytes are the same exactly when the readings agree.
-use Prim.Native.Nat.{ℕ, _+_, _*_, _≤_}
+use Prim.Native.Nat.{ℕ, _≤_, _<_}
 use Rattle.block.specs.Reading.{Reading}
+use Rattle.demands.specs.Right.{Has·record}
 use Rattle.demands.specs.declared.Compared.{Compared}
+use Rattle.lexer.specs.Places.{nowhere}
+use Rattle.lexer.specs.Refusals.{number}
 use Rattle.lexer.specs.declared.Place.{Place}
 use Rattle.lexer.specs.declared.refusal.Refusal.{Refusal}
 use Rattle.record.specs.Calls.{read·answer, read·leaves, write·answer, write·leaves}
-use Rattle.record.specs.Demands.{Agree, Reads}
+use Rattle.record.specs.Demands.{Agree}
 use Rattle.record.specs.Form.{form}
-use Rattle.record.specs.Spell.{spell}
 use Rattle.record.specs.declared.Answer.{Answer}
 use lib.ListN.{length, take, drop}
 use mathlib.Core.List.{List, _++_}
@@ -43,14 +45,31 @@ pub record Formed (text work work·after kept kept·after buffer after : List �
   pub stored : kept·after ≡ read·leaves text (length work) kept
   pub size : length work·after ≡ length work
 
--- A text has this reading, text and form are of at most 1,048,576 bytes, and work memory and both buffers are long enough.
-pub record Has·room (text : List ℕ) (r : Reading) (work kept buffer : List ℕ) : Type 0 where
-  pub reads : Reads text r
-  pub text·short : length text ≤ 1048576
-  pub memory : 4 * length text + 64 ≤ length work
-  pub record·room : length (spell r) ≤ length kept
-  pub form·short : length (form r) ≤ 1048576
-  pub form·room : length (form r) ≤ length buffer
+-- The cases of a text, with so much work memory, so much room for its record and so much for its form. They are about the text and about
+-- lengths alone.
+
+-- It has this reading, and there is room for the record (`Has·record`) and for the form, which is of at most 1,048,576 bytes.
+pub record Has·room (text : List ℕ) (work kept room : ℕ) (s : Reading) : Type 0 where
+  pub record·room : Has·record text work kept s
+  pub form·short : length (form s) ≤ 1048576
+  pub form·room : length (form s) ≤ room
+
+-- A call is refused, with this number and place: read refuses the text, with 30 where the record is longer than its room; the form is longer
+-- than 1,048,576 bytes, 32; or it is not, and is longer than its room, 30.
+pub data Form·refused (text : List ℕ) (work kept room : ℕ) : ℕ → Place → Type 0 where
+  not·read : {why : Refusal} {p : Place} → read·answer text work kept ≡ Answer.Refused why p → Form·refused text work kept room (number why) p
+  form·long : (s : Reading) → Has·record text work kept s → 1048576 < length (form s) → Form·refused text work kept room 32 nowhere
+  no·room : (s : Reading) → Has·record text work kept s → length (form s) ≤ 1048576 → room < length (form s) → Form·refused text work kept room 30 nowhere
+
+pub data Form·case (text : List ℕ) (work kept room : ℕ) : Type 0 where
+  formed : (s : Reading) → Has·room text work kept room s → Form·case text work kept room
+  refused : (n : ℕ) (p : Place) → Form·refused text work kept room n p → Form·case text work kept room
+
+-- The answer is a refusal with this number, at this place.
+pub record Refused·with (n : ℕ) (p : Place) (c : Compared) : Type 0 where
+  pub why : Refusal
+  pub numbered : number why ≡ n
+  pub answer : c ≡ Compared.Refused why p
 
 -- The buffers hold the two forms, byte for byte, behind them all is as it was, and the answer tells whether the readings agree.
 pub record Told·apart (r s : Reading) (first first·after second second·after : List ℕ) (c : Compared) : Type 0 where
@@ -59,16 +78,18 @@ pub record Told·apart (r s : Reading) (first first·after second second·after 
   pub agree : Tells (Agree r s) c
 
 -- The texts `t` and `u`, one after the other, with the same work memory and the same buffer `kept` for their records, each with a buffer of its
--- own, `first` and `second`, for its form. What memory and buffers held before has no part in `told`: only how long they are.
+-- own, `first` and `second`, for its form. What memory and buffers held before has no part in the answer: only how long they are.
 pub record Forms·compared (t u work work·after kept first first·after second second·after : List ℕ) (c : Compared) : Type 0 where
-  -- both texts are read, and there is room: the forms stand in their buffers, and the answer tells whether the readings agree
-  pub told : (r s : Reading) → Has·room t r work kept first → Has·room u s work kept second → Told·apart r s first first·after second second·after c
+  -- one of the cases applies to each text; what follows says for each what is answered and left, so that nothing is open
+  pub decided : Form·case t (length work) (length kept) (length first) × Form·case u (length work) (length kept) (length second)
+  -- there is room for both: the forms stand in their buffers, and the answer tells whether the readings agree
+  pub told : (r s : Reading) → Has·room t (length work) (length kept) (length first) r → Has·room u (length work) (length kept) (length second) s
+      → Told·apart r s first first·after second second·after c
   -- a call for the first text is refused: that is the answer, and neither buffer for forms is touched
-  pub first·refused : (n : Refusal) (p : Place) → formed·answer t (length work) kept (length first) ≡ Answer.Refused n p
-      → (c ≡ Compared.Refused n p) × (first·after ≡ first) × (second·after ≡ second)
-  -- none is, and one for the second text is refused: that is the answer, and the second buffer is not touched
-  pub second·refused : (m : ℕ) (n : Refusal) (p : Place) → formed·answer t (length work) kept (length first) ≡ Answer.Length m
-      → formed·answer u (length work) (read·leaves t (length work) kept) (length second) ≡ Answer.Refused n p
-      → (c ≡ Compared.Refused n p) × (second·after ≡ second)
+  pub first·refused : (n : ℕ) (p : Place) → Form·refused t (length work) (length kept) (length first) n p
+      → Refused·with n p c × (first·after ≡ first) × (second·after ≡ second)
+  -- none is, and one for the second text is refused: that is the answer, the first form stands in its buffer, and the second is not touched
+  pub second·refused : (r : Reading) (n : ℕ) (p : Place) → Has·room t (length work) (length kept) (length first) r → Form·refused u (length work) (length kept) (length second) n p
+      → Refused·with n p c × (first·after ≡ form r ++ drop (length (form r)) first) × (second·after ≡ second)
   -- work memory keeps its length
   pub size : length work·after ≡ length work

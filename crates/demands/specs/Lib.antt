@@ -1,3 +1,4 @@
--- What the calls leave, one behind another: demand 3 about code that runs, to be read in this order.
+-- What the calls leave: demand 2 about the read call, and demand 3 about calls one behind another, to be read in this order.
+pub mod Right
 pub mod Again
 pub mod Compare

@@ -1,7 +1,8 @@
-// The third demand about the bytes that the calls leave: each function makes the calls on lent memory, and its contract says what comes of them.
+// The second and the third demand about the bytes that the calls leave: each function makes the calls on lent memory, and its contract says what comes of them.
 
 ghost use Rattle.demands.specs.Again.{Written·again};
 ghost use Rattle.demands.specs.Compare.{Formed, Forms·compared, Tells};
+ghost use Rattle.demands.specs.Right.{Rightly·read};
 ghost use mathlib.Core.Path.{_≡_};
 use lexer::Place;
 use lexer::Refusal;
@@ -14,6 +15,13 @@ pub enum Compared {
     Same,
     Different,
     Refused(Refusal, Place),
+}
+
+// A text is read into the buffer: its record, which holds the right reading, or the right refusal.
+pub fn record_of(text: &[u8], work: &mut [u32], buffer: &mut [u8]) -> Answer
+    ensures { λ r. ⌜ Rightly·read (now (text .entry)) (now (work .entry)) (now (work .exit)) (now (buffer .entry)) (now (buffer .exit)) r ⌝ }
+{
+    read(text, work, buffer)
 }
 
 // A record is written into `form`, and what was written is read again into `again`: where nothing is refused, that is the record, byte for byte.
