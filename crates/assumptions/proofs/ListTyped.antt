@@ -20,7 +20,7 @@ use mathlib.Core.Path.{_≡_, refl, sym, _∙_}
 use native.Mathlib.Omega.{arith}
 
 -- One range more, behind the others
-pub typed-more : (o : CharacterOrdering) (rs : List Range) (r : Range) (ts : Types) → typed o (rs ++ (r ∷ [])) ts ≡ on·types (typed o rs ts) (typed·range o r 1)
+typed-more : (o : CharacterOrdering) (rs : List Range) (r : Range) (ts : Types) → typed o (rs ++ (r ∷ [])) ts ≡ on·types (typed o rs ts) (typed·range o r 1)
 unfolding typed on·types
 typed-more o [] r ts = go (typed·range o r 1 ts)
   where

@@ -30,7 +30,7 @@ then-done (done a) = refl
 then-done (refused n i) = refl
 
 -- A token that is no word is one part.
-pub list-turn-whole : (count : ℕ) (l : Listed) (w : Numbered) → word? (w .token .kind) ≡ false → list·turn count l w ≡ part·turn count l (part w (w .token .text))
+list-turn-whole : (count : ℕ) (l : Listed) (w : Numbered) → word? (w .token .kind) ≡ false → list·turn count l w ≡ part·turn count l (part w (w .token .text))
 unfolding list·turn parts pick fold
 list-turn-whole count l w h = rw h (then-done (part·turn count l (part w (w .token .text))))
 

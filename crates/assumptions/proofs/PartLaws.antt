@@ -101,25 +101,25 @@ whole-told count w h = rw h
 module _ (count : ℕ) (w : Numbered) (all : Bool) (a : is (bytes "ALL") w ≡ all) where
   module _ (h : word? (w .token .kind) ≡ true) where
     -- a dash
-    pub dash-told : told count (part w (45 ∷ [])) ≡ record { index = w .index; dash = true; stride = false; all = all; character = 0; number = 0 }
+    dash-told : told count (part w (45 ∷ [])) ≡ record { index = w .index; dash = true; stride = false; all = all; character = 0; number = 0 }
     unfolding told part dash? stride? all? punct character·number same number positive unsigned digits largest pick
     dash-told = rw (word-unmarked 92 (w .token .kind) h, a, word-unquoted (w .token .kind) h, pick-zero (leb 0 count))
 
     -- another part of a word
-    pub plain-told : (b : ℕ) (t : List ℕ) (n : ℕ) → (b ≡ 45 → ⊥) → n ≡ positive (b ∷ t)
+    plain-told : (b : ℕ) (t : List ℕ) (n : ℕ) → (b ≡ 45 → ⊥) → n ≡ positive (b ∷ t)
         → told count (part w (b ∷ t)) ≡ record { index = w .index; dash = false; stride = false; all = all; character = pick (eqb b 46 && empty? t) count (pick (leb n count) n 0); number = n }
     unfolding told part dash? stride? all? punct character·number same number pick
     plain-told b t n o e = rw (ne-eqb b 45 o, word-unmarked 92 (w .token .kind) h, a, word-unquoted (w .token .kind) h, same-none t, ← e)
 
 -- The number of a part of a word
-pub part-positive : (b : ℕ) (l r : List ℕ) (n : ℕ) → l ≡ b ∷ r → (b ≡ 45 → ⊥) → n ≡ pick (eqb b 43) (digits·value r) (digits·value l) → n ≡ positive (b ∷ to·dash r)
+part-positive : (b : ℕ) (l r : List ℕ) (n : ℕ) → l ≡ b ∷ r → (b ≡ 45 → ⊥) → n ≡ pick (eqb b 43) (digits·value r) (digits·value l) → n ≡ positive (b ∷ to·dash r)
 unfolding digits·value positive unsigned pick
 part-positive b l r n here o e =
     e ∙ by-test (eqb b 43) (λ t. rw t) (λ f. rw (f, to-dash-on b l r here o))
 
 -- The next part of a word
 module _ (text : List ℕ) (count : ℕ) (w : Numbered) (c : Cursor) where
-  pub parted-more : {q : Code.Part} {d : Cursor} → Parted·here text count w c q d → Parted text count w c (NextPart.Part q d)
+  parted-more : {q : Code.Part} {d : Cursor} → Parted·here text count w c q d → Parted text count w c (NextPart.Part q d)
   parted-more {q} {d} p =
       record {
         more = λ q' d' e. let f : q ≡ q' = cc in let g : d ≡ d' = cc in rw (← f, ← g) p;
@@ -131,11 +131,11 @@ module _ (text : List ℕ) (count : ℕ) (w : Numbered) (c : Cursor) where
   parted-end h = record { more = λ q d e. let z : _≡_ {A = ℕ} 0 1 = cc in absurd (omega arith); end = λ _. rw h }
 
   module _ (b : ℕ) (r : List ℕ) (here : left text c ≡ b ∷ r) where
-    pub first-dash : b ≡ 45 → (first·part (left text c) ≡ 45 ∷ []) × (cut·from w false (left text c) ≡ part w (first·part (left text c)) ∷ cut·from w false r)
+    first-dash : b ≡ 45 → (first·part (left text c) ≡ 45 ∷ []) × (cut·from w false (left text c) ≡ part w (first·part (left text c)) ∷ cut·from w false r)
     unfolding first·part cut·from pick
     first-dash h = (rw (here, h), rw (here, h))
 
-    pub first-plain : (b ≡ 45 → ⊥) → (first·part (left text c) ≡ b ∷ to·dash r) × (cut·from w false (left text c) ≡ part w (first·part (left text c)) ∷ cut·from w true r)
+    first-plain : (b ≡ 45 → ⊥) → (first·part (left text c) ≡ b ∷ to·dash r) × (cut·from w false (left text c) ≡ part w (first·part (left text c)) ∷ cut·from w true r)
     unfolding first·part cut·from pick
     first-plain h = (rw (here, ne-eqb b 45 h), rw (here, ne-eqb b 45 h))
 

@@ -21,7 +21,7 @@ module _ (b : ℕ) (l r : List ℕ) (here : l ≡ b ∷ r) where
   unfolding to·dash pick
   to-dash-on h = rw (here, ne-eqb b 45 h)
 
-  pub to-dash-over : b ≡ 45 → to·dash l ≡ []
+  to-dash-over : b ≡ 45 → to·dash l ≡ []
   unfolding to·dash pick
   to-dash-over h = rw (here, eq-eqb b 45 h)
 

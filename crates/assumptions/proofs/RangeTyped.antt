@@ -21,15 +21,15 @@ use native.Mathlib.Omega.{arith}
 
 -- Which numbers are in a range
 module _ (r : Range) (j : ℕ) where
-  pub in-range-on : r .first ≤ j → j ≤ r .last → (j - r .first) % r .stride ≡ 0 → in·range r j ≡ true
+  in-range-on : r .first ≤ j → j ≤ r .last → (j - r .first) % r .stride ≡ 0 → in·range r j ≡ true
   unfolding in·range
   in-range-on f l e = and-both (and-both (le-leb (r .first) j f) (le-leb j (r .last) l)) (eq-eqb ((j - r .first) % r .stride) 0 e)
 
-  pub in-range-before : j < r .first → in·range r j ≡ false
+  in-range-before : j < r .first → in·range r j ≡ false
   unfolding in·range
   in-range-before h = rw (lt-leb (r .first) j h)
 
-  pub in-range-behind : r .last < j → in·range r j ≡ false
+  in-range-behind : r .last < j → in·range r j ≡ false
   unfolding in·range
   in-range-behind h = rw (lt-leb j (r .last) h, and-false (leb (r .first) j))
 
@@ -39,13 +39,13 @@ module _ (r : Range) (j : ℕ) where
 
   -- none is between a number of the range and the next
   module _ (k : ℕ) (from : r .first ≤ k) (on : (k - r .first) % r .stride ≡ 0) (h : k < j) where
-    pub in-range-between : j < k + r .stride → in·range r j ≡ false
+    in-range-between : j < k + r .stride → in·range r j ≡ false
     in-range-between l =
         let split : (k - r .first) + (j - k) ≡ j - r .first = omega arith in
         let left : (j - r .first) % r .stride ≡ (j - k) % r .stride = rw split at (rw (on, zero-add (j - k)) at (sym (mod-add-mod (k - r .first) (r .stride) (j - k)))) in
         in-range-off (λ e. absurd (omega (arith, sym (rw (mod-eq-of-lt {n = j - k} {m = r .stride} (omega arith)) at left) ∙ e)))
 
-    pub in-range-alone : r .stride ≡ 0 → in·range r j ≡ false
+    in-range-alone : r .stride ≡ 0 → in·range r j ≡ false
     in-range-alone z =
         let here : k - r .first ≡ 0 = sym (mod-zero (k - r .first)) ∙ rw z at on in
         in-range-off (λ e. absurd (omega (arith, sym (mod-zero (j - r .first)) ∙ rw z at e)))
@@ -79,7 +79,7 @@ pub record Ranging (o : CharacterOrdering) (r : Range) (at count : ℕ) (before 
   pub rest : on·types (typed·range o r (suc n) (types·held work (at + n) (count - n))) (λ us. some (types·held work at n ++ us)) ≡ typed·range o r 1 (types·held before at count)
 
 module _ (o : CharacterOrdering) (r : Range) (at count : ℕ) (before : List ℕ) where
-  pub ranging-start : Ranging o r at count before before 0
+  ranging-start : Ranging o r at count before before 0
   unfolding types·held
   ranging-start =
       let here : at + 0 ≡ at = omega arith in
@@ -103,7 +103,7 @@ module _ (o : CharacterOrdering) (r : Range) (at count : ℕ) (before : List ℕ
           rest = rw (held-more work at n) (sym (passed-by o (types·held work at n) (type·of (getD work (at + n) 0)) (typed·range o r (suc (suc n)) (types·held work (at + suc n) (count - suc n)))) ∙ rw (next h, e) at (k .rest));
         }
 
-    pub ranging-typed : n < count → at + count ≤ length before → in·range r (suc n) ≡ true → getD work (at + n) 0 ≡ 0 → Ranging o r at count before (set work (at + n) (type·number o)) (suc n)
+    ranging-typed : n < count → at + count ≤ length before → in·range r (suc n) ≡ true → getD work (at + n) 0 ≡ 0 → Ranging o r at count before (set work (at + n) (type·number o)) (suc n)
     unfolding type·of
     ranging-typed h fits e z =
         let after = set work (at + n) (type·number o) in
@@ -116,12 +116,12 @@ module _ (o : CharacterOrdering) (r : Range) (at count : ℕ) (before : List ℕ
           rest = rw (front, behind) (sym (typed-here o (types·held work at n) (typed·range o r (suc (suc n)) (types·held work (at + suc n) (count - suc n)))) ∙ rw (next h, e, z) at (k .rest));
         }
 
-    pub ranging-twice : n < count → in·range r (suc n) ≡ true → (getD work (at + n) 0 ≡ 0 → ⊥) → none ≡ typed·range o r 1 (types·held before at count)
+    ranging-twice : n < count → in·range r (suc n) ≡ true → (getD work (at + n) 0 ≡ 0 → ⊥) → none ≡ typed·range o r 1 (types·held before at count)
     ranging-twice h e z =
         let old = type-of-some (getD work (at + n) 0) z in
         sym (typed-twice o (types·held work at n) (old .0) (typed·range o r (suc (suc n)) (types·held work (at + suc n) (count - suc n)))) ∙ rw (next h, e, old .1) at (k .rest)
 
-    pub ranging-end : n ≡ count → some (types·held work at count) ≡ typed·range o r 1 (types·held before at count)
+    ranging-end : n ≡ count → some (types·held work at count) ≡ typed·range o r 1 (types·held before at count)
     unfolding types·held typed·range on·types
     ranging-end e =
         let none : count - count ≡ 0 = omega arith in
@@ -135,7 +135,7 @@ module _ (o : CharacterOrdering) (r : Range) (at count : ℕ) (before : List ℕ
       let here : n + suc d ≡ suc n + d = omega arith in
       rw here (ranging-more work (suc n) d (omega arith) (λ j l u. e j (omega arith) (omega arith)) one)
 
-  pub ranging-skip : (work : List ℕ) (n m : ℕ) → n ≤ m → m ≤ count → ((j : ℕ) → n < j → j ≤ m → in·range r j ≡ false) → Ranging o r at count before work n → Ranging o r at count before work m
+  ranging-skip : (work : List ℕ) (n m : ℕ) → n ≤ m → m ≤ count → ((j : ℕ) → n < j → j ≤ m → in·range r j ≡ false) → Ranging o r at count before work n → Ranging o r at count before work m
   ranging-skip work n m l h e k =
       let sum : n + (m - n) ≡ m = omega arith in
       rw sum at (ranging-more work n (m - n) (omega arith) (λ j p q. e j p (omega arith)) k)

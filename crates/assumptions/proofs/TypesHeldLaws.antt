@@ -26,7 +26,7 @@ type-of-some (suc zero) h = (CharacterOrdering.Unordered, refl)
 type-of-some (suc (suc n)) h = (CharacterOrdering.Ordered, refl)
 
 -- Types are the same where the numbers are.
-pub held-alike : (work after : List ℕ) (at n : ℕ) → ((i : ℕ) → at ≤ i → i < at + n → getD after i 0 ≡ getD work i 0) → types·held after at n ≡ types·held work at n
+held-alike : (work after : List ℕ) (at n : ℕ) → ((i : ℕ) → at ≤ i → i < at + n → getD after i 0 ≡ getD work i 0) → types·held after at n ≡ types·held work at n
 unfolding types·held
 held-alike work after at zero h = refl
 held-alike work after at (suc n) h =
@@ -46,7 +46,7 @@ module _ (work : List ℕ) (i v at n : ℕ) where
   pub held-set-before : i < at → types·held (set work i v) at n ≡ types·held work at n
   held-set-before h = held-alike work (set work i v) at n (λ j l u. getD-set-other work i j v 0 (λ e. omega arith))
 
-  pub held-set-behind : at + n ≤ i → types·held (set work i v) at n ≡ types·held work at n
+  held-set-behind : at + n ≤ i → types·held (set work i v) at n ≡ types·held work at n
   held-set-behind h = held-alike work (set work i v) at n (λ j l u. getD-set-other work i j v 0 (λ e. omega arith))
 
 -- The next character is given a type.

@@ -57,7 +57,7 @@ then-then (refused n i) f g = refl
 
 module _ (t : Typeset) where
   -- one word from a mode on
-  pub from-word : (s : Typing) (w : Numbered) (ws : List Numbered) → typeset·from t s (w ∷ ws) ≡ then (typeset·turn t s w) (λ u. typeset·from t u ws)
+  from-word : (s : Typing) (w : Numbered) (ws : List Numbered) → typeset·from t s (w ∷ ws) ≡ then (typeset·turn t s w) (λ u. typeset·from t u ws)
   unfolding typeset·from fold
   from-word s w ws = then-then (typeset·turn t s w) (λ u. fold (typeset·turn t) u ws) (typeset·end t)
 

@@ -155,7 +155,7 @@ fn by_turn(first: u64, last: u64, index: usize, part: Part) -> ItemAnswer
 }
 
 // One part more.
-pub fn item_turn(count: u64, item: Item, part: Part) -> ItemAnswer
+fn item_turn(count: u64, item: Item, part: Part) -> ItemAnswer
     ensures { λ r. ⌜ ((p : L.Part) → part ≡ told count p → item·answer r ≡ item·turn count item p) ⌝ }
 {
     match item {
@@ -187,7 +187,7 @@ fn type_next(
 }
 
 // One part more of a list, whose ranges are typed as they are complete.
-pub fn part_turn(
+fn part_turn(
     work: &mut [u32],
     at: usize,
     count: usize,
@@ -223,7 +223,7 @@ fn judge_twice(twice: bool, word: usize) -> Judged
 }
 
 // The end of the list of the type word with an index.
-pub fn list_end(
+fn list_end(
     work: &mut [u32],
     at: usize,
     count: usize,
@@ -297,7 +297,7 @@ fn cut_word(
 }
 
 // One word more of a list.
-pub fn list_word(
+fn list_word(
     text: &[u8],
     work: &mut [u32],
     i: usize,
@@ -332,7 +332,7 @@ fn end_at_comma(verdict: Judged, behind: usize) -> ListAnswer
 }
 
 // A list, word by word, up to a comma or the end.
-pub fn list_walk(
+fn list_walk(
     text: &[u8],
     work: &mut [u32],
     word: usize,

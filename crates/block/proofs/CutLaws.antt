@@ -1,6 +1,6 @@
 -- Commands are found by the indices of their tokens. Assumes nothing.
 use Prim.Native.Nat.{ℕ, zero, suc, _+_, _-_, _≤_, _<_}
-use Rattle.block.specs.Commands.{Command, command, empty, unended, newline, semicolon, up·to·end, ended, begun, commands·from, commands}
+use Rattle.block.specs.Commands.{newline, semicolon, up·to·end, ended, begun, commands·from, commands}
 use Rattle.block.specs.CommandsCut.{first·where, cut·of}
 use Rattle.block.specs.declared.commands.Cut.{Cut}
 use Rattle.lexer.proofs.Basics.{by-test}
@@ -12,7 +12,7 @@ use borrow.Author.Tests.{lt-ltb, le-ltb, not-true}
 use lib.Dec.{ltb}
 use mathlib.Core.Bool.{Bool, true, false, not}
 use mathlib.Core.List.{List, [], _∷_}
-use mathlib.Core.Path.{_≡_, refl, sym, ap, _∙_}
+use mathlib.Core.Path.{_≡_, refl, sym, _∙_}
 use native.Mathlib.Numerals.{add-one}
 use native.Mathlib.Omega.{arith}
 
@@ -68,15 +68,15 @@ module _ (text work : List ℕ) where
   skipped-from (suc n) i end e =
       by-test (newline (word·of text work i)) (λ p. rw p (skipped-from n (suc i) end (omega arith))) (λ p. rw (p, e, p) refl)
 
-  pub skipped : (i end : ℕ) → commands (range text work i end) ≡ commands (range text work (first·where (λ w. not (newline w)) text work i (end - i)) end)
+  skipped : (i end : ℕ) → commands (range text work i end) ≡ commands (range text work (first·where (λ w. not (newline w)) text work i (end - i)) end)
   unfolding commands range
   skipped i end = skipped-from (end - i) i end refl
 
   -- The tokens up to the next `;`: whether it comes, what stands before it, and the commands behind it.
-  pub record Ended (i end at : ℕ) : Type 0 where
-    pub comes : ended (range text work i end) ≡ ltb at end
-    pub before : at < end → up·to·end (range text work i end) ≡ range text work i at
-    pub behind : at < end → commands·from true (range text work i end) ≡ commands (range text work (at + 1) end)
+  record Ended (i end at : ℕ) : Type 0 where
+    comes : ended (range text work i end) ≡ ltb at end
+    before : at < end → up·to·end (range text work i end) ≡ range text work i at
+    behind : at < end → commands·from true (range text work i end) ≡ commands (range text work (at + 1) end)
 
   ended-from : (n i end : ℕ) → end - i ≡ n → i ≤ end → Ended i end (first·where semicolon text work i n)
   unfolding first·where ended up·to·end commands·from commands pick

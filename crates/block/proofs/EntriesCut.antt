@@ -9,15 +9,15 @@ use mathlib.Core.Logic.{_⊎_, inl, inr}
 use mathlib.Core.Path.{_≡_, refl, sym, ap, _∙_}
 
 module _ (w : Numbered) (r : List Numbered) (plain : no·comma (w ∷ r) ≡ true) where
-  pub no-comma-here : comma w ≡ false
+  no-comma-here : comma w ≡ false
   unfolding no·comma
   no-comma-here = not-true (comma w) (and-left (not (comma w)) (no·comma r) plain)
 
-  pub no-comma-behind : no·comma r ≡ true
+  no-comma-behind : no·comma r ≡ true
   unfolding no·comma
   no-comma-behind = and-right (not (comma w)) (no·comma r) plain
 
-pub no-comma-cons : (w : Numbered) (r : List Numbered) → comma w ≡ false → no·comma r ≡ true → no·comma (w ∷ r) ≡ true
+no-comma-cons : (w : Numbered) (r : List Numbered) → comma w ≡ false → no·comma r ≡ true → no·comma (w ∷ r) ≡ true
 unfolding no·comma
 no-comma-cons w r e p = rw (e, p)
 

@@ -7,7 +7,7 @@ use Rattle.block.proofs.TokenFaults.{Met, met, at·none, parse-faults}
 use Rattle.block.proofs.ToldFaults as Told
 use Rattle.block.proofs.ToldFaults.{Told}
 use Rattle.block.specs.Faults.{Token·of, May·stand·at, not·nexus, empty·command, unended·command, unended·block, words·after·end, not·begin, wrong·block, wrong·command, no·taxa·count, not·ready, not·filled, no·matrix, taxa·dimension, dimension, taxa·count, matrix·count, row·count, label·count, type·count, not·name, taxon·twice, no·count, no·value, format·option, wrong·symbols, cell·symbol, open·set, not·states, wrong·row, no·row, no·entry, label·entry, type·form, type·word, default·type, character·list, ordered·dna, Stops, Whole, Begins, Fault·at, not·utf8, open·quote, open·comment, no·token, at·token, Said·first}
-use Rattle.block.specs.Outcome.{Outcome, refused}
+use Rattle.block.specs.Outcome.{Outcome}
 use Rattle.block.specs.Parse.{fault, placed, place·of, parse, read·tokens, read}
 use Rattle.block.specs.Reading.{Reading}
 use Rattle.lexer.proofs.Basics.{by-test}

@@ -36,7 +36,7 @@ module _ (text work : List ℕ) (n : List ℕ) (from to : ℕ) where
       (λ t. searching-found text work n from to x s (omega arith) f t)
       (λ d. known-from m (x + 1) j (searching-turn text work n from to x s (omega arith) f d) (omega arith) h w a))
 
-  pub known-one : (j : ℕ) → from ≤ j → j < to → newline (word·of text work j) ≡ false → alike n (name·of (word·of text work j)) ≡ true → true ≡ is-known
+  known-one : (j : ℕ) → from ≤ j → j < to → newline (word·of text work j) ≡ false → alike n (name·of (word·of text work j)) ≡ true → true ≡ is-known
   known-one j l h w a = known-from (j - from) from j (record { rest = refl }) (omega arith) h w a
 
   module _ (none : (j : ℕ) → from ≤ j → j < to → newline (word·of text work j) ≡ false → alike n (name·of (word·of text work j)) ≡ false) where
@@ -49,7 +49,7 @@ module _ (text work : List ℕ) (n : List ℕ) (from to : ℕ) where
         (λ w. none-from m (x + 1) (omega arith) (searching-turn text work n from to x s b w (none x l b w)) (omega arith)))
         (λ f. searching-end text work n from to x s (ltb-false x to f))
 
-    pub known-none : false ≡ is-known
+    known-none : false ≡ is-known
     known-none = none-from (to - from) from (omega arith) (record { rest = refl }) (omega arith)
 
 -- The slots that a search has passed, where the words of a name are kept from the first of them on.
@@ -82,14 +82,14 @@ module _ (text work slots : List ℕ) (from i end first : ℕ) where
 
 -- One word more: a newline, or a name that is put into the table.
 module _ (text work slots : List ℕ) (from : ℕ) (t : Table) where
-  pub kept-start : Names·kept text work slots from from t
+  kept-start : Names·kept text work slots from from t
   kept-start = record { each = λ j a b. absurd (omega arith) }
 
   module _ (i : ℕ) (x : Names·kept text work slots from i t) where
     before-last : (j : ℕ) → j < i + 1 → (j ≡ i → ⊥) → j < i
     before-last j l o = by-test (ltb j i) (λ e. ltb-true j i e) (λ e. let m = ltb-false j i e in absurd (o (omega arith)))
 
-    pub kept-newline : newline (word·of text work i) ≡ true → Names·kept text work slots from (i + 1) t
+    kept-newline : newline (word·of text work i) ≡ true → Names·kept text work slots from (i + 1) t
     kept-newline n =
         record {
           each = λ j a b w. by-test (eqb j i)
@@ -97,7 +97,7 @@ module _ (text work slots : List ℕ) (from : ℕ) (t : Table) where
               (λ e. x .each j a (before-last j b (eqb-false j i e)) w);
         }
 
-    pub kept-more : (after : List ℕ) → Name·put text work slots after i t → (0 < t .end → i < 4294967295) → Names·kept text work after from (i + 1) t
+    kept-more : (after : List ℕ) → Name·put text work slots after i t → (0 < t .end → i < 4294967295) → Names·kept text work after from (i + 1) t
     kept-more after p small =
         record {
           each = λ j a b w. by-test (eqb j i)

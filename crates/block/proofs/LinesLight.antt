@@ -36,10 +36,6 @@ pages-light sh ws rows h some =
     let l = first-long (sh .characters) rows (omega arith) (k .long) in
     omega arith
 
--- Each page has a line for each row.
-pub pages-enough : (sh : Shape) (ws : List Numbered) (rows : List Taxon) → interleaved sh ws ≡ done rows → 1 ≤ sh .taxa → sh .taxa ≤ length (lines ws)
-pages-enough sh ws rows h some = let k = interleaved-filled sh ws rows h in omega arith
-
 -- Each sequential row has a name and its cells.
 pub sequence-light : (sh : Shape) (ws : List Numbered) (rows : List Taxon) → sequential sh ws ≡ done rows → 1 ≤ sh .taxa → sh .taxa + sh .characters ≤ weights ws
 sequence-light sh ws rows h some =

@@ -5,7 +5,6 @@ use Rattle.block.proofs.Faulted.{Faults, Ends, gives, refuses, refusals
 use Rattle.block.proofs.OutcomeLaws.{All, Any}
 use Rattle.block.specs.Cell.{Cell}
 use Rattle.block.specs.Chunk.{cells·of, symbols, only·states, closer, Row, plain, within, closed, into·set, chunk, row·end}
-use Rattle.block.specs.Commands.{words}
 use Rattle.block.specs.Faults.{set·mark}
 use Rattle.block.specs.Format.{Format}
 use Rattle.block.specs.Interleaved.{Line, lines, Page, first·page, new·taxon, old·taxon, line·taxon, fits, line·cells, line·row, line·turn, pages, all·long, interleaved·end, interleaved}

@@ -59,7 +59,7 @@ arranged-follows head taken (m ∷ ms) ts h =
     listed : {a b : List ℕ} {l r : List (List ℕ)} → a ≡ b → l ≡ r → a ∷ l ≡ b ∷ r
     listed {a} {b} {l} {r} e f = cc
 
-pub order-follows : (head : ℕ) (declared : Option (List (List ℕ))) (taken ts : List Taxon) → in·order head declared taken ≡ done ts → Follows declared taken ts
+order-follows : (head : ℕ) (declared : Option (List (List ℕ))) (taken ts : List Taxon) → in·order head declared taken ≡ done ts → Follows declared taken ts
 unfolding in·order
 order-follows head none taken ts h = sym (done-inj h)
 order-follows head (some declared) taken ts h = arranged-follows head taken declared ts h

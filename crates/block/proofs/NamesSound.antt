@@ -32,7 +32,7 @@ unfolding known
 known-one m [] n h a = or-both a refl
 known-one m (k ∷ r) n h a = or-both (or-left (alike m k) (known m r) h) (known-one m r n (or-right (alike m k) (known m r) h) a)
 
-pub names-differ-one : (names : List (List ℕ)) (n : List ℕ) → names·differ names ≡ true → known n names ≡ false → names·differ (names ++ (n ∷ [])) ≡ true
+names-differ-one : (names : List (List ℕ)) (n : List ℕ) → names·differ names ≡ true → known n names ≡ false → names·differ (names ++ (n ∷ [])) ≡ true
 unfolding names·differ known
 names-differ-one [] n h k = refl
 names-differ-one (m ∷ r) n h k =

@@ -4,7 +4,7 @@ use Rattle.block.proofs.WalkLaws.{words-newline, words-next, words-end,
 use Rattle.block.specs.Commands.{newline, words}
 use Rattle.block.specs.Names.{known, add·name, name·turn, unique·names}
 use Rattle.block.specs.NamesHeld.{name·of, names·of}
-use Rattle.block.specs.Outcome.{Outcome, done, refused, then, need}
+use Rattle.block.specs.Outcome.{done, refused, then, need}
 use Rattle.lexer.proofs.Basics.{by-test}
 use Rattle.lexer.proofs.LabelLaws.{label-some, label-none}
 use Rattle.lexer.specs.Base.{pick, alike, given}
@@ -13,9 +13,9 @@ use Rattle.lexer.specs.Words.{Numbered, label}
 use Rattle.lexer.specs.declared.refusal.Refusal.{Refusal}
 use borrow.Author.Tests.{ltb-true, ltb-false}
 use lib.Dec.{ltb}
-use mathlib.Core.Bool.{true, false, _||_}
-use mathlib.Core.List.{List, [], _∷_, _++_, map, map-append}
-use mathlib.Core.Path.{_≡_, refl, sym, ap, _∙_}
+use mathlib.Core.Bool.{true, false}
+use mathlib.Core.List.{List, [], _∷_, _++_, map-append}
+use mathlib.Core.Path.{_≡_, sym, ap, _∙_}
 use native.Mathlib.Omega.{arith}
 
 -- The names from an index on hold a name as all of them do.
@@ -48,7 +48,7 @@ module _ (names : List (List ℕ)) (w : Numbered) where
   unfolding name·turn need then add·name pick name·of
   name-again h e = rw (label-some w h, e)
 
-  pub name-new : given (label w) ≡ true → known (name·of w) names ≡ false → name·turn names w ≡ done (names ++ (name·of w ∷ []))
+  name-new : given (label w) ≡ true → known (name·of w) names ≡ false → name·turn names w ≡ done (names ++ (name·of w ∷ []))
   unfolding name·turn need then add·name pick name·of
   name-new h e = rw (label-some w h, e)
 

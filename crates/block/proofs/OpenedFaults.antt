@@ -4,7 +4,7 @@ use Rattle.block.proofs.Faulted.{Ends, gives, refuses, either, both}
 use Rattle.block.proofs.LabelFaults.{Labelling·faults}
 use Rattle.block.proofs.OutcomeLaws.{All}
 use Rattle.block.proofs.ToldFaults.{Told, at·token, Command·of, first, told-first}
-use Rattle.block.specs.Blocks.{Data, Phase, outside, in·taxa, in·data, in·assumptions, in·trees, State, in·phase, begin·assumptions, no·data, begin·block, begin·words, matrix, ends, outside?}
+use Rattle.block.specs.Blocks.{Data, Phase, outside, in·taxa, in·data, in·assumptions, in·trees, State, in·phase, begin·assumptions, no·data, begin·block, begin·words, ends, outside?}
 use Rattle.block.specs.Commands.{words}
 use Rattle.block.specs.Faults.{Token·of, Block·name, any, filled·block, known·block, Comes·to·end, First·word, open·name, unended·block, not·begin, wrong·block, not·filled, taxa·count}
 use Rattle.block.specs.Reading.{Reading}

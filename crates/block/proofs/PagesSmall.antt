@@ -5,7 +5,7 @@ use Rattle.block.proofs.OutcomeLaws.{then-done, pick-else, pick-when, r
 use Rattle.block.proofs.RowsSmall.{row-load, chunk-grows, row-end-small, named-weighs, bulk, Taken}
 use Rattle.block.proofs.Weights.{total-append, fold-grows}
 use Rattle.block.specs.Cell.{Cell}
-use Rattle.block.specs.Chunk.{Row, plain, chunk, row·end}
+use Rattle.block.specs.Chunk.{plain, chunk, row·end}
 use Rattle.block.specs.Commands.{newline}
 use Rattle.block.specs.Interleaved.{Line, Page, first·page, new·taxon, old·taxon, line·taxon, behind, turned, with·row, fits, line·cells, line·row, line·turn, pages, all·long, interleaved·end, lines, lines·from, to·newline, interleaved}
 use Rattle.block.specs.Names.{known}

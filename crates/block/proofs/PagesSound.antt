@@ -6,7 +6,7 @@ use Rattle.block.proofs.NamesSound.{Names, Named, named-none, named-one
 use Rattle.block.proofs.OutcomeLaws.{then-done, pick-else, pick-when, refused-done, done-inj, All, all-append, all-one, all-left, all-right, Any, all-any, fold-keeps}
 use Rattle.block.proofs.RowsSound.{Whole, Matrix, names-one}
 use Rattle.block.specs.Cell.{Cell}
-use Rattle.block.specs.Chunk.{Row, plain, chunk, row·end}
+use Rattle.block.specs.Chunk.{plain, chunk, row·end}
 use Rattle.block.specs.Commands.{newline}
 use Rattle.block.specs.Format.{Format}
 use Rattle.block.specs.Interleaved.{Line, Page, first·page, new·taxon, old·taxon, line·taxon, behind, turned, with·row, fits, line·cells, line·row, line·turn, pages, all·long, interleaved·end, lines, lines·from, interleaved}

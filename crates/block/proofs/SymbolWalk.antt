@@ -1,5 +1,5 @@
 -- The walk over the symbols of a format for the state that a symbol is. Assumes nothing.
-use Prim.Native.Nat.{ℕ, suc, _+_, _≤_, _<_}
+use Prim.Native.Nat.{ℕ, _+_, _≤_, _<_}
 use Rattle.block.specs.Chunk.{find·symbol, state·of}
 use Rattle.block.specs.Format.{Format, equal}
 use Rattle.block.specs.Formats.{meant}
@@ -9,7 +9,6 @@ use Rattle.lexer.specs.Base.{pick}
 use lib.ListN.{length, getD, drop, drop-of-length-le, length-take}
 use lib.Seq.{getD-take}
 use mathlib.Core.Bool.{true, false}
-use mathlib.Core.List.{List}
 use mathlib.Core.Option.{none, some}
 use mathlib.Core.Path.{_≡_, refl}
 use native.Mathlib.Numerals.{add-one}

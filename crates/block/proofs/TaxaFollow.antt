@@ -29,9 +29,9 @@ use mathlib.Core.Option.{Option, none, some}
 use mathlib.Core.Path.{_≡_, refl, sym, ap, _∙_, subst}
 
 -- A MATRIX command among these whose rows the taxa of the reading follow.
-pub record Following (cs : List Command) (r : Reading) : Type 0 where
-  pub made : Matrix·of cs
-  pub follows : Follows (made .block·data .taxa) (made .rows) (r .taxa)
+record Following (cs : List Command) (r : Reading) : Type 0 where
+  made : Matrix·of cs
+  follows : Follows (made .block·data .taxa) (made .rows) (r .taxa)
 
 -- What is claimed of a state behind these commands: declared names and the matrix come from them.
 abbrev come·from : List Command → Claims

@@ -7,7 +7,7 @@ use Rattle.block.proofs.OpenedFaults.{Opened, Opened·in, taxa-filled, 
 use Rattle.block.proofs.OutcomeLaws.{All, Any, all-both, all-right, members}
 use Rattle.block.proofs.ToldFaults.{Told, at·token}
 use Rattle.block.specs.Blocks.{Phase, outside, in·taxa, in·data, in·assumptions, in·trees, State, at·start, step, orderable, final, matrix·read, finish·in, finish}
-use Rattle.block.specs.Commands.{Command, commands, newline}
+use Rattle.block.specs.Commands.{Command, newline}
 use Rattle.block.specs.Faults.{Token·of, leading, Header, Comes·to, Comes·to·end, open·name, Stops, at·front, at·command, at·end, not·nexus, empty·command, unended·command, no·matrix, ordered·dna}
 use Rattle.block.specs.Outcome.{done, fold}
 use Rattle.block.specs.Parse.{parse·behind, parse·from, parse}

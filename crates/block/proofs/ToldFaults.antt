@@ -12,7 +12,6 @@ use Rattle.block.specs.Interleaved.{Line, to·newline, lines·from, line
 use Rattle.block.specs.declared.kinds.Labelling.{Labelling}
 use Rattle.lexer.proofs.Basics.{by-test, or-first, or-second}
 use Rattle.lexer.specs.Base.{pick, bytes, given}
-use Rattle.lexer.specs.Tokens.{tokens}
 use Rattle.lexer.specs.Words.{Numbered, is, label}
 use Rattle.lexer.specs.declared.refusal.Refusal.{Refusal}
 use mathlib.Core.Bool.{Bool, true, false}
@@ -32,7 +31,7 @@ module _ (Q : Numbered → Type 0) where
   abbrev pub Shown·line : Line → Type 0
   Shown·line l = Shown (l .first) × All Shown (l .rest)
 
-  pub words-shown : (ws : List Numbered) → All Q ws → All Shown (words ws)
+  words-shown : (ws : List Numbered) → All Q ws → All Shown (words ws)
   unfolding words pick
   words-shown [] q = tt
   words-shown (w ∷ r) q = by-test (newline w) (λ e. rw e (words-shown r (q .1))) (λ e. rw e ((q .0, e), words-shown r (q .1)))

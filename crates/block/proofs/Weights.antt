@@ -3,7 +3,7 @@ use Prim.Native.Nat.{ℕ, suc, _+_, _≤_}
 use Rattle.block.proofs.OutcomeLaws.{then-done, done-inj}
 use Rattle.block.specs.Commands.{newline, semicolon, up·to·end, words}
 use Rattle.block.specs.Outcome.{Outcome, done, fold}
-use Rattle.block.specs.Weights.{total, weight, weights}
+use Rattle.block.specs.Weights.{total, weights}
 use Rattle.lexer.proofs.Basics.{by-test}
 use Rattle.lexer.proofs.TokenSizes.{size}
 use Rattle.lexer.specs.Base.{pick}

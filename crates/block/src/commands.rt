@@ -1,6 +1,6 @@
 // Commands, after mod.rs: the tokens after the header, cut at each `;`.
 
-ghost use Prim.Native.Nat.{_+_, _-_, _≤_, _<_};
+ghost use Prim.Native.Nat.{_-_};
 ghost use Rattle.block.specs.Commands.{newline, semicolon, commands};
 ghost use Rattle.block.specs.CommandsCut.{cut·of, first·where, Within};
 ghost use Rattle.lexer.specs.Stored.{range};

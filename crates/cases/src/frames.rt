@@ -1,6 +1,6 @@
 // Frames: a length of four bytes, little-endian, and that many bytes.
 
-ghost use Prim.Native.Nat.{_<_, _≤_};
+ghost use Prim.Native.Nat.{_<_};
 ghost use Rattle.cases.specs.Framed.{Framed};
 ghost use lib.ListN.{length};
 

@@ -1,7 +1,5 @@
 // A lookup, as lines: the refusal's number, the first byte of the cells, how many they take, and these bytes.
 
-ghost use Prim.Native.Nat.{_≤_};
-ghost use lib.ListN.{length};
 use super::frames::wide;
 use super::output::put;
 use super::output::put_all;

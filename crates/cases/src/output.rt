@@ -1,7 +1,5 @@
 // Output that is collected, and written where there is no more room.
 
-ghost use Prim.Native.Nat.{_≤_};
-ghost use lib.ListN.{length};
 use libc::STDOUT_FILENO;
 
 // Writes the first n bytes.

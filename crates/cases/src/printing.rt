@@ -1,7 +1,5 @@
 // The calls of a text or a record, as lines: how long the buffer is, the answer, and all that the buffer holds afterwards.
 
-ghost use Prim.Native.Nat.{_≤_};
-ghost use lib.ListN.{length};
 use super::output::put;
 use super::output::put_all;
 use super::output::put_decimal;

@@ -1,7 +1,5 @@
 // A question: a byte that says which call it is for, and what the call is given.
 
-ghost use Prim.Native.Nat.{_≤_};
-ghost use lib.ListN.{length};
 use super::lookups::print_lookup;
 use super::output::put_all;
 use super::printing::Call;

@@ -20,7 +20,7 @@ use Rattle.matrix.specs.OrderHeld.{ordered}
 use Rattle.matrix.specs.RowsHeld.{rows·held}
 use lib.ListN.{take}
 use mathlib.Core.List.{List}
-use mathlib.Core.Option.{Option, none, some, Option·getD}
+use mathlib.Core.Option.{none, some, Option·getD}
 
 -- The format that was given, or the default.
 unfoldable pub format·held : List ℕ → List ℕ → Style → Format

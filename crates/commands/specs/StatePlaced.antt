@@ -2,12 +2,11 @@
 -- that it names are among the tokens, and a matrix that it holds fits in work memory. No answer is wrong without it; with it none says that work
 -- memory is short.
 use Prim.Native.Nat.{ℕ, _≤_, _<_}
-use Rattle.block.specs.Format.{Format, format·of}
+use Rattle.block.specs.Format.{format·of}
 use Rattle.block.specs.Formats.{options·of}
 use Rattle.commands.specs.LabelKinds.{kinds·among}
 use Rattle.commands.specs.WorkMap.{map·fits}
 use Rattle.commands.specs.declared.state.Data.{Data}
-use Rattle.commands.specs.declared.state.Held.{Held}
 use Rattle.commands.specs.declared.state.Matrix.{Matrix}
 use Rattle.commands.specs.declared.state.Names.{Names}
 use Rattle.commands.specs.declared.state.Phase.{Phase}

@@ -1,10 +1,10 @@
 -- What is promised of a step that may store: the right answer, or that work memory is short, and then it is.
-use Prim.Native.Nat.{ℕ, _+_, _*_, _≤_}
+use Prim.Native.Nat.{ℕ, _≤_}
 use Rattle.block.specs.Blocks as B
 use Rattle.block.specs.Outcome.{Outcome, refused}
 use Rattle.block.specs.Weights.{weights}
 use Rattle.commands.specs.MatrixHeld.{held}
-use Rattle.commands.specs.StateHeld.{Reader, state·of, stepped}
+use Rattle.commands.specs.StateHeld.{state·of, stepped}
 use Rattle.commands.specs.StatePlaced.{Command·placed, State·placed, Stepped·placed}
 use Rattle.commands.specs.declared.state.State.{State}
 use Rattle.commands.specs.declared.state.Stepped.{Stepped}

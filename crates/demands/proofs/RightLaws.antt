@@ -1,5 +1,5 @@
 -- What read answers and leaves, case by case, and what the reading of a text is. Assumes nothing.
-use Prim.Native.Nat.{ℕ, _+_, _*_, _≤_, _<_}
+use Prim.Native.Nat.{ℕ, _+_, _*_, _≤_}
 use Rattle.block.proofs.MatrixParts.{rows-keep}
 use Rattle.block.proofs.OutcomeLaws.{All, all-member}
 use Rattle.block.proofs.RowsSound.{length-names}
@@ -7,7 +7,7 @@ use Rattle.block.specs.Faults.{Whole, Quote·mark, Comment·mark, Fault·at, no
 use Rattle.block.specs.Interleaved.{all·long}
 use Rattle.block.specs.Parse.{Read, reading, fault, read}
 use Rattle.block.specs.Reading.{Taxon, Reading}
-use Rattle.block.specs.TaxonOrder.{all·rows, Follows}
+use Rattle.block.specs.TaxonOrder.{Follows}
 use Rattle.demands.proofs.AgainLaws.{left-whole}
 use Rattle.demands.proofs.DimensionsHeld.{dimensions-declared}
 use Rattle.demands.specs.Right as Right
@@ -21,7 +21,7 @@ use Rattle.lexer.specs.declared.Place.{Place}
 use Rattle.lexer.specs.declared.refusal.Refusal.{Refusal}
 use Rattle.read.specs.Call.{Read·call}
 use Rattle.record.proofs.Demands.{buffers-are-kept, every-reading-is-sound, faults-come-in-order, faults-have-their-place, labels-come-from-tokens, labels-follow-the-commands, names-come-from-tokens, read-gives-records, read-refuses-in-order, records-of-texts-pass, taxa-follow-the-declaration}
-use Rattle.record.specs.Calls.{read·answer, read·leaves}
+use Rattle.record.specs.Calls.{read·answer}
 use Rattle.record.specs.Demands.{Reads, Read·refuses, Refuses, Taken}
 use Rattle.record.specs.Spell.{spell}
 use Rattle.record.specs.declared.Answer.{Answer}
@@ -59,7 +59,7 @@ unfolding empty?
 one-length m n [] e p q = absurd (true≢false e)
 one-length m n (t ∷ r) e p q = sym (p .0) ∙ q .0
 
-pub right-reading : (text : List ℕ) (s : Reading) → Reads text s → Right·reading text s
+right-reading : (text : List ℕ) (s : Reading) → Reads text s → Right·reading text s
 right-reading text s h =
     let follows = taxa-follow-the-declaration text s h in
     let m = follows .0 in
@@ -120,7 +120,7 @@ module _ (text : List ℕ) (work room : ℕ) where
       (λ t. Right.recorded s (h, e, leb-true (length (spell s)) room t))
       (λ t. Right.no·room s (h, e, leb-false (length (spell s)) room t))
 
-  pub read-decided : Read·case text work room
+  read-decided : Read·case text work room
   read-decided =
       by-test (leb (length text) 1048576)
       (λ t.

@@ -20,7 +20,7 @@ unfolding decimal·from pick
 from-large k n behind h = rw (le-ltb n 10 h)
 
 -- Any bound that is not below the number gives the same digits.
-pub from-bound : (k m n : ℕ) (behind : List ℕ) → n ≤ k → n ≤ m → decimal·from k n behind ≡ decimal·from m n behind
+from-bound : (k m n : ℕ) (behind : List ℕ) → n ≤ k → n ≤ m → decimal·from k n behind ≡ decimal·from m n behind
 from-bound zero m n behind h l = from-small zero n behind (omega arith) ∙ sym (from-small m n behind (omega arith))
 from-bound (suc k) zero n behind h l = from-small (suc k) n behind (omega arith) ∙ sym (from-small zero n behind (omega arith))
 from-bound (suc k) (suc m) n behind h l =

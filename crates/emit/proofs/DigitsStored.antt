@@ -25,7 +25,7 @@ from-length (suc k) n behind =
     (λ f. rw f (omega (arith, from-length k (n / 10) (digit n ∷ behind), from-length k (n / 10) (digit n ∷ []))))
 
 -- A number of one digit; and one of more has one digit more than its tenth.
-pub digits-one : (n : ℕ) → n < 10 → length (decimal n) ≡ 1
+digits-one : (n : ℕ) → n < 10 → length (decimal n) ≡ 1
 unfolding decimal
 digits-one n h = ap length (from-small n n [] h)
 
@@ -33,7 +33,7 @@ pub decimal-one : (n : ℕ) (behind : List ℕ) → n < 10 → digit n ∷ behin
 unfolding decimal
 decimal-one n behind h = rw (from-small n n [] h)
 
-pub digits-next : (n : ℕ) → 10 ≤ n → length (decimal n) ≡ length (decimal (n / 10)) + 1
+digits-next : (n : ℕ) → 10 ≤ n → length (decimal n) ≡ length (decimal (n / 10)) + 1
 unfolding decimal
 digits-next n h = ap length (from-next n [] h) ∙ from-length (n / 10) (n / 10) (digit n ∷ [])
 
@@ -59,7 +59,7 @@ digits-between (suc k) n low high =
     omega (arith, digits-next n (omega arith), digits-between k (n / 10) (omega arith) (tenth-below k n high))
 
 -- Each number has a digit.
-pub digits-some : (n : ℕ) → 1 ≤ length (decimal n)
+digits-some : (n : ℕ) → 1 ≤ length (decimal n)
 digits-some n = by-test (ltb n 10) (λ t. omega (arith, digits-one n (ltb-true n 10 t))) (λ f. omega (arith, digits-next n (ltb-false n 10 f)))
 
 -- Digits were counted, and those of the rest of the number are to be.
@@ -118,7 +118,7 @@ module _ (before : List ℕ) (n value : ℕ) (buffer : List ℕ) (rest at : ℕ)
       let back : suc (at - 1) ≡ at = omega arith in
       rw (s .held, back) (set-sets before (at - 1) at (digit rest) (s .digits) (omega arith))
 
-  pub storing-turn : 10 ≤ rest → Storing before n value (set buffer (at - 1) (digit rest)) (rest / 10) (at - 1)
+  storing-turn : 10 ≤ rest → Storing before n value (set buffer (at - 1) (digit rest)) (rest / 10) (at - 1)
   storing-turn h =
       let more = storing-room h in
       record {

@@ -41,12 +41,6 @@ unfolding puts
 puts-out buffer at [] h = refl
 puts-out buffer at (b ∷ l) h = rw (set-out buffer at b h) (puts-out buffer (suc at) l (omega arith))
 
--- A place goes on by so many bytes, and then by more.
-pub further-twice : (n d m k r size : ℕ) → (m ≡ min last·place (n + d)) × (n ≤ m) → (r ≡ min last·place (m + k)) × (m ≤ r) → size ≡ d + k
-    → (r ≡ min last·place (n + size)) × (n ≤ r)
-unfolding last·place
-further-twice n d m k r size f g e = (omega (arith, f .0, g .0), omega (arith, f .1, g .1))
-
 -- Bytes from behind the buffer's end on: nothing is written, and the place goes on by how many they are.
 pub puts-past : (buffer : List ℕ) (n : ℕ) (l : List ℕ) (next : ℕ) → length buffer ≤ n → (next ≡ min last·place (n + length l)) × (n ≤ next)
     → Puts buffer n (λ behind. l ++ behind) buffer next

@@ -1,7 +1,7 @@
 // Bytes put into a lent buffer, one after another. What has no room is not written, and the place goes on all the same, so that the same calls measure
 // what would be written.
 
-ghost use Prim.Native.Nat.{_+_, _-_, _/_, _<_, _≤_, min};
+ghost use Prim.Native.Nat.{_+_, _-_, _/_, _≤_, min};
 ghost use Rattle.emit.specs.Puts.{Puts, last·place};
 ghost use Rattle.record.specs.Decimal.{digit, decimal};
 ghost use lib.ListN.{length, set};

@@ -1,5 +1,5 @@
 -- CHARLABELS in place: the characters up to here are labelled, and what the others come to with the words from here on is the whole. Assumes nothing.
-use Prim.Native.Nat.{ℕ, zero, suc, _+_, _-_, _≤_, _<_}
+use Prim.Native.Nat.{ℕ, suc, _+_, _-_, _≤_, _<_}
 use Rattle.block.proofs.WalkLaws.{words-newline, words-next, words-end}
 use Rattle.block.specs.Commands.{newline, words}
 use Rattle.block.specs.Labels.{Labelled, unlabelled, character, with·label, label·each, char·labels}
@@ -13,7 +13,7 @@ use Rattle.lexer.specs.Stored.{word·of, range}
 use Rattle.lexer.specs.Words.{Numbered, label, spaced}
 use Rattle.lexer.specs.declared.refusal.Refusal.{Refusal}
 use borrow.Author.Tests.{eq-eqb, ne-eqb}
-use lib.ListN.{length, getD, take, drop, set, take-append-drop, drop-of-length-le}
+use lib.ListN.{length, getD, take, drop, take-append-drop, drop-of-length-le}
 use lib.Seq.{drop-cons, drop-set-lt, take-suc-set, take-all}
 use mathlib.Core.Bool.{true, false}
 use mathlib.Core.List.{List, [], _∷_, _++_, append-assoc, append-nil}

@@ -1,9 +1,9 @@
 -- The walk over the entries of STATELABELS and CHARSTATELABELS: labels in work memory and the place in the list are what the definition has in
 -- front of the next word. Assumes nothing.
-use Prim.Native.Nat.{ℕ, _+_, _*_, _≤_, _<_}
+use Prim.Native.Nat.{ℕ, _+_, _≤_, _<_}
 use Rattle.block.proofs.WalkLaws.{Walking, walking-start, walking-newline, walking-turn, walking-refused, walking-end, words-last-newline}
 use Rattle.block.specs.Commands.{newline, words}
-use Rattle.block.specs.Labels.{LabelCommand, Entry, first, Entries, at, entry·turn}
+use Rattle.block.specs.Labels.{LabelCommand, first, Entries, at, entry·turn}
 use Rattle.block.specs.Outcome.{Outcome, done, refused, fold}
 use Rattle.labels.proofs.EachLabelled.{word-kept}
 use Rattle.labels.proofs.LabelSlotLaws.{range-front}
@@ -19,7 +19,7 @@ use lib.Dec.{ltb}
 use lib.ListN.{length, take}
 use mathlib.Core.Bool.{true, false}
 use mathlib.Core.List.{List}
-use mathlib.Core.Path.{_≡_, refl, sym, ap, _∙_}
+use mathlib.Core.Path.{_≡_, refl, sym, _∙_}
 use native.Mathlib.Omega.{arith}
 
 -- A newline leaves the place as it is.

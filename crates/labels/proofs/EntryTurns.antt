@@ -2,9 +2,9 @@
 use Prim.Native.Nat.{ℕ, _+_, _-_, _*_, _≤_, _<_}
 use Rattle.block.proofs.WalkLaws.{words-end, words-last}
 use Rattle.block.specs.Commands.{newline, words}
-use Rattle.block.specs.Labels.{Labelled, LabelCommand, next, numbered, labelled, states, Entries, at, character, with·label, with·states, begin·states, entry·number, entry·begins, entry·label, entry·states, state·label, entry·turn}
+use Rattle.block.specs.Labels.{Labelled, LabelCommand, next, numbered, labelled, states, at, character, begin·states, entry·number, entry·begins, entry·label, entry·states, state·label, entry·turn}
 use Rattle.block.specs.NamesHeld.{name·of, names·of}
-use Rattle.block.specs.Outcome.{Outcome, done, refused, then, need}
+use Rattle.block.specs.Outcome.{done, refused, then, need}
 use Rattle.block.specs.declared.kinds.Labelling.{Labelling}
 use Rattle.labels.proofs.LabelSlotLaws.{character-states, stored-states, word-front, range-front}
 use Rattle.labels.specs.LabelEntries.{command·of}
@@ -18,10 +18,10 @@ use Rattle.lexer.specs.Words.{Numbered, label, number, punct, word?, quoted?, l
 use Rattle.lexer.specs.declared.Kind.{Kind}
 use Rattle.lexer.specs.declared.refusal.Refusal.{Refusal}
 use borrow.Author.Tests.{lt-ltb, le-ltb}
-use lib.Dec.{eqb, leb, ltb}
+use lib.Dec.{eqb, leb}
 use lib.ListN.{length, getD, take, set, length-map}
 use lib.Seq.{take-set-le}
-use mathlib.Core.Bool.{Bool, true, false, not, _&&_, _||_, true≢false}
+use mathlib.Core.Bool.{Bool, true, false, not, _&&_, _||_}
 use mathlib.Core.List.{List, [], _∷_, _++_, map-append}
 use mathlib.Core.Path.{_≡_, refl, sym, ap, _∙_}
 use native.Mathlib.Omega.{arith}

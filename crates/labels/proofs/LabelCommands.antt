@@ -2,10 +2,9 @@
 use Prim.Native.Nat.{ℕ, zero, suc, _+_, _≤_, _<_, min}
 use Rattle.block.specs.Commands.{words}
 use Rattle.block.specs.Labels.{Labelled, LabelCommand, unlabelled, char·labels, label·entries, label·command, apply·labels}
-use Rattle.block.specs.Outcome.{Outcome, done, refused, then, fold}
+use Rattle.block.specs.Outcome.{done, refused, then, fold}
 use Rattle.block.specs.declared.kinds.Labelling.{Labelling}
 use Rattle.labels.proofs.LabelSlotLaws.{range-front}
-use Rattle.labels.specs.LabelEntries.{command·of}
 use Rattle.labels.specs.LabelLists.{command·held, commands·held, command·step, listed, Fits}
 use Rattle.labels.specs.LabelSlots.{labels·held}
 use Rattle.labels.specs.declared.labels.LabelCommand as code

@@ -13,8 +13,8 @@ use lib.Dec.{eqb, leb}
 use lib.ListN.{length, getD, take, set, replicate, length-set, length-map, length-replicate, getD-replicate}
 use lib.Seq.{getD-set-same, getD-set-other, getD-take, take-set-le, take-at, length-take-le, ext-getD}
 use mathlib.Core.Bool.{not}
-use mathlib.Core.List.{List, [], _∷_, _++_, map, map-append}
-use mathlib.Core.Option.{Option, none, some}
+use mathlib.Core.List.{List, _∷_, _++_, map, map-append}
+use mathlib.Core.Option.{none}
 use mathlib.Core.Path.{_≡_, refl, sym, ap, _∙_}
 use native.Mathlib.Nat.{add-zero}
 use native.Mathlib.Numerals.{add-one}
@@ -53,13 +53,13 @@ module _ (text work : List ℕ) (at n : ℕ) where
   unfolding labels·held
   held-length = labels-length text (take at work) work at (at + n) n
 
-  pub held-at : (j : ℕ) → j < n → getD (labels·held text work at n) j unlabelled ≡ slots text (take at work) (getD work (at + j) 0) (getD work (at + n + j) 0)
+  held-at : (j : ℕ) → j < n → getD (labels·held text work at n) j unlabelled ≡ slots text (take at work) (getD work (at + j) 0) (getD work (at + n + j) 0)
   unfolding labels·held
   held-at j h = labels-at text (take at work) work at (at + n) n j h
 
   -- the character with a number, from 1 on
   module _ (k : ℕ) (from : 1 ≤ k) (to : k ≤ n) where
-    pub character-held : character k (labels·held text work at n) ≡ slots text (take at work) (getD work (at + (k - 1)) 0) (getD work (at + n + (k - 1)) 0)
+    character-held : character k (labels·held text work at n) ≡ slots text (take at work) (getD work (at + (k - 1)) 0) (getD work (at + n + (k - 1)) 0)
     unfolding character
     character-held = held-at (k - 1) (omega arith)
 
@@ -79,7 +79,7 @@ module _ (text work after : List ℕ) (at n : ℕ) (front : take at after ≡ ta
       (λ j h. let l : j < n = rw (held-length text after at n) at h in held-at text after at n j l ∙ rw front (each j l))
 
   -- Where every number is 0, none is labelled.
-  pub held-none : ((j : ℕ) → at ≤ j → j < at + 2 * n → getD after j 0 ≡ 0) → labels·held text after at n ≡ replicate n unlabelled
+  held-none : ((j : ℕ) → at ≤ j → j < at + 2 * n → getD after j 0 ≡ 0) → labels·held text after at n ≡ replicate n unlabelled
   unfolding slots label·slot states·slot unlabelled
   held-none clear =
       held-told (replicate n unlabelled) (length-replicate n unlabelled)
@@ -103,7 +103,7 @@ module _ (text work : List ℕ) (at n : ℕ) (fits : at + 2 * n ≤ length work)
           (λ e. let other = eqb-false j (k - 1) e in let o = others j h other in rw (o .0, o .1, getD-set-other (labels·held text work at n) (k - 1) j this unlabelled other) (sym (held-at text work at n j h)))
 
   -- A store at a character's number: the label
-  pub held-set-label : (v : ℕ) → labels·held text (set work (at + (k - 1)) v) at n ≡ set (labels·held text work at n) (k - 1) (record { label = label·slot text (take at work) v; states = character k (labels·held text work at n) .states })
+  held-set-label : (v : ℕ) → labels·held text (set work (at + (k - 1)) v) at n ≡ set (labels·held text work at n) (k - 1) (record { label = label·slot text (take at work) v; states = character k (labels·held text work at n) .states })
   unfolding slots
   held-set-label v =
       held-changed (set work (at + (k - 1)) v) _ (take-set-le at work (at + (k - 1)) v (omega arith))
@@ -111,7 +111,7 @@ module _ (text work : List ℕ) (at n : ℕ) (fits : at + 2 * n ≤ length work)
       (λ j h o. (getD-set-other work (at + (k - 1)) (at + j) v 0 (λ e. o (omega arith)), getD-set-other work (at + (k - 1)) (at + n + j) v 0 (λ e. omega arith)))
 
   -- or the state labels
-  pub held-set-states : (v : ℕ) → labels·held text (set work (at + n + (k - 1)) v) at n ≡ set (labels·held text work at n) (k - 1) (record { label = character k (labels·held text work at n) .label; states = states·slot text (take at work) v })
+  held-set-states : (v : ℕ) → labels·held text (set work (at + n + (k - 1)) v) at n ≡ set (labels·held text work at n) (k - 1) (record { label = character k (labels·held text work at n) .label; states = states·slot text (take at work) v })
   unfolding slots
   held-set-states v =
       held-changed (set work (at + n + (k - 1)) v) _ (take-set-le at work (at + n + (k - 1)) v (omega arith))

@@ -1,14 +1,13 @@
 -- What one word more comes to in a label command, case by case. Assumes nothing.
 use Prim.Native.Nat.{ℕ, _+_, _-_, _*_, _≤_, _<_}
-use Rattle.block.specs.Commands.{newline, words}
 use Rattle.block.specs.Labels.{Labelled, character, with·label}
 use Rattle.block.specs.NamesHeld.{name·of}
-use Rattle.block.specs.Outcome.{Outcome, done, refused, then, need}
+use Rattle.block.specs.Outcome.{done, refused, then, need}
 use Rattle.labels.proofs.LabelSlotLaws.{character-label, stored-label}
 use Rattle.labels.specs.LabelSlots.{label·one, labels·held}
 use Rattle.lexer.proofs.LabelLaws.{label-some, label-none}
 use Rattle.lexer.specs.Base.{pick, given}
-use Rattle.lexer.specs.Stored.{word·of, range}
+use Rattle.lexer.specs.Stored.{word·of}
 use Rattle.lexer.specs.Words.{Numbered, label}
 use Rattle.lexer.specs.declared.refusal.Refusal.{Refusal}
 use lib.Dec.{eqb}
@@ -16,7 +15,7 @@ use lib.ListN.{length, getD, take, set}
 use lib.Seq.{take-set-le}
 use mathlib.Core.Bool.{Bool, true, false, not}
 use mathlib.Core.List.{List}
-use mathlib.Core.Path.{_≡_, refl, sym, ap, _∙_}
+use mathlib.Core.Path.{_≡_, sym, ap, _∙_}
 use native.Mathlib.Omega.{arith}
 
 -- A character's label: it has one, or the word is no name, or it is labelled.

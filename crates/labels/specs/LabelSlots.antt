@@ -1,6 +1,6 @@
 -- The labels of characters as work memory holds them, two numbers for each character: from a place on the labels of all, then the state labels of
 -- all. Their words are those whose starts stand in front of that place, so that a store of a label changes no word.
-use Prim.Native.Nat.{ℕ, zero, suc, _+_, _-_, _/_, _%_}
+use Prim.Native.Nat.{ℕ, zero, suc, _+_, _/_, _%_}
 use Rattle.block.specs.Commands.{words}
 use Rattle.block.specs.Labels.{Labelled, character, with·label}
 use Rattle.block.specs.NamesHeld.{name·of, names·of}

@@ -40,7 +40,7 @@ pub struct LabelCommands {
 }
 
 // No character has a label or state labels.
-pub fn clear_labels(work: &mut [u32], at: usize, characters: usize)
+fn clear_labels(work: &mut [u32], at: usize, characters: usize)
     requires { ⌜ at + 2 * characters ≤ length (now work) ⌝ }
     ensures front { λ _. ⌜ take at (now (work .exit)) ≡ take at (now (work .entry)) ⌝ }
     ensures clear { λ _. ⌜ ((text : List ℕ) → labels·held text (now (work .exit)) at characters ≡ replicate characters unlabelled) ⌝ }
@@ -153,7 +153,7 @@ fn char_labels(
 }
 
 // A label command, whose words stand from an index up to another.
-pub fn label_command(
+fn label_command(
     text: &[u8],
     work: &mut [u32],
     what: Labelling,

@@ -159,11 +159,6 @@ alike-both (a ∷ k) (b ∷ l) (c ∷ r) p q =
     and-both (eq-eqb (lower a) (lower b) (first ∙ sym second))
     (alike-both k l r (and-right (eqb (lower a) (lower c)) (alike k r) p) (and-right (eqb (lower b) (lower c)) (alike l r) q))
 
-pub alike-refl : (l : List ℕ) → alike l l ≡ true
-unfolding alike
-alike-refl [] = refl
-alike-refl (a ∷ l) = and-both (eqb-same (lower a)) (alike-refl l)
-
 -- Membership
 pub among-append : (b : ℕ) (l r : List ℕ) → among b (l ++ r) ≡ among b l || among b r
 unfolding among

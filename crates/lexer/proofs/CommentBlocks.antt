@@ -126,10 +126,10 @@ module _ (text : List ℕ) where
 
 -- A place in a comment with so many open, and one further on: from both the comment ends alike. No more are open than bytes stand before it.
 record Alike (text : List ℕ) (depth from : ℕ) (n : Nested) : Type 0 where
-  pub ahead : from ≤ n .at
-  pub within : n .at ≤ length text
-  pub low : n .depth ≤ n .at
-  pub rest : (mark : ℕ) → comment·end mark (n .depth) (n .at) (drop (n .at) text) ≡ comment·end mark depth from (drop from text)
+  ahead : from ≤ n .at
+  within : n .at ≤ length text
+  low : n .depth ≤ n .at
+  rest : (mark : ℕ) → comment·end mark (n .depth) (n .at) (drop (n .at) text) ≡ comment·end mark depth from (drop from text)
 
 module _ (text : List ℕ) where
   alike-here : (d i : ℕ) → i ≤ length text → d ≤ i → Alike text d i (nested d i)

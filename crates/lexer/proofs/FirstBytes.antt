@@ -4,8 +4,8 @@ use Prim.Native.Nat.{ℕ, _+_, _<_, _≤_}
 use Rattle.lexer.proofs.Basics.{by-test, chosen}
 use Rattle.lexer.proofs.ListLaws.{drop-cases, drop-next}
 use Rattle.lexer.proofs.TokenParts.{kind-past, text-past}
-use Rattle.lexer.specs.Base.{pick, among, bytes, lower, alike}
-use Rattle.lexer.specs.Classes.{class, marks, symbol, symbol·of, wide·blank, next1, rank, newline?, single?, double?, other?}
+use Rattle.lexer.specs.Base.{pick, among, lower, alike}
+use Rattle.lexer.specs.Classes.{class, marks, symbol, symbol·of, wide·blank, rank, newline?, single?, double?, other?}
 use Rattle.lexer.specs.Lexing.{token·at, first·token, word·at}
 use Rattle.lexer.specs.Tokens.{Token, token, kind·of, text·of}
 use Rattle.lexer.specs.Words.{is, punct, mark?, word?, line·end?}
@@ -17,7 +17,7 @@ use lib.Dec.{eqb, ltb}
 use lib.ListN.{length, getD, drop, List·getD-eq-default}
 use mathlib.Core.Bool.{true, false, _&&_, _||_}
 use mathlib.Core.List.{List, [], _∷_}
-use mathlib.Core.Path.{_≡_, refl, sym, ap, _∙_}
+use mathlib.Core.Path.{_≡_, refl, sym}
 use native.Mathlib.Omega.{arith}
 
 -- Another byte is not the mark, whatever its symbol.

@@ -19,7 +19,7 @@ pub record Small (n : ℕ) (p : Place) : Type 0 where
   pub column : p .column ≤ n
 
 -- One byte adds at most one line or one column.
-pub move-small : (n : ℕ) (p : Place) (s : Symbol) → Small n p → 0 < n → Small (n + 1) (move p s)
+move-small : (n : ℕ) (p : Place) (s : Symbol) → Small n p → 0 < n → Small (n + 1) (move p s)
 unfolding move pick
 move-small n p s h pos = go (newline? s) (return? s || part? s)
   where

@@ -12,13 +12,12 @@ use Rattle.lexer.specs.Classes.{symbol, symbol·of, rank, single?, doubl
 use Rattle.lexer.specs.Tokens.{tail, next, after·word, after·between, text·step}
 use Rattle.lexer.specs.declared.Cursor.{Cursor}
 use Rattle.lexer.specs.declared.Mode.{Mode}
-use Rattle.lexer.specs.declared.Symbol.{Symbol}
 use denote.Enum.Declared.{tagOf}
 use lib.ListN.{length, getD, drop, take, drop-of-length-le, length-drop}
 use lib.Seq.{drop-drop, getD-drop}
 use mathlib.Core.Bool.{true, false}
 use mathlib.Core.List.{List, [], _∷_, _++_}
-use mathlib.Core.Path.{_≡_, refl, sym, ap, _∙_}
+use mathlib.Core.Path.{_≡_, refl, ap, _∙_}
 use native.Mathlib.Omega.{arith}
 use types.Run.{OneOf, miss}
 

@@ -59,19 +59,19 @@ module _ (text : List ℕ) (a b count : ℕ) where
         sym (s .rest ∙ rw none refl)
 
 -- Names that are alike have as many bytes.
-pub spaced-length : (l : List ℕ) → length (spaced l) ≡ length l
+spaced-length : (l : List ℕ) → length (spaced l) ≡ length l
 unfolding spaced
 spaced-length [] = refl
 spaced-length (b ∷ r) = ap suc (spaced-length r)
 
-pub alike-length : (l r : List ℕ) → alike l r ≡ true → length l ≡ length r
+alike-length : (l r : List ℕ) → alike l r ≡ true → length l ≡ length r
 unfolding alike
 alike-length [] [] h = refl
 alike-length [] (b ∷ r) h = absurd (false≢true h)
 alike-length (a ∷ l) [] h = absurd (false≢true h)
 alike-length (a ∷ l) (b ∷ r) h = ap suc (alike-length l r (and-right (eqb (lower a) (lower b)) (alike l r) h))
 
-pub lengths-differ : (l r : List ℕ) → (length l ≡ length r → ⊥) → false ≡ alike (spaced l) (spaced r)
+lengths-differ : (l r : List ℕ) → (length l ≡ length r → ⊥) → false ≡ alike (spaced l) (spaced r)
 lengths-differ l r n =
     by-test (alike (spaced l) (spaced r))
     (λ t. absurd (n (sym (spaced-length l) ∙ alike-length (spaced l) (spaced r) t ∙ spaced-length r)))

@@ -28,7 +28,7 @@ more-small : (b : ℕ) (l : List ℕ) → b < 256 → Small l → Small (b ∷ l
 more-small b l h s zero = h
 more-small b l h s (suc k) = s k
 
-pub drop-small : (l : List ℕ) (i : ℕ) → Small l → Small (drop i l)
+drop-small : (l : List ℕ) (i : ℕ) → Small l → Small (drop i l)
 drop-small l i s k = rw (getD-drop i l k 0) (s (i + k))
 
 step-small : (m : Mode) (s : Symbol) (b : ℕ) (more : List ℕ) → b < 256 → Small more → Small (text·step m s b more)
@@ -47,7 +47,7 @@ tail-small m [] s = none-small
 tail-small m (b ∷ r) s = step-small m (symbol b r) b (tail (next m (symbol b r)) r) (s zero) (tail-small (next m (symbol b r)) r (λ k. s (suc k)))
 
 -- What is left of a token's text, and all of it
-pub left-small : (text : List ℕ) (c : Cursor) → Small text → Small (left text c)
+left-small : (text : List ℕ) (c : Cursor) → Small text → Small (left text c)
 unfolding left rest·of first
 left-small text c s = go (c .mode) (drop (c .at) text) (drop-small text (c .at) s)
   where

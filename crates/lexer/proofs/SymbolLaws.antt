@@ -17,7 +17,7 @@ unfoldable pub all-below : ℕ → List ℕ → Bool
 all-below n [] = true
 all-below n (c ∷ r) = ltb c n && all-below n r
 
-pub among-above : (n b : ℕ) (l : List ℕ) → all-below n l ≡ true → n ≤ b → among b l ≡ false
+among-above : (n b : ℕ) (l : List ℕ) → all-below n l ≡ true → n ≤ b → among b l ≡ false
 unfolding all-below among
 among-above n b [] h le = refl
 among-above n b (c ∷ r) h le =

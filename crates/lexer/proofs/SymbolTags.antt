@@ -11,7 +11,7 @@ use mathlib.Core.Logic.{inl, inr}
 use mathlib.Core.Path.{_≡_, refl, sym, ap, _∙_}
 use types.Run.{OneOf}
 
-pub rank-tag : (s : Symbol) → rank s ≡ tagOf tags.the-type s
+rank-tag : (s : Symbol) → rank s ≡ tagOf tags.the-type s
 unfolding rank
 rank-tag Symbol.Newline = refl
 rank-tag Symbol.Return = refl

@@ -6,7 +6,7 @@ use Rattle.lexer.specs.Tables.{tabulated}
 use borrow.Author.Tests.{eqb-true, eqb-false}
 use lib.Dec.{eqb}
 use lib.ListN.{length, getD, set}
-use lib.Seq.{getD-set-same, getD-set-other, ext-getD}
+use lib.Seq.{getD-set-same, getD-set-other}
 use mathlib.Core.List.{List, []}
 use mathlib.Core.Path.{_≡_, refl, sym, ap, _∙_}
 use native.Mathlib.Nat.{add-zero, zero-add, add-suc, suc-add}
@@ -44,7 +44,7 @@ chart-at f b d h =
     let whole : b / 16 * 16 + b % 16 ≡ b = omega arith in
     rw (tabulated-at (row f) 16 (b / 16) [] (omega arith)) (tabulated-from f (b / 16 * 16) 16 (b % 16) d within ∙ ap f whole)
 
--- A table that is filled by a rule up to an index: nothing at the start, one entry more with each store, and in the end it is what the rule gives.
+-- A table that is filled by a rule up to an index: nothing at the start, one entry more with each store.
 pub record Filled {X : Type 0} (f : ℕ → X) (d : X) (table : List X) (i : ℕ) : Type 0 where
   pub entry : (k : ℕ) → k < i → getD table k d ≡ f k
 
@@ -57,8 +57,3 @@ module _ {X : Type 0} (f : ℕ → X) (d : X) (table : List X) where
     where
       earlier : (k : ℕ) → k < i + 1 → (k ≡ i → ⊥) → getD (set table i (f i)) k d ≡ f k
       earlier k lt ne = getD-set-other table i k (f i) d ne ∙ s .entry k (omega (arith, ne))
-
-  pub filled-end : (n : ℕ) → Filled f d table n → length table ≡ n → table ≡ tabulated f 0 n
-  filled-end n s e =
-      ext-getD d table (tabulated f 0 n) (e ∙ sym (tabulated-length f 0 n))
-      (λ k lt. let h : k < n = omega arith in s .entry k h ∙ sym (tabulated-at f n k d h))

@@ -1,7 +1,7 @@
 -- Words that are told by their bytes at once, and bytes that are a token by themselves: what the definitions make of them. Assumes nothing.
 use Prim.Native.Nat.{ℕ, zero, suc, _+_, _-_, _≤_, _<_}
-use Rattle.lexer.proofs.Basics.{all-under, and-left, by-test, implied, not-both, or-left, or-second, under-at, and-right}
-use Rattle.lexer.proofs.ClassLaws.{plain-is-other, plain-small}
+use Rattle.lexer.proofs.Basics.{all-under, and-left, by-test, implied, not-both, or-second, under-at, and-right}
+use Rattle.lexer.proofs.ClassLaws.{plain-is-other}
 use Rattle.lexer.proofs.LabelLaws.{label-given}
 use Rattle.lexer.proofs.ListLaws.{drop-next}
 use Rattle.lexer.proofs.PlainRuns.{plain-tail, running}
@@ -10,22 +10,21 @@ use Rattle.lexer.specs.Base.{pick, among, bytes, given}
 use Rattle.lexer.specs.ByteBlocks.{plain?, plain·end}
 use Rattle.lexer.specs.Classes.{class, next1, symbol, symbol·of, marks, rank, newline?, return?, blank?, single?, double?, open?, other?, part?, space?, blank}
 use Rattle.lexer.specs.Lexing.{first·token, token·at, word·at}
-use Rattle.lexer.specs.PlainWords.{Plain·word, alone?, ends?, part, word·byte, word·bytes, word·token}
+use Rattle.lexer.specs.PlainWords.{Plain·word, alone?, ends?, word·byte, word·bytes, word·token}
 use Rattle.lexer.specs.Scanning.{goes·on, step·of, token·step, word·end, worded}
-use Rattle.lexer.specs.Tokens.{token, kind·of, text·of, tail, next, after·word, after·between, text·step}
+use Rattle.lexer.specs.Tokens.{token, kind·of, text·of, tail, next, text·step}
 use Rattle.lexer.specs.Words.{label, word?, quoted?}
 use Rattle.lexer.specs.declared.Class.{Class}
 use Rattle.lexer.specs.declared.Mode.{Mode}
 use Rattle.lexer.specs.declared.Scan.{Scan}
 use Rattle.lexer.specs.declared.Step.{Step}
-use Rattle.lexer.specs.declared.Symbol.{Symbol}
 use borrow.Author.Tests.{eqb-true, eqb-false, ltb-true, ltb-false, ne-eqb}
 use lib.Dec.{eqb, ltb}
 use lib.ListN.{length, getD, take, drop, length-drop, List·getD-eq-default}
 use lib.Seq.{getD-drop}
-use mathlib.Core.Bool.{Bool, true, false, _&&_, _||_, not, false≢true, true≢false}
+use mathlib.Core.Bool.{Bool, true, false, _&&_, _||_, not, false≢true}
 use mathlib.Core.List.{List, [], _∷_}
-use mathlib.Core.Path.{_≡_, refl, sym, ap, subst, _∙_}
+use mathlib.Core.Path.{_≡_, refl, sym, ap, _∙_}
 use native.Mathlib.Numerals.{add-one}
 use native.Mathlib.Omega.{arith}
 

@@ -7,7 +7,6 @@ ghost use Rattle.lexer.specs.Bytes.{left};
 ghost use Rattle.lexer.specs.Classes.{symbol, space?, part?, blank};
 ghost use Rattle.lexer.specs.Lexing.{token·at, word·at};
 ghost use Rattle.lexer.specs.Words.{is, punct, line·end?, label, spaced, digits, largest, number};
-ghost use Rattle.lexer.specs.declared.Cursor.{Cursor};
 ghost use lib.Dec.{eqb, leb};
 ghost use lib.ListN.{length, getD, take, drop};
 ghost use mathlib.Core.Bool.{_||_};

@@ -41,7 +41,7 @@ pub struct Lexer<'a> {
 }
 
 // What stands at `at`: its symbol, or the end behind the last byte.
-pub fn ahead_at(text: &[u8], at: usize) -> Ahead
+fn ahead_at(text: &[u8], at: usize) -> Ahead
     ensures { λ r. ⌜ r ≡ ahead (now (text .entry)) at ⌝ }
 {
     if at < text.len() {
@@ -67,7 +67,7 @@ pub fn moved(text: &[u8], at: usize, line: usize, column: usize) -> Position
 }
 
 // On to the byte `to`.
-pub fn moved_to(text: &[u8], at: usize, line: usize, column: usize, to: usize) -> Position
+fn moved_to(text: &[u8], at: usize, line: usize, column: usize, to: usize) -> Position
     requires { ⌜ Reaches (now text) at line column to ⌝ }
     ensures { λ r. ⌜ r ≡ moved·to (now (text .entry)) at line column to ⌝ }
 {
@@ -85,7 +85,7 @@ pub fn moved_to(text: &[u8], at: usize, line: usize, column: usize, to: usize) -
 }
 
 // Behind the comment whose mark is at `at`.
-pub fn comment_at(text: &[u8], at: usize, line: usize, column: usize) -> Passed
+fn comment_at(text: &[u8], at: usize, line: usize, column: usize) -> Passed
     requires { ⌜ (at < length (now text)) × Reaches (now text) at line column (length (now text)) ⌝ }
     ensures { λ r. ⌜ r ≡ passed·comment (now (text .entry)) at line column ⌝ }
 {

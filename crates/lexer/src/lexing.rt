@@ -1,6 +1,6 @@
 // The position-by-value lexer: one pass that stores where each token begins.
 
-ghost use Prim.Native.Nat.{ℕ, _<_, _≤_, _+_, _*_};
+ghost use Prim.Native.Nat.{ℕ, _<_, _≤_, _+_};
 ghost use Rattle.lexer.specs.Lexing.{lexed};
 ghost use Rattle.lexer.specs.Places.{first·byte};
 ghost use Rattle.lexer.specs.PlainWords.{word·bytes};

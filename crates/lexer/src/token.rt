@@ -1,6 +1,6 @@
 // The kind and the text of the token that begins at a byte. A token is known by its start alone.
 
-ghost use Prim.Native.Nat.{_<_, _+_};
+ghost use Prim.Native.Nat.{_<_};
 ghost use Rattle.lexer.specs.Bytes.{front·at, mark·item, next·item, quoted·item, run·behind, string·item, text·item, word·item};
 ghost use Rattle.lexer.specs.Lexing.{token·at};
 ghost use lib.ListN.{length, getD, drop};

@@ -108,7 +108,7 @@ module _ (text before : List ℕ) (lines rows from to at head : ℕ) (t : Table)
     pub word-here : i < to → word·of text work i ≡ word·of text before i
     word-here h = word-kept text work before at (a .kept) i (omega (arith, room .0, room .1))
 
-    pub names-here : all·below at (stored before lines rows) → names·stored text work (stored work lines rows) ≡ names·stored text before (stored before lines rows)
+    names-here : all·below at (stored before lines rows) → names·stored text work (stored work lines rows) ≡ names·stored text before (stored before lines rows)
     names-here below = rw (stored-kept work before at lines rows (a .kept) (room .1)) (names-kept text work before at (a .kept) (stored before lines rows) (below-each at (stored before lines rows) below))
 
     -- what was found among the names of stored rows is the place among those of any rows that have them
@@ -171,7 +171,7 @@ module _ (text before : List ℕ) (lines rows from to at head : ℕ) (t : Table)
         joined (done ts) = rw (ordered-more, append-assoc) refl
         joined (refused m q) = refl
 
-        pub rest-more : names taken ≡ names·stored text before (stored before lines rows) → all·below at (stored before lines rows)
+        rest-more : names taken ≡ names·stored text before (stored before lines rows) → all·below at (stored before lines rows)
             → then (arranged head taken (names·of (words (range text before (i + 1) to)))) (λ ts. done (ordered taken (set work k j) at (names·of (words (range text before from (i + 1)))) ++ ts)) ≡ arranged head taken (names·of (words (range text before from to)))
         unfolding need then
         rest-more same below = sym (joined (arranged head taken (names·of (words (range text before (i + 1) to))))) ∙ rw (split taken, row-here) at (a .rest taken same below)

@@ -26,7 +26,7 @@ use native.Mathlib.Omega.{arith}
 
 -- What symbols come to behind others: these come to so many cells, or one of them is wrong.
 module _ (codes : List ℕ) where
-  pub coded-behind : (l r : List ℕ) (n : ℕ) (states : Bool) (k : ℕ) (all : Bool) → coded codes n states l ≡ Cells.Some k all
+  coded-behind : (l r : List ℕ) (n : ℕ) (states : Bool) (k : ℕ) (all : Bool) → coded codes n states l ≡ Cells.Some k all
       → (coded codes n states (l ++ r) ≡ coded codes k all r) × (k ≡ n + length l)
   unfolding coded pick
   coded-behind [] r n states k all e = let p : n ≡ k = cc in let q : states ≡ all = cc in (rw (p, q), omega arith)
@@ -39,7 +39,7 @@ module _ (codes : List ℕ) where
           → (coded codes n states (b ∷ l ++ r) ≡ coded codes k all r) × (k ≡ n + suc (length l))
       more f h = (rw f (h .0), omega (arith, h .1))
 
-  pub coded-wrong : (l r : List ℕ) (n : ℕ) (states : Bool) → coded codes n states l ≡ Cells.Wrong → coded codes n states (l ++ r) ≡ Cells.Wrong
+  coded-wrong : (l r : List ℕ) (n : ℕ) (states : Bool) → coded codes n states l ≡ Cells.Wrong → coded codes n states (l ++ r) ≡ Cells.Wrong
   unfolding coded pick
   coded-wrong [] r n states e = let z : _≡_ {A = ℕ} 0 1 = cc in absurd (omega arith)
   coded-wrong (b ∷ l) r n states e = by-test (eqb (getD codes b 0) 255) (λ t. rw t) (λ f. rw f (coded-wrong l r (n + 1) (states && ltb (getD codes b 0) 96) (rw f at e)))

@@ -2,7 +2,7 @@
 use Prim.Native.Nat.{ℕ, zero, suc, _+_, _≤_, _<_}
 use Rattle.block.proofs.OutcomeLaws.{all-one}
 use Rattle.lexer.proofs.Basics.{by-test, not-both}
-use Rattle.lexer.specs.Base.{pick, alike}
+use Rattle.lexer.specs.Base.{pick}
 use Rattle.matrix.proofs.BelowLaws.{below-each, each-below, stored-below}
 use Rattle.matrix.proofs.PlaceWalk.{Placing, placing-start, placing-turn, placing-found, placing-end}
 use Rattle.matrix.proofs.StoredRows.{stored-more, stored-kept, word-kept, start-kept}
@@ -21,25 +21,25 @@ use lib.Dec.{eqb, ltb}
 use lib.ListN.{length, getD, take, set, length-set}
 use lib.Seq.{getD-set-same, getD-set-other, take-set-le, take-take}
 use mathlib.Core.Bool.{Bool, true, false}
-use mathlib.Core.List.{List, [], _∷_, _++_}
+use mathlib.Core.List.{List}
 use mathlib.Core.Option.{none, some}
 use mathlib.Core.Path.{_≡_, refl, sym, ap, _∙_}
 use native.Mathlib.Numerals.{add-one}
 use native.Mathlib.Omega.{arith}
 
 -- A slot stands in the table or behind it.
-pub slot-behind : (t : Table) (h : ℕ) → t .base ≤ slot·of t h
+slot-behind : (t : Table) (h : ℕ) → t .base ≤ slot·of t h
 unfolding slot·of
 slot-behind t h = omega arith
 
 -- In front of a table that was filled all was kept.
-pub filled-front : (before after : List ℕ) (t : Table) (h v : ℕ) → Filled before after (slot·of t h) (t .end) v → take (t .base) after ≡ take (t .base) before
+filled-front : (before after : List ℕ) (t : Table) (h v : ℕ) → Filled before after (slot·of t h) (t .end) v → take (t .base) after ≡ take (t .base) before
 filled-front before after t h v f =
     sym (take-take (t .base) (slot·of t h) after (slot-behind t h)) ∙ ap (take (t .base)) (f .front) ∙ take-take (t .base) (slot·of t h) before (slot-behind t h)
 
 module _ (text work : List ℕ) (at rows i : ℕ) where
   -- The rows that have the name of a word are kept from the slot of that name on.
-  pub alike-kept : (t : Table) → Indexed text work at rows t → (k : ℕ) → k < rows → row·alike text work at i k ≡ true → Kept work (slot·of t (hash (name·at text work i))) (t .end) (k + 1)
+  alike-kept : (t : Table) → Indexed text work at rows t → (k : ℕ) → k < rows → row·alike text work at i k ≡ true → Kept work (slot·of t (hash (name·at text work i))) (t .end) (k + 1)
   unfolding row·alike
   alike-kept t x k h e = rw (alike-hash (name·at text work i) (name·at text work (getD work (at + k) 0)) e) (x .each k h)
 
@@ -93,7 +93,7 @@ module _ (text work other : List ℕ) (at : ℕ) (t : Table) where
 
   -- A row more is put into the table.
   module _ (rows : ℕ) (x : Indexed text work at rows t) (f : Filled work other (slot·of t (hash (name·at text work (getD work (at + rows) 0)))) (t .end) (rows + 1)) where
-    pub indexed-more : ((k : ℕ) → k < rows + 1 → name·at text other (getD other (at + k) 0) ≡ name·at text work (getD work (at + k) 0)) → Indexed text other at (rows + 1) t
+    indexed-more : ((k : ℕ) → k < rows + 1 → name·at text other (getD other (at + k) 0) ≡ name·at text work (getD work (at + k) 0)) → Indexed text other at (rows + 1) t
     indexed-more names =
         record {
           each = λ k l.

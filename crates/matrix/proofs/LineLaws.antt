@@ -29,11 +29,11 @@ module _ (text work : List ℕ) (i to : ℕ) where
   module _ (h : i < to) where
     -- a newline ends a line, and begins none
     module _ (e : newline (word·of text work i) ≡ true) where
-      pub lines-newline : lines·from false (range text work i to) ≡ lines·from false (range text work (i + 1) to)
+      lines-newline : lines·from false (range text work i to) ≡ lines·from false (range text work (i + 1) to)
       unfolding lines·from pick
       lines-newline = rw (range-next text work i to h, e)
 
-      pub line-over : lines·from true (range text work i to) ≡ lines·from false (range text work i to)
+      line-over : lines·from true (range text work i to) ≡ lines·from false (range text work i to)
       unfolding lines·from pick
       line-over = rw (range-next text work i to h, e)
 
@@ -47,7 +47,7 @@ module _ (text work : List ℕ) (i to : ℕ) where
       unfolding lines·from pick
       lines-line = rw (range-next text work i to h, e)
 
-      pub line-on : lines·from true (range text work i to) ≡ lines·from true (range text work (i + 1) to)
+      line-on : lines·from true (range text work i to) ≡ lines·from true (range text work (i + 1) to)
       unfolding lines·from pick
       line-on = rw (range-next text work i to h, e)
 

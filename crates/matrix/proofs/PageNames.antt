@@ -1,5 +1,5 @@
 -- The rows of whole pages have the names of the first lines, one a row. Assumes nothing.
-use Prim.Native.Nat.{ℕ, zero, suc, _+_, _≤_, _<_}
+use Prim.Native.Nat.{ℕ, zero, suc, _≤_, _<_}
 use Rattle.block.proofs.OutcomeLaws.{All}
 use Rattle.block.proofs.RowsSound.{length-names}
 use Rattle.block.specs.Interleaved.{Page}

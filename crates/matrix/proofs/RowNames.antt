@@ -1,9 +1,9 @@
 -- The names of stored rows, and how a row begins behind them. Assumes nothing.
-use Prim.Native.Nat.{ℕ, suc, _+_, _-_, _≤_, _<_}
+use Prim.Native.Nat.{ℕ, suc, _+_, _≤_, _<_}
 use Rattle.block.specs.Names.{known}
 use Rattle.lexer.proofs.LabelLaws.{label-some, label-none}
 use Rattle.lexer.proofs.ListLaws.{drop-next}
-use Rattle.lexer.specs.Base.{pick, alike, given}
+use Rattle.lexer.specs.Base.{pick, given}
 use Rattle.lexer.specs.Stored.{word·of}
 use Rattle.lexer.specs.Words.{label}
 use Rattle.lexer.specs.declared.refusal.Refusal.{Refusal}
@@ -15,9 +15,9 @@ use Rattle.matrix.specs.declared.matrix.Turned.{Turned}
 use borrow.Author.Tests.{eq-eqb, ne-eqb}
 use lib.ListN.{length, getD, drop, length-map, length-drop}
 use lib.Seq.{length-take-le}
-use mathlib.Core.Bool.{Bool, true, false, _||_}
+use mathlib.Core.Bool.{true, false}
 use mathlib.Core.List.{List, _∷_}
-use mathlib.Core.Path.{_≡_, sym, _∙_}
+use mathlib.Core.Path.{_≡_, _∙_}
 use native.Mathlib.Omega.{arith}
 
 -- So many numbers from an index on: the first of them, and those behind it.

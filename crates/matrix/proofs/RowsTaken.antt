@@ -31,7 +31,7 @@ use native.Mathlib.Omega.{arith}
 
 -- Rows mean the same where work memory was kept up to an index that their tokens do not reach.
 module _ (text work before : List ℕ) (at : ℕ) (kept : take at work ≡ take at before) (f : Format) (taxa characters to : ℕ) (h : to ≤ at) where
-  pub held-kept : (starts : List ℕ) → All (λ s. s < at) starts → rows·held text work f taxa characters to starts ≡ rows·held text before f taxa characters to starts
+  held-kept : (starts : List ℕ) → All (λ s. s < at) starts → rows·held text work f taxa characters to starts ≡ rows·held text before f taxa characters to starts
   unfolding rows·held
   held-kept starts a = rw (pages-kept text work before at kept f taxa to h starts a, rows-kept text work before at kept f characters to h starts a)
 

@@ -118,10 +118,10 @@ module _ {text codes before : List ℕ} {at from to taxa n head : ℕ} {t : Tabl
   bounded : Bounded (length text) (cells·of·row line) to r
   bounded = rw (j .turned) (turn-bounded text work codes taxa n to (names·stored text work (stored work at rows)) i (j .below) line (k .named))
 
-  pub sequencing-named : (s : ℕ) → r ≡ Turned.Full s → s < to
+  sequencing-named : (s : ℕ) → r ≡ Turned.Full s → s < to
   sequencing-named s d = rw d at bounded
 
-  pub sequencing-on : (next : Sequence) → r ≡ Turned.On next → Sequencing text codes before at from to taxa n head t work rows next (i + 1)
+  sequencing-on : (next : Sequence) → r ≡ Turned.On next → Sequencing text codes before at from to taxa n head t work rows next (i + 1)
   sequencing-on next d =
       let b : Bounded (length text) (cells·of·row line) to (Turned.On next) = rw d at bounded in
       record {
@@ -148,7 +148,7 @@ module _ {text codes before : List ℕ} {at from to taxa n head : ℕ} {t : Tabl
         word = omega (arith, sequencing-named s d, j .room .tokens);
       }
 
-  pub sequencing-full : (s : ℕ) → r ≡ Turned.Full s → {after : List ℕ} → Row·put text work after at rows s t true → Sequencing text codes before at from to taxa n head t after (rows + 1) Sequence.Between (i + 1)
+  sequencing-full : (s : ℕ) → r ≡ Turned.Full s → {after : List ℕ} → Row·put text work after at rows s t true → Sequencing text codes before at from to taxa n head t after (rows + 1) Sequence.Between (i + 1)
   unfolding cells·of·row
   sequencing-full s d p =
       let under : s < at = omega (arith, sequencing-named s d, j .room .apart) in

@@ -59,7 +59,7 @@ rising-plain codes least (b ∷ r) t zero h =
 rising-plain codes least (b ∷ r) t (suc k) h =
     rising-plain codes (getD codes b 0 + 1) r (and-right (leb least (getD codes b 0) && ltb (getD codes b 0) 10 && simple? b) (rising codes (getD codes b 0 + 1) r) t) k (omega arith)
 
-pub rising-coded : (codes : List ℕ) (least : ℕ) (l : List ℕ) → rising codes least l ≡ true → (n : ℕ) → coded codes n true l ≡ Cells.Some (n + length l) true
+rising-coded : (codes : List ℕ) (least : ℕ) (l : List ℕ) → rising codes least l ≡ true → (n : ℕ) → coded codes n true l ≡ Cells.Some (n + length l) true
 unfolding rising coded pick
 rising-coded codes least [] t n = ap (λ m. Cells.Some m true) (omega arith)
 rising-coded codes least (b ∷ r) t n =
@@ -106,17 +106,9 @@ module _ {codes text : List ℕ} {from : ℕ} where
     unfolding rising
     rising-end = rw (append-nil (part text from i)) at (k .rest [] refl)
 
-not-not : (s : Bool) → not s ≡ false → s ≡ true
+pub not-not : (s : Bool) → not s ≡ false → s ≡ true
 not-not true e = refl
 not-not false e = absurd (true≢false e)
-
--- What the code asks of one state more.
-pub state-told : (code least : ℕ) (s : Bool) → ltb code least || ltb 9 code || not s ≡ false → (least ≤ code) × (code < 10) × (s ≡ true)
-state-told code least s e =
-    let front = or-left (ltb code least || ltb 9 code) (not s) e in
-    let low = ltb-false code least (or-left (ltb code least) (ltb 9 code) front) in
-    let high = ltb-false 9 code (or-right (ltb code least) (ltb 9 code) front) in
-    (low, omega arith, not-not s (or-right (ltb code least || ltb 9 code) (not s) e))
 
 -- The tokens at the marks of a set.
 open-token : (k : Bracket) (r : List ℕ) → token (opener k) r .kind ≡ Kind.Punctuation (opener k)

@@ -11,7 +11,7 @@ use Rattle.lexer.specs.Words.{Numbered, mark?, punct}
 use Rattle.lexer.specs.declared.Kind.{Kind}
 use Rattle.lexer.specs.declared.refusal.Refusal.{Refusal}
 use Rattle.matrix.proofs.CellWalk.{symbols-told}
-use Rattle.matrix.proofs.SetLaws.{open-line, states-line, close-line, open-shape, states-shape, close-shape}
+use Rattle.matrix.proofs.SetLaws.{states-line, close-line, open-shape, states-shape, close-shape}
 use Rattle.matrix.specs.RowShape.{All·coded, chunk·shape, coded, plain·with, symbols·coded}
 use Rattle.matrix.specs.SequentialShape.{Cells·passed, Told·cells, Turns, grown·shape, last, nothing·told, on, set·told, turn·shape, word·told}
 use Rattle.matrix.specs.WholeSets.{Whole·set}
@@ -22,7 +22,7 @@ use borrow.Author.Tests.{eqb-false, le-ltb, leb-false, ltb-false, ne-eqb}
 use lib.Dec.{eqb, leb, ltb}
 use lib.ListN.{length, getD, drop, length-drop}
 use lib.Seq.{length-take-le}
-use mathlib.Core.Bool.{Bool, true, false, _||_}
+use mathlib.Core.Bool.{true, false, _||_}
 use mathlib.Core.List.{List}
 use mathlib.Core.Path.{_≡_, refl, sym, ap, _∙_}
 use native.Mathlib.Omega.{arith}

@@ -2,9 +2,9 @@
 use Prim.Native.Nat.{ℕ, suc, _+_}
 use Rattle.block.proofs.ChunkSound.{none-some, some-inj}
 use Rattle.block.specs.Cell.{Cell, state, uncertain, polymorphic, missing, gap, insert, insert·all}
-use Rattle.block.specs.Chunk.{before, cells·of, symbols, with·state, only·states, closer, set·cell, Row, plain, within, closed, into·set, chunk}
+use Rattle.block.specs.Chunk.{cells·of, symbols, with·state, only·states, closer, set·cell, Row, plain, within, closed, into·set, chunk}
 use Rattle.block.specs.Format.{Format}
-use Rattle.block.specs.Outcome.{Outcome, done, refused, then, need, mapped}
+use Rattle.block.specs.Outcome.{done, refused, then, need, mapped}
 use Rattle.block.specs.declared.kinds.Bracket.{Bracket}
 use Rattle.lexer.proofs.Basics.{and-true, and-false, by-test}
 use Rattle.lexer.specs.Base.{pick, empty?, given, byte}
@@ -16,7 +16,7 @@ use Rattle.matrix.specs.declared.matrix.Chunk.{Chunk}
 use borrow.Author.Tests.{ne-eqb}
 use lib.Dec.{eqb, ltb}
 use lib.ListN.{length, length-append}
-use mathlib.Core.Bool.{Bool, true, false, _&&_, _||_}
+use mathlib.Core.Bool.{true, false, _&&_, _||_}
 use mathlib.Core.List.{List, [], _∷_, _++_}
 use mathlib.Core.Option.{Option, none, some}
 use mathlib.Core.Path.{_≡_, refl, sym, ap, _∙_}

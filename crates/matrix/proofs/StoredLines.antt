@@ -24,7 +24,7 @@ names-more text work starts s = rw map-append
 
 -- Stored lines mean the same where work memory was kept.
 module _ (text work before : List ℕ) (at : ℕ) (kept : take at work ≡ take at before) (f : Format) (taxa to : ℕ) (h : to ≤ at) where
-  pub line-kept : (s : ℕ) → s < at → line·at text work f to s ≡ line·at text before f to s
+  line-kept : (s : ℕ) → s < at → line·at text work f to s ≡ line·at text before f to s
   unfolding line·at name·at
   line-kept s l = rw (word-kept text work before at kept s l, range-kept text work before at kept (s + 1) to h)
 

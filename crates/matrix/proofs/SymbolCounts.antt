@@ -34,7 +34,7 @@ left-size : (text : List ℕ) (n : ℕ) (c : Cursor) → length text - c .at ≤
 left-size text zero c h = by-item text c zero (next·item text c) refl (λ d a w. absurd (omega arith))
 left-size text (suc m) c h = by-item text c (suc m) (next·item text c) refl (λ d a w. let k = left-size text m d (omega arith) in omega arith)
 
-pub token-size : (text : List ℕ) (i : ℕ) → length (token·at text i .text) ≤ length text
+token-size : (text : List ℕ) (i : ℕ) → length (token·at text i .text) ≤ length text
 token-size text i = rw (front-left text i (front·at text i) refl) at (left-size text (length text) (front·at text i) (omega arith))
 
 -- A word has as many cells as its text has bytes.

@@ -6,7 +6,6 @@ use Rattle.block.specs.Cell.{Cell, state, uncertain, polymorphic, missing, gap,
 use Rattle.block.specs.Chunk.{Row, plain, within, cell, before, cells·of, symbols, with·state, only·states, closer, set·cell, closed, into·set, chunk, row·end}
 use Rattle.block.specs.Format.{Format}
 use Rattle.block.specs.Outcome.{done, then, fold, need}
-use Rattle.block.specs.declared.kinds.Bracket.{Bracket}
 use Rattle.lexer.proofs.Basics.{by-test}
 use Rattle.lexer.specs.Base.{pick, byte}
 use Rattle.lexer.specs.Words.{Numbered, punct, word?}
@@ -15,7 +14,7 @@ use Rattle.matrix.specs.Taken.{also, cells·taken, word·taken, states·
 use mathlib.Core.Bool.{_||_}
 use mathlib.Core.List.{List, [], _∷_, _++_}
 use mathlib.Core.Option.{Option, none, some}
-use mathlib.Core.Path.{_≡_, refl, sym, ap, _∙_}
+use mathlib.Core.Path.{_≡_, refl, ap, _∙_}
 
 -- Symbols that are all cells.
 also-good : (o : Option Cell) (more : Option (List Cell)) (all cs : List Cell) → ((ds : List Cell) → more ≡ some ds → all ≡ ds) → before o more ≡ some cs → also o all ≡ cs
@@ -24,7 +23,7 @@ also-good none more all cs same h = none-some cs h
 also-good (some c) none all cs same h = none-some cs h
 also-good (some c) (some ds) all cs same h = ap (λ x. c ∷ x) (same ds refl) ∙ some-inj h
 
-pub cells-good : (f : Format) (text : List ℕ) (cs : List Cell) → cells·of f text ≡ some cs → cells·taken f text ≡ cs
+cells-good : (f : Format) (text : List ℕ) (cs : List Cell) → cells·of f text ≡ some cs → cells·taken f text ≡ cs
 unfolding cells·of cells·taken
 cells-good f [] cs h = some-inj h
 cells-good f (b ∷ r) cs h = also-good (cell f b) (cells·of f r) (cells·taken f r) cs (cells-good f r) h
@@ -35,7 +34,7 @@ unfolding with·state
 with-good i none all s same h = none-some s h
 with-good i (some t) all s same h = ap (λ x. i ∷ x) (same t refl) ∙ some-inj h
 
-pub states-good : (cs : List Cell) (s : List ℕ) → only·states cs ≡ some s → states·taken cs ≡ s
+states-good : (cs : List Cell) (s : List ℕ) → only·states cs ≡ some s → states·taken cs ≡ s
 unfolding only·states states·taken
 states-good [] s h = some-inj h
 states-good (state i ∷ r) s h = with-good i (only·states r) (states·taken r) s (states-good r) h
@@ -46,7 +45,7 @@ states-good (gap ∷ r) s h = none-some s h
 
 module _ (f : Format) where
   -- The cells of a word.
-  pub word-good : (w : Numbered) (new : List Cell) → symbols f w ≡ done new → word·taken f w ≡ new
+  word-good : (w : Numbered) (new : List Cell) → symbols f w ≡ done new → word·taken f w ≡ new
   unfolding symbols word·taken pick
   word-good w new h =
       let one = pick-when (word? (w .token .kind) || punct (byte "+") w) Refusal.CellSymbol (w .index) (need (cells·of f (w .token .text)) Refusal.CellSymbol (w .index)) new h in
@@ -77,7 +76,7 @@ module _ (f : Format) where
           rw (word-good w (one .0) (one .1), states) (done-inj (all .2))
 
   -- A row with several words more.
-  pub line-good : (row : Row) (ws : List Numbered) (next : Row) → fold (chunk f) row ws ≡ done next → line·taken f row ws ≡ cells·in next
+  line-good : (row : Row) (ws : List Numbered) (next : Row) → fold (chunk f) row ws ≡ done next → line·taken f row ws ≡ cells·in next
   unfolding fold line·taken
   line-good row [] next h = ap cells·in (done-inj h)
   line-good row (w ∷ r) next h =

@@ -11,7 +11,7 @@ ghost use Rattle.matrix.specs.RowIndex.{Rows·tabled};
 ghost use Rattle.matrix.specs.RowShape.{All·coded, chunk·shape, chunked·of, coded, plain·with, so·far, symbols·coded};
 ghost use Rattle.matrix.specs.SequentialShape.{Cells·passed, Rows·read, Told·cells, Turns, begun·shape, cells·of·row, end·shape, grown·shape};
 ghost use Rattle.slots.specs.Filling.{Table·fits};
-ghost use lib.ListN.{length, getD, take, drop};
+ghost use lib.ListN.{length, take, drop};
 ghost use Rattle.matrix.specs.declared.matrix.Chunk.{Chunk};
 ghost use Rattle.matrix.specs.declared.matrix.Sequence.{Sequence};
 ghost use mathlib.Core.Bool.{true};
@@ -422,14 +422,14 @@ fn fills_row(work: &[u32], i: usize, characters: u64, n: usize) -> bool
 {
     let start = start_of(work, i);
     let next = start_of(work, i + 1);
-    let count = n as u64;
+    let cells = n as u64;
     if next < start {
         return true;
     }
-    if characters < count {
+    if characters < cells {
         return true;
     }
-    characters - count <= (next - start) as u64
+    characters - cells <= (next - start) as u64
 }
 
 // The same, but for a word that may be the last of its row, which need not be looked at twice.

@@ -1,6 +1,6 @@
 // Rows in declared order, after mod.rs.
 
-ghost use Prim.Native.Nat.{ℕ, _+_, _≤_, _<_};
+ghost use Prim.Native.Nat.{ℕ, _+_, _≤_};
 ghost use Rattle.block.specs.Cells.{index·of};
 ghost use Rattle.matrix.specs.Lines.{name·at, names·stored, stored};
 ghost use Rattle.matrix.specs.OrderHeld.{Arranged, Index·below, all·below, place·of};

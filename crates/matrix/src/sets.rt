@@ -1,12 +1,11 @@
 // Sets that are told by their bytes at once.
 
-ghost use Prim.Native.Nat.{_+_, _<_, _≤_};
+ghost use Prim.Native.Nat.{_<_, _≤_};
 ghost use Rattle.lexer.specs.PlainWords.{part};
-ghost use Rattle.matrix.specs.WholeSets.{Set·bytes, Set·closed, bracket·of, rising, simple?};
-ghost use lib.ListN.{length, getD};
+ghost use Rattle.matrix.specs.WholeSets.{Set·bytes, Set·closed, rising, simple?};
+ghost use lib.ListN.{length};
 ghost use mathlib.Core.Bool.{true};
 ghost use mathlib.Core.Path.{_≡_};
-use block::Bracket;
 use lexer::entry_of;
 use lexer::start_of;
 
@@ -14,19 +13,10 @@ use lexer::start_of;
 fn simple(b: u8) -> bool
     ensures { λ r. ⌜ r ≡ simple? b ⌝ }
 {
-    let digit = (48 <= b) & (b <= 57);
-    let capital = (65 <= b) & (b <= 90);
-    digit | capital | ((97 <= b) & (b <= 122))
-}
-
-// The kind of a set by its opening mark.
-pub fn bracket_of(b: u8) -> Bracket
-    ensures { λ r. ⌜ r ≡ bracket·of b ⌝ }
-{
-    if b == 123 {
-        return Bracket::Brace;
+    if (48 <= b) & (b <= 57) {
+        return true;
     }
-    Bracket::Parenthesis
+    (65 <= b) & (b <= 90) | (97 <= b) & (b <= 122)
 }
 
 // Where letters and digits of rising states below 10 end, from a place on.
@@ -39,7 +29,13 @@ fn states_end(text: &[u8], from: usize, codes: &[u8; 256]) -> usize
     while i < text.len() {
         let b = text[i];
         let code = entry_of(codes, b);
-        if (code < least) | (9 < code) | !simple(b) {
+        if code < least {
+            return i;
+        }
+        if 9 < code {
+            return i;
+        }
+        if !simple(b) {
             return i;
         }
         least = code + 1;

@@ -1,6 +1,5 @@
 -- The end of a text, by its tests: the open block, the matrix, its data type, and whether a character is ordered. Assumes nothing.
 use Prim.Native.Nat.{ℕ, zero, suc, _≤_}
-use Rattle.assumptions.specs.TypesHeld.{type·of}
 use Rattle.assumptions.specs.declared.assumptions.TypeWord.{TypeWord}
 use Rattle.block.specs.Blocks as B
 use Rattle.block.specs.Blocks.{final, has·ordered, orderable, with·types}

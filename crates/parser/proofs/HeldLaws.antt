@@ -37,7 +37,7 @@ retyped-over o p [] (u ∷ us) (c ∷ cs) = rw (retyped-over o p [] us cs)
 retyped-over o p (t ∷ ts) [] (c ∷ cs) = rw (retyped-over o p ts [] cs)
 retyped-over o p (t ∷ ts) (u ∷ us) (c ∷ cs) = rw (retyped-over o p ts us cs)
 
-pub types-over : (d e : Option CharacterOrdering) (s t : Option Types) (r : Reading) → with·types d s (with·types e t r) ≡ with·types d s r
+types-over : (d e : Option CharacterOrdering) (s t : Option Types) (r : Reading) → with·types d s (with·types e t r) ≡ with·types d s r
 unfolding with·types
 types-over d e s t r = rw (retyped-over (Option·getD d CharacterOrdering.Unordered) (Option·getD e CharacterOrdering.Unordered) (Option·getD s []) (Option·getD t []) (r .characters))
 

@@ -3,7 +3,7 @@ use Prim.Native.Nat.{ℕ, _+_, _*_, _≤_, _<_}
 use Rattle.block.specs.Format.{Format}
 use Rattle.block.specs.Judged.{judged}
 use Rattle.block.specs.Labels.{Labelled, apply·labels}
-use Rattle.block.specs.Outcome.{Outcome, done, refused, then}
+use Rattle.block.specs.Outcome.{Outcome, done, then}
 use Rattle.block.specs.Reading.{Taxon}
 use Rattle.block.specs.declared.Judged.{Judged}
 use Rattle.commands.specs.MatrixHeld.{order·held}

@@ -33,7 +33,7 @@ module _ (text work : List ℕ) where
   earlier-light (suc m) zero i h = absurd (omega arith)
   earlier-light (suc m) (suc n) i h = let more = earlier-light m n (suc i) (omega arith) in omega (arith, more)
 
-  pub range-light : (from to count : ℕ) → from ≤ to → to ≤ count → weights (range text work from to) ≤ weights (range text work 0 count)
+  range-light : (from to count : ℕ) → from ≤ to → to ≤ count → weights (range text work from to) ≤ weights (range text work 0 count)
   unfolding range
   range-light from to count h l =
       let later = later-light from to h in

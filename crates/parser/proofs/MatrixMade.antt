@@ -33,7 +33,6 @@ use lib.Dec.{leb, eqb}
 use lib.ListN.{length, take}
 use mathlib.Core.Bool.{Bool, true, false, _&&_, true≢false}
 use mathlib.Core.List.{List}
-use mathlib.Core.Option.{none}
 use mathlib.Core.Path.{_≡_, refl, sym, ap, subst, _∙_}
 use native.Mathlib.Omega.{arith}
 
@@ -72,7 +71,7 @@ module _ (bytes size count : ℕ) (matrix : Matrix) (d : Data) (few : Bool) wher
         labels = and-right (r && few && n && p) q five;
       }
 
-  pub stores : Storing bytes size count matrix d few → storable bytes size count matrix d few ≡ true
+  stores : Storing bytes size count matrix d few → storable bytes size count matrix d few ≡ true
   unfolding storable longest
   stores x =
       and-both (and-both (le-leb bytes 1048576 (x .short·text)) (le-leb count 1048576 (x .few·tokens)))
@@ -83,10 +82,10 @@ module _ (text front : List ℕ) (size : ℕ) (s : State) (b : ℕ) (e : s .phas
   data-open : Data·placed text front size (s .«data») × (s .matrix ≡ Matrix.None)
   data-open = subst (Phase·placed text front size s) e (p .phase)
 
-  pub data-there : Data·placed text front size (s .«data»)
+  data-there : Data·placed text front size (s .«data»)
   data-there = data-open .0
 
-  pub data-free : s .matrix ≡ Matrix.None
+  data-free : s .matrix ≡ Matrix.None
   data-free = data-open .1
 
 module _ (text before : List ℕ) (count head to : ℕ) (s : State) (b : ℕ) (room : count ≤ length before) (few : Bool)

@@ -3,7 +3,7 @@ use Prim.Native.Nat.{ℕ, _+_, _≤_}
 use Rattle.block.specs.Blocks.{agrees, matrix·reading, rows}
 use Rattle.block.specs.Format.{Format}
 use Rattle.block.specs.Judged.{judged}
-use Rattle.block.specs.Outcome.{done, refused, then}
+use Rattle.block.specs.Outcome.{done, then}
 use Rattle.block.specs.Reading.{Taxon}
 use Rattle.block.specs.Sequential.{Shape}
 use Rattle.block.specs.declared.Judged.{Judged}

@@ -26,7 +26,7 @@ use mathlib.Core.Path.{_≡_, refl, sym}
 use native.Mathlib.Omega.{arith}
 
 -- Numbers below a bound are below a larger one.
-pub below-more : (a b : ℕ) → a ≤ b → (l : List ℕ) → all·below a l → all·below b l
+below-more : (a b : ℕ) → a ≤ b → (l : List ℕ) → all·below a l → all·below b l
 unfolding all·below
 below-more a b h [] p = tt
 below-more a b h (s ∷ r) p = (omega (arith, p .0), below-more a b h r (p .1))

@@ -1,7 +1,6 @@
 -- The front of work memory, where the tokens begin: words, label commands and names that are among so many tokens are the same by it alone; and what
 -- a state is placed in is among its tokens. Assumes nothing.
 use Prim.Native.Nat.{ℕ, _+_, _≤_, _<_}
-use Rattle.commands.specs.StateHeld.{names·in}
 use Rattle.commands.specs.StatePlaced.{Commands·placed, Names·placed}
 use Rattle.commands.specs.declared.state.Names.{Names}
 use Rattle.labels.proofs.LabelSlotLaws as slots
@@ -54,11 +53,6 @@ module _ (text work : List ℕ) (count : ℕ) where
   commands-front ls h =
       let e = commands-each count ls h in
       rw (command-front (ls .first) (e .0), command-front (ls .second) (e .1), command-front (ls .third) (e .2))
-
-  pub names-front : (names : Names) → names·within count names ≡ true → names·in text work names ≡ names·in text (take count work) names
-  unfolding names·in names·within
-  names-front Names.None h = refl
-  names-front (Names.Words from to) h = rw (range-front from to (leb-true to count h))
 
 -- It stands in front of any place behind the tokens.
 module _ (count at : ℕ) where

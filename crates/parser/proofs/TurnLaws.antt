@@ -34,7 +34,7 @@ value-right a right (short e n) = absurd (true≢false (ap done·there e))
 
 -- Where to go on lies further on; and what was found stands behind the front.
 module _ (from count : ℕ) where
-  pub cut-further : (cut : Cut) → Within from count cut → from < count → from < cut·end count cut
+  cut-further : (cut : Cut) → Within from count cut → from < count → from < cut·end count cut
   unfolding cut·end
   cut-further Cut.None w l = l
   cut-further (Cut.Empty i) w l = omega (arith, w .0)

@@ -1,7 +1,7 @@
 -- The step over what was found next among the tokens, and what is promised of it and of reading a text.
 use Prim.Native.Nat.{ℕ, _+_, _≤_}
 use Rattle.block.specs.Blocks as B
-use Rattle.block.specs.Commands.{Command, command, empty, unended}
+use Rattle.block.specs.Commands.{command, empty, unended}
 use Rattle.block.specs.CommandsCut.{Within}
 use Rattle.block.specs.Outcome.{Outcome, done}
 use Rattle.block.specs.Parse.{parse·from}

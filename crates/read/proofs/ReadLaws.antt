@@ -56,10 +56,10 @@ lexed-told text k =
     (λ long. rw long)
 
 -- A refusal of lexing is the call's, and a count of tokens leaves it to what the text is read as.
-pub refused-result : (text : List ℕ) (k : ℕ) (n : Refusal) (p : Place) → Lexed.Refused n p ≡ lexed text k → read·result text k ≡ refusal n p
+refused-result : (text : List ℕ) (k : ℕ) (n : Refusal) (p : Place) → Lexed.Refused n p ≡ lexed text k → read·result text k ≡ refusal n p
 refused-result text k n p e = lexed-told text k ∙ ap (λ l. told l (recorded (read text))) (sym e)
 
-pub counted-result : (text : List ℕ) (k n : ℕ) → Lexed.Tokens n ≡ lexed text k → read·result text k ≡ recorded (read text)
+counted-result : (text : List ℕ) (k n : ℕ) → Lexed.Tokens n ≡ lexed text k → read·result text k ≡ recorded (read text)
 counted-result text k n e = lexed-told text k ∙ ap (λ l. told l (recorded (read text))) (sym e)
 
 -- A text that is lexed is read as its tokens say.

@@ -79,7 +79,7 @@ module _ (f : Format) (few : length (f .symbols) ≤ 74) where
   cell-told b h = chosen Told (equal f (f .missing) b) (λ _. refl) (λ _. gap-told (f .gap) b h)
 
   module _ (codes : List ℕ) (k : Coded f codes) where
-    pub cells-read : (bytes : List ℕ) → Small bytes → cells·coded codes bytes ≡ cells·taken f bytes
+    cells-read : (bytes : List ℕ) → Small bytes → cells·coded codes bytes ≡ cells·taken f bytes
     unfolding cells·coded cells·taken
     cells-read [] s = refl
     cells-read (b ∷ r) s = rw (k .code b (s zero), decoded-told (cell f b) (cell-told b (s zero)), cells-read r (λ i. s (suc i)))

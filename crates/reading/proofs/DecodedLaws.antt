@@ -25,7 +25,7 @@ module _ (code : ℕ) where
   unfolding decoded pick
   decoded-missing e = rw e
 
-  pub decoded-gap : code ≡ 127 → decoded code ≡ some gap
+  decoded-gap : code ≡ 127 → decoded code ≡ some gap
   unfolding decoded pick
   decoded-gap e = rw e
 

@@ -20,20 +20,20 @@ abbrev pub few·names : List ℕ → List ℕ → ℕ → ℕ → List (List ℕ
 few·names text starts most i = take most (names·of (words (range text starts i (length starts))))
 
 module _ (text starts : List ℕ) (most i : ℕ) where
-  pub few-newline : i < length starts → newline (word·of text starts i) ≡ true → few·names text starts most i ≡ few·names text starts most (i + 1)
+  few-newline : i < length starts → newline (word·of text starts i) ≡ true → few·names text starts most i ≡ few·names text starts most (i + 1)
   few-newline h e = rw (words-newline text starts i (length starts) h e)
 
-  pub few-next : i < length starts → newline (word·of text starts i) ≡ false → 0 < most
+  few-next : i < length starts → newline (word·of text starts i) ≡ false → 0 < most
       → few·names text starts most i ≡ name·of (word·of text starts i) ∷ few·names text starts (most - 1) (i + 1)
   unfolding names·of
   few-next h e some =
       let count : most ≡ suc (most - 1) = omega arith in
       rw (words-next text starts i (length starts) h e) (ap (λ n. take n (name·of (word·of text starts i) ∷ names·of (words (range text starts (i + 1) (length starts))))) count)
 
-  pub few-none : most ≡ 0 → few·names text starts most i ≡ []
+  few-none : most ≡ 0 → few·names text starts most i ≡ []
   few-none e = rw e
 
-  pub few-end : length starts ≤ i → few·names text starts most i ≡ []
+  few-end : length starts ≤ i → few·names text starts most i ≡ []
   unfolding names·of
   few-end h = rw (words-end text starts i (length starts) h) (take-nil most)
 

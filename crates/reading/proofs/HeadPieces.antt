@@ -4,7 +4,7 @@ use Rattle.block.specs.Format as F
 use Rattle.block.specs.Formats.{meant}
 use Rattle.block.specs.declared.data.DataType.{DataType}
 use Rattle.block.specs.declared.formats.Format.{Format}
-use Rattle.lexer.specs.Base.{byte, bytes}
+use Rattle.lexer.specs.Base.{bytes}
 use Rattle.reading.specs.RecordPut.{head·piece}
 use Rattle.record.specs.Decimal.{decimal}
 use Rattle.record.specs.Spell.{line, type·word}

@@ -154,7 +154,7 @@ module _ (text work codes : List ℕ) (count : ℕ) (h : Held) (fit : map·fits 
               subst (λ cs. Puts b n (spell·on false cs) c k) (sym cells) (put f (t .coded) (t .few))
 
       -- A row under the name of its first line, and the rows behind it.
-      pub row-held : r < rc → (first i : ℕ) → first ≡ first·line interleave (h .lines) (h .taxa) r → i ≡ getD work (count + first) 0 → Told
+      row-held : r < rc → (first i : ℕ) → first ≡ first·line interleave (h .lines) (h .taxa) r → i ≡ getD work (count + first) 0 → Told
           → drop r rows ≡ record { name = name·of (word·of text front i); cells = cells·at rows r } ∷ drop (r + 1) rows
       unfolding rows·of name·at name·of
       row-held l first i at s t =

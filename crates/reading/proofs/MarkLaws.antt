@@ -30,12 +30,12 @@ states-append (some (polymorphic s)) cs = refl
 states-append (some missing) cs = refl
 states-append (some gap) cs = refl
 
-pub marked-append : (xs ys set : List ℕ) → marked (xs ++ ys) set ≡ marked ys (marked xs set)
+marked-append : (xs ys set : List ℕ) → marked (xs ++ ys) set ≡ marked ys (marked xs set)
 unfolding marked
 marked-append [] ys s = refl
 marked-append (i ∷ xs) ys s = marked-append xs ys (set s i 1)
 
-pub topped-append : (xs ys : List ℕ) (top : ℕ) → topped (xs ++ ys) top ≡ topped ys (topped xs top)
+topped-append : (xs ys : List ℕ) (top : ℕ) → topped (xs ++ ys) top ≡ topped ys (topped xs top)
 unfolding topped
 topped-append [] ys top = refl
 topped-append (i ∷ xs) ys top = topped-append xs ys _

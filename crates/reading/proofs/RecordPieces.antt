@@ -2,7 +2,6 @@
 use Prim.Native.Nat.{ℕ, suc, _≤_, min}
 use Rattle.block.specs.Codes.{Coded}
 use Rattle.block.specs.Commands.{words}
-use Rattle.block.specs.Format as F
 use Rattle.block.specs.Formats.{meant}
 use Rattle.block.specs.NamesHeld.{names·of}
 use Rattle.block.specs.Reading.{Taxon}
@@ -22,7 +21,7 @@ use Rattle.parser.proofs.HeldLaws.{held-retypes}
 use Rattle.parser.specs.Storing.{symbols·few}
 use Rattle.reading.proofs.HeldRows.{rows-length}
 use Rattle.reading.specs.RecordPut.{head·piece, record·piece}
-use Rattle.reading.specs.RowLines.{Format·told, Told·puts, names·count, row·count, taxa·count}
+use Rattle.reading.specs.RowLines.{Format·told, names·count, row·count, taxa·count}
 use Rattle.record.specs.Spell.{spell·characters, spell·head, spell·taxa}
 use borrow.Author.Tests.{le-leb, ltb-false, ltb-true}
 use lib.Dec.{ltb}

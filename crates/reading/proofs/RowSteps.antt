@@ -31,7 +31,7 @@ module _ (f : Format) (cells : List Cell) (w : Numbered) where
   unfolding taken pick
   taken-parenthesis e d = rw (e, d)
 
-  pub taken-word : punct 123 w ≡ false → punct 40 w ≡ false → taken f (plain cells) w ≡ plain (cells ++ word·taken f w)
+  taken-word : punct 123 w ≡ false → punct 40 w ≡ false → taken f (plain cells) w ≡ plain (cells ++ word·taken f w)
   unfolding taken pick
   taken-word e d = rw (e, d)
 

@@ -185,7 +185,7 @@ module _ (text starts : List ℕ) (to i : ℕ) where
     module _ (small : Small text) (e : newline word ≡ false) {codes before : List ℕ} {from : Putting} {whole : Format → List Cell} {buffer set : List ℕ} {walk : Walk}
         {after marks : List ℕ} {next : Walk} (p : Word·put codes word buffer set walk after marks next) where
       -- Any other word is put. A line goes on; a row goes on where it is not full.
-      pub line-turn : Rowing codes before from whole (Line·left text starts to i) buffer set walk → Rowing codes before from whole (Line·left text starts to (i + 1)) after marks next
+      line-turn : Rowing codes before from whole (Line·left text starts to i) buffer set walk → Rowing codes before from whole (Line·left text starts to (i + 1)) after marks next
       unfolding line·taken
       line-turn k = rowing-turn k word (bytes small) (λ f row. rw (line-next text starts i to h e)) p
 

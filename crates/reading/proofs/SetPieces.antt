@@ -18,11 +18,11 @@ use native.Mathlib.Numerals.{add-one}
 
 -- The members from a state on: the state itself, if its mark is not 0, and those behind it.
 module _ (set : List ℕ) (i : ℕ) (h : i < length set) where
-  pub members-next : (getD set i 0 ≡ 0 → ⊥) → members i (drop i set) ≡ i ∷ members (i + 1) (drop (i + 1) set)
+  members-next : (getD set i 0 ≡ 0 → ⊥) → members i (drop i set) ≡ i ∷ members (i + 1) (drop (i + 1) set)
   unfolding members pick
   members-next ne = rw (drop-next set i h, ne-eqb (getD set i 0) 0 ne, add-one i)
 
-  pub members-skip : getD set i 0 ≡ 0 → members i (drop i set) ≡ members (i + 1) (drop (i + 1) set)
+  members-skip : getD set i 0 ≡ 0 → members i (drop i set) ≡ members (i + 1) (drop (i + 1) set)
   unfolding members pick
   members-skip e = rw (drop-next set i h, eq-eqb (getD set i 0) 0 e, add-one i)
 

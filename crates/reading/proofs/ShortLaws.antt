@@ -16,7 +16,7 @@ use Rattle.record.specs.Spell.{spell·cell}
 use borrow.Author.Tests.{eqb-false, eqb-true, leb-false, leb-true, ltb-true}
 use lib.Dec.{eqb, leb, ltb}
 use lib.ListN.{length, getD, take, drop}
-use mathlib.Core.Bool.{true, false, false≢true}
+use mathlib.Core.Bool.{true, false≢true}
 use mathlib.Core.List.{List, [], _∷_, _++_}
 use mathlib.Core.Option.{Option, none, some}
 use mathlib.Core.Path.{_≡_, refl, sym, ap, _∙_}
@@ -39,7 +39,7 @@ module _ (code : ℕ) (P : Type 0) where
 
 module _ (code : ℕ) (s : cell·byte code ≡ 0 → ⊥) where
   -- Such a code has a cell, and the cell is spelled by its byte.
-  pub short-given : given (decoded code) ≡ true
+  short-given : given (decoded code) ≡ true
   unfolding given decoded pick
   short-given = short-cases code _ s (λ t. let low = ltb-true code 10 t in ap given (decoded-state code (omega arith))) (λ e. rw e) (λ e. rw e)
 

@@ -1,5 +1,5 @@
 -- Cells and taxa as pieces: cells behind others, where the next place says whether there were any, and a taxon behind others. Assumes nothing.
-use Prim.Native.Nat.{ℕ, _+_, _≤_, _<_}
+use Prim.Native.Nat.{ℕ, _≤_, _<_}
 use Rattle.block.specs.Cell.{Cell, state, uncertain, polymorphic, missing, gap}
 use Rattle.block.specs.Reading.{Taxon}
 use Rattle.emit.proofs.PutLaws.{puts-as, puts-out, puts-then}
@@ -24,7 +24,7 @@ unfolding spell·cells spell·on pick
 more-spelled c [] rest = refl
 more-spelled c (d ∷ r) rest = append-assoc (spell·cell c) (byte " " ∷ spell·cells (d ∷ r)) rest ∙ ap (λ l. spell·cell c ++ (byte " " ∷ l)) (more-spelled d r rest)
 
-pub cells-spelled : (cs : List Cell) (rest : List ℕ) → spell·cells cs ++ rest ≡ spell·on false cs rest
+cells-spelled : (cs : List Cell) (rest : List ℕ) → spell·cells cs ++ rest ≡ spell·on false cs rest
 unfolding spell·cells spell·on pick
 cells-spelled [] rest = refl
 cells-spelled (c ∷ r) rest = more-spelled c r rest

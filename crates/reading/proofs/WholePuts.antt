@@ -116,7 +116,7 @@ module _ (codes text : List ℕ) (start end : ℕ) (s : Set·bytes codes text st
           let low = rising-digit codes 0 states (s .rises) (k - (start + 1)) (omega (arith, states-size)) in
           rw (getD-take (end - (start + 1)) (drop (start + 1) text) (k - (start + 1)) 0 at, getD-drop (start + 1) text (k - (start + 1)) 0, there) at low
 
-  pub set-spelled : (behind : List ℕ) → marked·digits codes (letter·of (getD text start 0)) states behind ≡ spell·cell (set·cell (bracket·of (getD text start 0)) (codes·of codes states)) ++ behind
+  set-spelled : (behind : List ℕ) → marked·digits codes (letter·of (getD text start 0)) states behind ≡ spell·cell (set·cell (bracket·of (getD text start 0)) (codes·of codes states)) ++ behind
   set-spelled behind = letter-spelled codes (getD text start 0) states behind (omega (arith, states-size, s .some)) (s .rises)
 
   -- A blank, if others were put, and such a set.

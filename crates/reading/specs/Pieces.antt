@@ -2,7 +2,6 @@
 use Prim.Native.Nat.{ℕ}
 use Rattle.block.specs.Cell.{Cell}
 use Rattle.block.specs.NamesHeld.{name·of}
-use Rattle.block.specs.Reading.{Taxon}
 use Rattle.lexer.specs.Base.{pick, byte}
 use Rattle.lexer.specs.Stored.{word·of}
 use Rattle.record.specs.Spell.{escaped, line, spell·cell}

@@ -1,24 +1,20 @@
 // The cells of a row, put from the words of work memory.
 
 ghost use Prim.Native.Nat.{_+_, _*_, _-_, _≤_, min};
-ghost use Rattle.block.specs.Chunk.{set·cell};
-ghost use Rattle.block.specs.declared.kinds.Bracket.{Bracket};
 ghost use Rattle.emit.specs.Puts.{Puts, last·place};
 ghost use Rattle.lexer.specs.Base.{given, pick};
 ghost use Rattle.lexer.specs.Lexing.{token·at};
-ghost use Rattle.lexer.specs.PlainWords.{part};
 ghost use Rattle.lexer.specs.Stored.{word·of};
-ghost use Rattle.matrix.specs.Taken.{also, states·taken};
-ghost use Rattle.matrix.specs.WholeSets.{Set·bytes, bracket·of};
-ghost use Rattle.reading.specs.CodedCells.{Cleared, Digits, Row·put, cell·byte, cells·coded, codes·of, decoded, dotted·on, has·cells, letter·of, marked, marked·digits, marks, members, spell·maybe, topped, word·coded};
+ghost use Rattle.matrix.specs.Taken.{also};
+ghost use Rattle.reading.specs.CodedCells.{Row·put, cell·byte, cells·coded, decoded, has·cells, spell·maybe, word·coded};
 ghost use Rattle.reading.specs.RowWalk.{Told·put};
 ghost use Rattle.reading.specs.ShortCells.{Ran·put, Short·run, Short·wrote};
-ghost use Rattle.record.specs.Spell.{spell·cell};
-ghost use lib.ListN.{length, getD, take, drop};
-ghost use mathlib.Core.Bool.{false, true};
-ghost use mathlib.Core.List.{[], _∷_, _++_};
+ghost use lib.ListN.{length, take, drop};
+ghost use mathlib.Core.Bool.{true};
+ghost use mathlib.Core.List.{[], _∷_};
 ghost use mathlib.Core.Path.{_≡_};
-use block::Bracket;
+use super::sets::put_bits;
+use super::sets::put_whole_set;
 use block::punct;
 use emit::put;
 use emit::put_decimal;
@@ -46,59 +42,6 @@ pub struct Putting {
 pub struct Ran {
     pub row: Putting,
     pub next: usize,
-}
-
-// Puts a state of a set, with a dot before it if others were put.
-fn put_member(buffer: &mut [u8], n: usize, i: usize, begun: bool) -> usize
-    ensures { λ r. ⌜ Puts (now (buffer .entry)) n (dotted·on begun (i ∷ [])) (now (buffer .exit)) r ⌝ }
-{
-    if begun {
-        let at = put(buffer, n, 46);
-        return put_decimal(buffer, at, i as u64);
-    }
-    put_decimal(buffer, n, i as u64)
-}
-
-// Puts the states of a set whose marks are not 0.
-fn put_members(buffer: &mut [u8], n: usize, set: &[u8]) -> usize
-    ensures { λ r. ⌜ Puts (now (buffer .entry)) n (dotted·on false (members 0 (now (set .entry)))) (now (buffer .exit)) r ⌝ }
-{
-    let mut at = n;
-    let mut begun = false;
-    let mut i = 0;
-    while i < set.len() {
-        let k = i;
-        i += 1;
-        if set[k] != 0 {
-            at = put_member(buffer, at, k, begun);
-            begun = true;
-        }
-    }
-    at
-}
-
-// Puts a set of states.
-fn put_set(buffer: &mut [u8], n: usize, kind: Bracket, set: &[u8]) -> usize
-    ensures { λ r. ⌜ Puts (now (buffer .entry)) n (λ behind. spell·cell (set·cell kind (members 0 (now (set .entry)))) ++ behind) (now (buffer .exit)) r ⌝ }
-{
-    match kind {
-        Bracket::Brace => {
-            let braced = put(buffer, n, 117);
-            put_members(buffer, braced, set)
-        }
-        Bracket::Parenthesis => {
-            let at = put(buffer, n, 112);
-            put_members(buffer, at, set)
-        }
-    }
-}
-
-// Puts the set of DNA states that bits are.
-fn put_bits(buffer: &mut [u8], n: usize, bits: u8) -> usize
-    ensures { λ r. ⌜ Puts (now (buffer .entry)) n (λ behind. spell·cell (set·cell Bracket.Brace (members 0 (marks bits))) ++ behind) (now (buffer .exit)) r ⌝ }
-{
-    let set = [bits % 2, bits / 2 % 2, bits / 4 % 2, bits / 8];
-    put_set(buffer, n, Bracket::Brace, &set)
 }
 
 // The byte that the cell of a code is, or 0: a state below 10 is a digit, missing is `m` and a gap `g`.
@@ -148,7 +91,7 @@ fn has_cell(code: u8) -> bool
 }
 
 // One fewer; none is fewer than none.
-fn fewer(left: usize) -> usize
+pub fn fewer(left: usize) -> usize
     ensures { λ r. ⌜ r ≡ left - 1 ⌝ }
 {
     if left == 0 {
@@ -158,7 +101,7 @@ fn fewer(left: usize) -> usize
 }
 
 // Puts the blank before a cell that is not the first.
-fn put_blank(buffer: &mut [u8], n: usize, started: bool) -> usize
+pub fn put_blank(buffer: &mut [u8], n: usize, started: bool) -> usize
     ensures { λ r. ⌜ Puts (now (buffer .entry)) n (λ behind. pick started (32 ∷ behind) behind) (now (buffer .exit)) r ⌝ }
 {
     if started {
@@ -255,6 +198,7 @@ fn row_behind(row: Putting, at: usize, cells: usize) -> Putting
 }
 
 // Puts cells of one byte each behind the cells of a row, from a place of a text on, as far as they go. What lies behind the buffer's end is only
+
 // counted; where some have room and others not, none is put.
 fn put_short(
     text: &[u8],
@@ -329,77 +273,6 @@ fn put_run(
     put_rest(text, ran.next, end, buffer, ran.row, codes)
 }
 
-// Puts a set behind the cells of a row.
-pub fn put_set_cell(buffer: &mut [u8], row: Putting, kind: Bracket, set: &[u8]) -> Putting
-    ensures { λ r. ⌜ Row·put (now (buffer .entry)) row (set·cell kind (members 0 (now (set .entry))) ∷ []) (now (buffer .exit)) r ⌝ }
-{
-    let at = put_blank(buffer, row.at, row.started);
-    let next = put_set(buffer, at, kind, set);
-    Putting {
-        at: next,
-        started: true,
-        left: fewer(row.left),
-    }
-}
-
-// The letter of a set by its opening mark.
-fn set_letter(b: u8) -> u8
-    ensures { λ r. ⌜ r ≡ letter·of b ⌝ }
-{
-    if b == 123 {
-        return 117;
-    }
-    112
-}
-
-// Puts states below 10, from a place of a text up to an end, each behind a mark: the first behind this one, the others behind a dot.
-fn put_digits(
-    text: &[u8],
-    from: usize,
-    end: usize,
-    buffer: &mut [u8],
-    n: usize,
-    letter: u8,
-    codes: &[u8; 256],
-) -> usize
-    requires { ⌜ Digits (now codes) (now text) from end ⌝ }
-    ensures { λ r. ⌜ Puts (now (buffer .entry)) n (marked·digits (now (codes .entry)) letter (part (now (text .entry)) from end)) (now (buffer .exit)) r ⌝ }
-{
-    let mut at = n;
-    let mut mark = letter;
-    let mut i = from;
-    while i < end {
-        let code = entry_of(codes, text[i]);
-        let behind = put(buffer, at, mark);
-        at = put(buffer, behind, 48 + code);
-        mark = 46;
-        i += 1;
-    }
-    at
-}
-
-// Puts a whole set behind the cells of a row, from its opening mark up to the mark that closes it.
-pub fn put_whole_set(
-    text: &[u8],
-    start: usize,
-    end: usize,
-    buffer: &mut [u8],
-    row: Putting,
-    codes: &[u8; 256],
-) -> Putting
-    requires { ⌜ Set·bytes (now codes) (now text) start end ⌝ }
-    ensures { λ r. ⌜ Row·put (now (buffer .entry)) row (set·cell (bracket·of (getD (now (text .entry)) start 0)) (codes·of (now (codes .entry)) (part (now (text .entry)) (start + 1) end)) ∷ []) (now (buffer .exit)) r ⌝ }
-{
-    let at = put_blank(buffer, row.at, row.started);
-    let letter = set_letter(text[start]);
-    let next = put_digits(text, start + 1, end, buffer, at, letter, codes);
-    Putting {
-        at: next,
-        started: true,
-        left: fewer(row.left),
-    }
-}
-
 // Puts the cells of a token's text behind those of a row: those of a run of plain bytes, then of the next byte, and so on.
 fn put_cells(
     text: &[u8],
@@ -428,67 +301,13 @@ fn put_cells(
     }
 }
 
-// Puts the state of a code into a set, if it has one, and answers the end of the marks that are looked at.
-fn mark_state(set: &mut [u8; 96], top: usize, code: u8) -> usize
-    ensures grown { λ r. ⌜ now (set .exit) ≡ marked (states·taken (also (decoded code) [])) (now (set .entry)) ⌝ }
-    ensures within { λ r. ⌜ r ≡ topped (states·taken (also (decoded code) [])) top ⌝ }
-{
-    if 96 <= code {
-        return top;
-    }
-    let i = code as usize;
-    set[i] = 1;
-    if i < top {
-        return top;
-    }
-    i + 1
-}
-
-// Puts the states of a token's text into a set.
-fn mark_states(
-    text: &[u8],
-    start: usize,
-    set: &mut [u8; 96],
-    from: usize,
-    codes: &[u8; 256],
-) -> usize
-    ensures grown { λ r. ⌜ now (set .exit) ≡ marked (states·taken (cells·coded (now (codes .entry)) (token·at (now (text .entry)) start .text))) (now (set .entry)) ⌝ }
-    ensures within { λ r. ⌜ r ≡ topped (states·taken (cells·coded (now (codes .entry)) (token·at (now (text .entry)) start .text))) from ⌝ }
-{
-    let mut top = from;
-    let mut c = text_start(text, start);
-    loop {
-        match next_byte(text, c) {
-            Item::Byte(b, d) => {
-                top = mark_state(set, top, entry_of(codes, b));
-                c = d;
-            }
-            Item::End => {
-                return top;
-            }
-        }
-    }
-}
-
 // Has a word cells? Besides a word only the mark `+` can be a symbol.
-fn has_cells(text: &[u8], starts: &[u32], i: usize) -> bool
+pub fn has_cells(text: &[u8], starts: &[u32], i: usize) -> bool
     ensures { λ r. ⌜ r ≡ has·cells (word·of (now (text .entry)) (now (starts .entry)) i) ⌝ }
 {
     match kind_at(text, start_of(starts, i)) {
         Kind::Word => true,
         _ => punct(text, starts, i, 43),
-    }
-}
-
-// Takes the states out of a set whose marks are looked at up to an end.
-pub fn clear(set: &mut [u8; 96], top: usize)
-    requires { ⌜ top ≤ 96 ⌝ }
-    ensures { λ r. ⌜ Cleared (now (set .entry)) top (now (set .exit)) ⌝ }
-{
-    let mut i = 0;
-    while i < top {
-        set[i] = 0;
-        i += 1;
     }
 }
 
@@ -512,24 +331,6 @@ pub fn put_word(
         return row;
     }
     put_cells(text, start, buffer, row, codes)
-}
-
-// Puts the states of a word into a set.
-pub fn mark_word(
-    text: &[u8],
-    starts: &[u32],
-    set: &mut [u8; 96],
-    i: usize,
-    top: usize,
-    codes: &[u8; 256],
-) -> usize
-    ensures grown { λ r. ⌜ now (set .exit) ≡ marked (states·taken (word·coded (now (codes .entry)) (word·of (now (text .entry)) (now (starts .entry)) i))) (now (set .entry)) ⌝ }
-    ensures within { λ r. ⌜ r ≡ topped (states·taken (word·coded (now (codes .entry)) (word·of (now (text .entry)) (now (starts .entry)) i))) top ⌝ }
-{
-    if !has_cells(text, starts, i) {
-        return top;
-    }
-    mark_states(text, start_of(starts, i), set, top, codes)
 }
 
 // Puts the words and whole sets that are told by their bytes at once, from the word of an index on, as long as cells are lacking behind each.

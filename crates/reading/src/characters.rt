@@ -95,7 +95,7 @@ fn put_bytes(text: &[u8], from: usize, end: usize, buffer: &mut [u8], n: usize) 
 }
 
 // Puts the name that the word of an index is, escaped. Most names are told at once by their bytes, of which none is escaped: each takes one byte.
-pub fn put_name(text: &[u8], starts: &[u32], buffer: &mut [u8], n: usize, i: usize) -> usize
+fn put_name(text: &[u8], starts: &[u32], buffer: &mut [u8], n: usize, i: usize) -> usize
     ensures { λ r. ⌜ Puts (now (buffer .entry)) n (name·piece (now (text .entry)) (now (starts .entry)) i) (now (buffer .exit)) r ⌝ }
 {
     let start = start_of(starts, i);

@@ -4,6 +4,7 @@ pub mod cells;
 pub mod characters;
 pub mod lines;
 pub mod plain;
+pub mod sets;
 pub mod spelling;
 pub mod taxa;
 

@@ -1,7 +1,6 @@
 // Characters that have neither a label nor state labels: one by itself, and ten at once whose numbers differ in the last digit alone.
 
 ghost use Prim.Native.Nat.{_*_, _+_, _%_, _<_, _≤_};
-ghost use Rattle.block.specs.declared.model.CharacterOrdering.{CharacterOrdering};
 ghost use Rattle.emit.specs.Puts.{Puts};
 ghost use Rattle.lexer.specs.Base.{bytes};
 ghost use Rattle.reading.specs.CharactersHeld.{bare·piece, plain·bytes};

@@ -31,13 +31,13 @@ characters-agree (b ∷ l) (c ∷ r) n s o =
     let one : b ≡ c = λ i. record { label = head-eq-of-cons-eq n i; states = head-eq-of-cons-eq s i; ordering = head-eq-of-cons-eq o i } in
     cc
 
-pub agree-equal : (r s : Reading) → Agree r s → r ≡ s
+agree-equal : (r s : Reading) → Agree r s → r ≡ s
 agree-equal r s a =
     let taxa = taxa-agree (r .taxa) (s .taxa) (a .names) (a .cells) in
     let characters = characters-agree (r .characters) (s .characters) (a .labels) (a .states) (a .types) in
     λ i. record { data·type = a .data·type i; symbols = a .symbols i; taxa = taxa i; characters = characters i }
 
-pub equal-agree : (r s : Reading) → r ≡ s → Agree r s
+equal-agree : (r s : Reading) → r ≡ s → Agree r s
 equal-agree r s e =
     record {
       data·type = ap (λ x. x .data·type) e;

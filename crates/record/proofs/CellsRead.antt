@@ -42,11 +42,11 @@ pub record Grown (sh : Shape) (rows : List Taxon) (n : List ℕ) (cells : List C
   pub grown : (i k : ℕ) (w : Numbered) → then (row·grown sh rows i n w (plain cells)) (λ s. fold (sequential·turn sh) s (words (up·to·end (numbered k ts)))) ≡ done t
 
 module _ (sh : Shape) (rows : List Taxon) (n : List ℕ) (cells : List Cell) {ts : List Token} {t : Sequence} where
-  pub row-full : length cells ≡ sh .characters → Turns (sequential·turn sh) (between (rows ++ (record { name = n; cells = cells } ∷ []))) ts t → Grown sh rows n cells ts t
+  row-full : length cells ≡ sh .characters → Turns (sequential·turn sh) (between (rows ++ (record { name = n; cells = cells } ∷ []))) ts t → Grown sh rows n cells ts t
   unfolding words·from row·grown
   row-full e r = record { grown = λ i k w. rw (le-ltb (sh .characters) (length cells) (omega arith), eq-eqb (length cells) (sh .characters) e) (r .turned k) }
 
-  pub row-begun : length cells < sh .characters → ((i : ℕ) → Turns (sequential·turn sh) (inside rows i n (plain cells)) ts t) → Grown sh rows n cells ts t
+  row-begun : length cells < sh .characters → ((i : ℕ) → Turns (sequential·turn sh) (inside rows i n (plain cells)) ts t) → Grown sh rows n cells ts t
   unfolding words·from row·grown
   row-begun l r = record { grown = λ i k w. rw (le-ltb (sh .characters) (length cells) (omega arith), ne-eqb (length cells) (sh .characters) (λ e. omega arith)) (r i .turned k) }
 

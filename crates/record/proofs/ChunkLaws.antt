@@ -35,7 +35,7 @@ unfolding words·from closer
 plus-closes-not Bracket.Brace = refl
 plus-closes-not Bracket.Parenthesis = refl
 
-pub plus-symbolic : Symbolic (Kind.Punctuation 43)
+plus-symbolic : Symbolic (Kind.Punctuation 43)
 unfolding words·from
 plus-symbolic = record { some-symbol = refl; no-line = refl; no-end = refl; no-brace = refl; no-parenthesis = refl; no-closer = plus-closes-not }
 

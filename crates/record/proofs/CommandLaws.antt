@@ -6,7 +6,6 @@ use Rattle.block.specs.Commands.{command, commands·from, up·to·end, ended, w
 use Rattle.block.specs.Outcome.{Outcome, done, then, fold, need}
 use Rattle.lexer.proofs.Basics.{by-test}
 use Rattle.lexer.specs.Base as Base
-use Rattle.lexer.specs.Base.{pick}
 use Rattle.lexer.specs.Tokens.{Token}
 use Rattle.lexer.specs.Words as Words
 use Rattle.lexer.specs.Words.{Numbered, numbered, line·end?, mark?}

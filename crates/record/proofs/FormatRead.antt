@@ -3,7 +3,7 @@ use Prim.Native.Nat.{ℕ, suc, _<_}
 use Rattle.block.specs.Blocks.{State, step, outside?, block·step, ends, inner·step, data·step, data·command, with·format, in·phase}
 use Rattle.block.specs.Dna.{acgt}
 use Rattle.block.specs.Format as F
-use Rattle.block.specs.Format.{Format, Formatting, Options, option, value, options, no·options, format·turn, valid·symbol, all·valid, equal, unspaced}
+use Rattle.block.specs.Format.{Format, Formatting, Options, option, value, no·options, format·turn, valid·symbol, all·valid, equal, unspaced}
 use Rattle.block.specs.Outcome.{Outcome, done}
 use Rattle.block.specs.Run.{run·text}
 use Rattle.block.specs.declared.data.DataType.{DataType}
@@ -158,7 +158,7 @@ dna-read : (rest : List Token) (gaps : Bool) (h i : ℕ) → F.format h (words·
 unfolding turn·of format·words form·of run·text
 dna-read rest gaps h i = refl
 
-pub format-words-read : (t : DataType) (symbols : List ℕ) (gaps : Bool) (rest : List Token) → sound·symbols t symbols gaps ≡ true → (h i : ℕ)
+format-words-read : (t : DataType) (symbols : List ℕ) (gaps : Bool) (rest : List Token) → sound·symbols t symbols gaps ≡ true → (h i : ℕ)
     → F.format h (words·from i (format·words t symbols gaps rest)) ≡ done (form·of t symbols gaps)
 unfolding words·from F.format F.format·end format·words sound·symbols
 format-words-read DataType.Standard symbols gaps rest s h i =

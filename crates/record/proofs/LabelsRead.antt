@@ -10,13 +10,12 @@ use Rattle.lexer.proofs.Basics.{and-left, and-right}
 use Rattle.lexer.specs.Base.{empty?, given}
 use Rattle.lexer.specs.Tokens.{Token}
 use Rattle.lexer.specs.Words as W
-use Rattle.lexer.specs.Words.{Numbered, numbered, label, largest}
+use Rattle.lexer.specs.Words.{Numbered, numbered, largest}
 use Rattle.record.proofs.CommandLaws.{at, here, words·from}
 use Rattle.record.proofs.DecimalLaws.{positive-decimal}
 use Rattle.record.proofs.FormTokens.{word, mark, label·tokens, each·tokens, states·tokens}
 use Rattle.record.proofs.NameLaws.{name-label}
 use Rattle.record.specs.Decimal.{decimal}
-use Rattle.record.specs.Form.{labelled}
 use Rattle.block.specs.Sound.{sound·name, sound·names, sound·label}
 use borrow.Author.Tests.{leb-true, le-leb, le-ltb}
 use lib.Dec.{leb, ltb}

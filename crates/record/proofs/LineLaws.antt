@@ -54,7 +54,7 @@ unfolding lines ended
 lined [] ls h = subst (Lined []) (Option·some-injective _ ls h) (record { joined = refl; clean = tt })
 lined (c ∷ r) ls h = lined-more c r (eqb c 10) refl (lines r) (lined r) ls h
 
-pub lines-line : (l rest : List ℕ) (ls : List (List ℕ)) → among 10 l ≡ false → lines rest ≡ some ls
+lines-line : (l rest : List ℕ) (ls : List (List ℕ)) → among 10 l ≡ false → lines rest ≡ some ls
     → lines (l ++ (10 ∷ rest)) ≡ some (l ∷ ls)
 unfolding lines pick among line·more lines·with
 lines-line [] rest ls h e = rw e

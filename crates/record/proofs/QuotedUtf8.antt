@@ -14,7 +14,7 @@ use mathlib.Core.List.{List, [], _∷_, _++_}
 use mathlib.Core.Path.{_≡_, refl, _∙_}
 use native.Mathlib.Omega.{arith}
 
-pub ascii-from : (b low high : ℕ) → ltb b 128 ≡ true → (r : List ℕ) → utf8·from 0 low high (b ∷ r) ≡ utf8 r
+ascii-from : (b low high : ℕ) → ltb b 128 ≡ true → (r : List ℕ) → utf8·from 0 low high (b ∷ r) ≡ utf8 r
 unfolding utf8·from utf8 pick
 ascii-from b low high h r = rw h
 

@@ -34,7 +34,7 @@ read-short : (text : List ℕ) (work : ℕ) → length text ≤ 1048576 → work
 unfolding read·result longest work·needed pick refuse
 read-short text work l h = rw (le-leb (length text) 1048576 l, lt-leb (4 * length text + 64) work h)
 
-pub read-taken : (text : List ℕ) (work : ℕ) → Taken text work → read·result text work ≡ recorded (read text)
+read-taken : (text : List ℕ) (work : ℕ) → Taken text work → read·result text work ≡ recorded (read text)
 unfolding read·result longest work·needed pick
 read-taken text work h = rw (le-leb (length text) 1048576 (h .0), le-leb (4 * length text + 64) work (h .1))
 

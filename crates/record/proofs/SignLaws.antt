@@ -29,7 +29,7 @@ pub record Signs (f : Format) (t : DataType) (symbols : List ℕ) (gaps : Bool) 
   pub missings : cell f (missing·sign t symbols) ≡ some missing
   pub gaps-too : gaps ≡ true → cell f (gap·sign t symbols) ≡ some gap
 
-pub getD-among : (l : List ℕ) (i : ℕ) → i < length l → among (getD l i 0) l ≡ true
+getD-among : (l : List ℕ) (i : ℕ) → i < length l → among (getD l i 0) l ≡ true
 unfolding among
 getD-among [] i h = absurd (omega arith)
 getD-among (a ∷ l) zero h = rw eqb-same refl

@@ -41,7 +41,7 @@ unfolding ordered?
 unordered-back CharacterOrdering.Ordered h = absurd (true≢false h)
 unordered-back CharacterOrdering.Unordered h = refl
 
-pub untyped-back : (cs : List Character) → has·ordered cs ≡ false → untyped cs ≡ cs
+untyped-back : (cs : List Character) → has·ordered cs ≡ false → untyped cs ≡ cs
 unfolding unordered labels·of has·ordered
 untyped-back [] h = refl
 untyped-back (c ∷ r) h =

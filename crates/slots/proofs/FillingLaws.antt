@@ -1,13 +1,13 @@
 -- Numbers that are kept in a table, and what a search passes. Assumes nothing.
 use Prim.Native.Nat.{ℕ, _+_, _≤_, _<_}
 use Rattle.lexer.proofs.Basics.{by-test}
-use Rattle.slots.specs.Filling.{Taken, Free, Kept, Cleared, Filled, slot·of}
+use Rattle.slots.specs.Filling.{Taken, Free, Kept, Cleared, Filled}
 use borrow.Author.Tests.{eqb-true, eqb-false, ltb-true, ltb-false}
 use lib.Dec.{eqb, ltb}
-use lib.ListN.{length, getD, take, set, length-set}
+use lib.ListN.{length, getD, set, length-set}
 use lib.Seq.{getD-set-same, getD-set-other, take-set-le}
 use mathlib.Core.List.{List}
-use mathlib.Core.Path.{_≡_, refl, sym, _∙_}
+use mathlib.Core.Path.{_≡_, refl, _∙_}
 use native.Mathlib.Omega.{arith}
 
 -- A slot more is taken.

@@ -1,6 +1,6 @@
 -- A search in a table, slot by slot. Assumes nothing.
 use Prim.Native.Nat.{ℕ, _+_, _≤_, _<_}
-use Rattle.lexer.proofs.Basics.{by-test, not-both}
+use Rattle.lexer.proofs.Basics.{by-test}
 use Rattle.slots.proofs.FillingLaws.{kept-next, none-kept}
 use Rattle.slots.specs.Filling.{Kept}
 use Rattle.slots.specs.Seeking.{Nearer}

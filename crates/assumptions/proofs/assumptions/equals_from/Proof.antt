@@ -3,7 +3,7 @@ use Rattle.assumptions.proofs.TypesetWalks.{at-end, at-done, at-refused
 use Rattle.assumptions.proofs.assumptions.equals_from.Statement.{statement}
 use Rattle.assumptions.proofs.assumptions.equals_from.Tie as tie
 use Rattle.assumptions.specs.TypesetWalk.{set·of, form·then, after·equals}
-use Rattle.block.specs.Typeset.{close, equals, typeset·turn, typeset·end}
+use Rattle.block.specs.Typeset.{equals, typeset·turn, typeset·end}
 use borrow.Author.Needs.{needs}
 use mathlib.Core.Path.{sym, _∙_}
 

@@ -3,7 +3,7 @@ use Rattle.assumptions.proofs.TypesetWalks.{at-end, at-done, at-alike}
 use Rattle.assumptions.proofs.assumptions.form_or_standard.Statement.{statement}
 use Rattle.assumptions.proofs.assumptions.form_or_standard.Tie as tie
 use Rattle.assumptions.specs.TypesetWalk.{set·of, form·then}
-use Rattle.block.specs.Typeset.{named, form, close, equals, typeset·turn, typeset·end}
+use Rattle.block.specs.Typeset.{named, form, equals, typeset·turn, typeset·end}
 use Rattle.lexer.specs.Base.{pick}
 use borrow.Author.Needs.{needs}
 use mathlib.Core.Path.{sym, _∙_}

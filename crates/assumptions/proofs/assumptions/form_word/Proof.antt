@@ -2,7 +2,7 @@
 use Rattle.assumptions.proofs.assumptions.form_word.Statement.{statement}
 use Rattle.assumptions.proofs.assumptions.form_word.Tie as tie
 use Rattle.assumptions.specs.TypesetWalk.{form·word}
-use Rattle.block.specs.Typeset.{close, typeset·turn}
+use Rattle.block.specs.Typeset.{typeset·turn}
 use Rattle.lexer.specs.Base.{pick, bytes}
 use Rattle.lexer.specs.Stored.{word·of}
 use borrow.Author.Needs.{needs}

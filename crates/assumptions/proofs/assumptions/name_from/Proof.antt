@@ -3,7 +3,7 @@ use Rattle.assumptions.proofs.TypesetWalks.{at-end, at-done, at-refused
 use Rattle.assumptions.proofs.assumptions.name_from.Statement.{statement}
 use Rattle.assumptions.proofs.assumptions.name_from.Tie as tie
 use Rattle.assumptions.specs.TypesetWalk.{set·of, placed·then}
-use Rattle.block.specs.Typeset.{name, named, close, typeset·turn, typeset·end}
+use Rattle.block.specs.Typeset.{name, named, typeset·turn, typeset·end}
 use Rattle.lexer.specs.Stored.{word·of}
 use borrow.Author.Needs.{needs}
 use mathlib.Core.Path.{sym, _∙_}

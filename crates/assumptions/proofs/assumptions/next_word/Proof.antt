@@ -2,7 +2,6 @@
 use Rattle.assumptions.proofs.NextWordLaws.{next-word}
 use Rattle.assumptions.proofs.assumptions.next_word.Statement.{statement}
 use Rattle.assumptions.proofs.assumptions.next_word.Tie as tie
-use Rattle.block.proofs.skip_newlines.Reads as skip-newlines-reads
 use borrow.Author.Needs.{needs}
 use mathlib.Core.Path.{refl}
 

@@ -3,7 +3,7 @@ use Rattle.assumptions.proofs.TypesetWalks.{at-end, at-done, at-alike}
 use Rattle.assumptions.proofs.assumptions.star_name.Statement.{statement}
 use Rattle.assumptions.proofs.assumptions.star_name.Tie as tie
 use Rattle.assumptions.specs.TypesetWalk.{set·of, placed·then}
-use Rattle.block.specs.Typeset.{star, name, close, typeset·turn, typeset·end}
+use Rattle.block.specs.Typeset.{star, name, typeset·turn, typeset·end}
 use Rattle.lexer.specs.Base.{pick}
 use borrow.Author.Needs.{needs}
 use mathlib.Core.Path.{sym, _∙_}

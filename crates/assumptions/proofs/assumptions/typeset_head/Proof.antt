@@ -2,7 +2,6 @@
 use Rattle.assumptions.proofs.assumptions.typeset_head.Statement.{statement}
 use Rattle.assumptions.proofs.assumptions.typeset_head.Tie as tie
 use Rattle.assumptions.specs.TypesetWalk.{placed·then, form·then}
-use Rattle.block.specs.Typeset.{close}
 use borrow.Author.Needs.{needs}
 use mathlib.Core.Path.{_∙_}
 

@@ -3,7 +3,6 @@ use Prim.Native.Nat.{_-_}
 use Rattle.block.proofs.WordCounts.{Counting, counting-start, counting-newline, counting-turn, counting-end}
 use Rattle.block.proofs.words.count_words.Statement.{statement}
 use Rattle.block.proofs.words.count_words.Tie as tie
-use Rattle.block.proofs.words.newline.Reads as newline-reads
 use borrow.Author.Needs.{needs}
 use mathlib.Core.Path.{sym, _∙_}
 

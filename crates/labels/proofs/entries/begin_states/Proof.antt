@@ -2,7 +2,6 @@
 use Rattle.labels.proofs.EntryTurns.{states-twice, states-begin}
 use Rattle.labels.proofs.entries.begin_states.Statement.{statement}
 use Rattle.labels.proofs.entries.begin_states.Tie as tie
-use Rattle.labels.proofs.labels.slot_given.Reads as slot-given-reads
 use Rattle.labels.specs.LabelEntries.{entered, entry·of}
 use borrow.Author.Needs.{needs}
 use native.Mathlib.Omega.{arith}

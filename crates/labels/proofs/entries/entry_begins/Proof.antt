@@ -1,11 +1,8 @@
 -- The function `entry_begins` meets its contract: one test after the other. Assumes nothing.
-use Rattle.block.proofs.words.number.Reads as number-reads
-use Rattle.block.proofs.words.punct.Reads as punct-reads
 use Rattle.labels.proofs.EntryTurns.{begins-comma, begins-outside, begins-number}
 use Rattle.labels.proofs.LabelSlotLaws.{held-length}
 use Rattle.labels.proofs.entries.entry_begins.Statement.{statement}
 use Rattle.labels.proofs.entries.entry_begins.Tie as tie
-use Rattle.labels.proofs.entries.entry_number.Reads as entry-number-reads
 use Rattle.labels.specs.LabelEntries.{entered}
 use Rattle.lexer.proofs.Basics.{and-left, and-right}
 use Rattle.lexer.specs.Stored.{word·of}

@@ -3,7 +3,6 @@ use Rattle.block.specs.Judged.{judged}
 use Rattle.block.specs.Labels.{entry·end}
 use Rattle.labels.proofs.entries.entry_end.Statement.{statement}
 use Rattle.labels.proofs.entries.entry_end.Tie as tie
-use Rattle.labels.proofs.entries.entry_states.Reads as entry-states-reads
 use Rattle.labels.specs.LabelEntries.{entry·of}
 use borrow.Author.Needs.{needs}
 use mathlib.Core.Path.{refl}

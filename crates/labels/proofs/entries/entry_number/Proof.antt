@@ -1,6 +1,5 @@
 -- The function `entry_number` meets its contract: by the command. Assumes nothing.
 use Rattle.block.specs.Labels.{entry·number}
-use Rattle.labels.proofs.entries.begin_states.Reads as begin-states-reads
 use Rattle.labels.proofs.entries.entry_number.Statement.{statement}
 use Rattle.labels.proofs.entries.entry_number.Tie as tie
 use Rattle.labels.specs.LabelEntries.{entered, entry·of}

@@ -1,10 +1,8 @@
 -- The function `entry_states` meets its contract: the count, and a store. Assumes nothing.
-use Rattle.block.proofs.words.count_words.Reads as count-words-reads
 use Rattle.block.specs.Judged.{judged}
 use Rattle.labels.proofs.EntryTurns.{states-many, states-few}
 use Rattle.labels.proofs.entries.entry_states.Statement.{statement}
 use Rattle.labels.proofs.entries.entry_states.Tie as tie
-use Rattle.labels.proofs.labels.put_slot.Reads as put-slot-reads
 use borrow.Author.Needs.{needs}
 use mathlib.Core.Path.{refl}
 

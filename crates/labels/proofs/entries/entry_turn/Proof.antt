@@ -1,11 +1,7 @@
 -- The function `entry_turn` meets its contract: by the place in the list. Assumes nothing.
 use Rattle.block.specs.Labels.{entry·turn}
-use Rattle.labels.proofs.entries.entry_begins.Reads as entry-begins-reads
 use Rattle.labels.proofs.entries.entry_turn.Statement.{statement}
 use Rattle.labels.proofs.entries.entry_turn.Tie as tie
-use Rattle.labels.proofs.entries.label_turn.Reads as label-turn-reads
-use Rattle.labels.proofs.entries.number_turn.Reads as number-turn-reads
-use Rattle.labels.proofs.entries.states_turn.Reads as states-turn-reads
 use Rattle.labels.specs.LabelEntries.{entry·of}
 use borrow.Author.Needs.{needs}
 use mathlib.Core.Path.{refl}

@@ -1,15 +1,12 @@
 use native.Mathlib.Omega.{arith}
 -- The function `label_entries` meets its contract: a turn for each word. The measure is what is left of the words. Assumes nothing.
 use Prim.Native.Nat.{_+_, _-_, _*_, _≤_, _<_}
-use Rattle.block.proofs.words.newline.Reads as newline-reads
 use Rattle.block.specs.Commands.{words}
 use Rattle.block.specs.Judged.{judged}
 use Rattle.block.specs.Labels as labels
 use Rattle.block.specs.Labels.{label·entries}
 use Rattle.block.specs.Outcome.{fold, then}
 use Rattle.labels.proofs.EntriesWalk.{entries·turn, Entering, entering-start, entering-newline, entering-turn, entering-refused, entering-end, ended-placed}
-use Rattle.labels.proofs.entries.entry_end.Reads as entry-end-reads
-use Rattle.labels.proofs.entries.entry_turn.Reads as entry-turn-reads
 use Rattle.labels.proofs.entries.label_entries.Statement.{statement}
 use Rattle.labels.proofs.entries.label_entries.Tie as tie
 use Rattle.labels.specs.LabelEntries.{command·of, entered}

@@ -1,7 +1,5 @@
 -- The function `label_turn` meets its contract: one test after the other. Assumes nothing.
-use Rattle.block.proofs.words.punct.Reads as punct-reads
 use Rattle.labels.proofs.EntryTurns.{label-comma, label-slash, label-more}
-use Rattle.labels.proofs.entries.begin_states.Reads as begin-states-reads
 use Rattle.labels.proofs.entries.label_turn.Statement.{statement}
 use Rattle.labels.proofs.entries.label_turn.Tie as tie
 use Rattle.labels.specs.LabelEntries.{entered, entry·of}

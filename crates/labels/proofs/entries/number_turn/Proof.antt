@@ -1,12 +1,9 @@
 -- The function `number_turn` meets its contract: one test after the other. Assumes nothing.
-use Rattle.block.proofs.words.punct.Reads as punct-reads
 use Rattle.block.specs.Judged.{judged}
 use Rattle.block.specs.Outcome.{then}
 use Rattle.labels.proofs.EntryTurns.{number-comma, number-slash, number-label}
-use Rattle.labels.proofs.entries.begin_states.Reads as begin-states-reads
 use Rattle.labels.proofs.entries.number_turn.Statement.{statement}
 use Rattle.labels.proofs.entries.number_turn.Tie as tie
-use Rattle.labels.proofs.labels.label_one.Reads as label-one-reads
 use Rattle.labels.specs.LabelEntries.{entered, entry·of}
 use borrow.Author.Needs.{needs}
 use mathlib.Core.Path.{refl, sym, _∙_}

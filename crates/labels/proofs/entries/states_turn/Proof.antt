@@ -1,11 +1,8 @@
 -- The function `states_turn` meets its contract: one test after the other. Assumes nothing.
 use Prim.Native.Nat.{_+_, _≤_}
-use Rattle.block.proofs.words.named.Reads as named-reads
-use Rattle.block.proofs.words.punct.Reads as punct-reads
 use Rattle.block.specs.Judged.{judged}
 use Rattle.block.specs.Outcome.{then}
 use Rattle.labels.proofs.EntryTurns.{names-grown, states-comma, states-more, states-nameless}
-use Rattle.labels.proofs.entries.entry_states.Reads as entry-states-reads
 use Rattle.labels.proofs.entries.states_turn.Statement.{statement}
 use Rattle.labels.proofs.entries.states_turn.Tie as tie
 use Rattle.labels.specs.LabelEntries.{entered, entry·of}

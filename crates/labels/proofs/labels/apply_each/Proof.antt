@@ -4,12 +4,10 @@ use Rattle.block.specs.Judged.{judged}
 use Rattle.labels.proofs.LabelCommands.{Applying, applying-start, applying-turn, applying-refused, applying-end, all-fit, both-below, not-below}
 use Rattle.labels.proofs.labels.apply_each.Statement.{statement}
 use Rattle.labels.proofs.labels.apply_each.Tie as tie
-use Rattle.labels.proofs.labels.command_at.Reads as command-at-reads
-use Rattle.labels.proofs.labels.label_command.Reads as label-command-reads
 use Rattle.labels.specs.LabelLists.{Fits}
 use borrow.Author.Needs.{needs}
 use lib.ListN.{length}
-use mathlib.Core.Path.{refl, _∙_}
+use mathlib.Core.Path.{_∙_}
 use native.Mathlib.Omega.{arith}
 
 abbrev Inv-loop : tie.InvT-loop

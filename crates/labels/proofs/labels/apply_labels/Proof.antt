@@ -1,9 +1,7 @@
 -- The function `apply_labels` meets its contract: all cleared, then one command after the other. Assumes nothing.
 use Rattle.labels.proofs.LabelCommands.{applied-clear}
-use Rattle.labels.proofs.labels.apply_each.Reads as apply-each-reads
 use Rattle.labels.proofs.labels.apply_labels.Statement.{statement}
 use Rattle.labels.proofs.labels.apply_labels.Tie as tie
-use Rattle.labels.proofs.labels.clear_labels.Reads as clear-labels-reads
 use borrow.Author.Needs.{needs}
 use mathlib.Core.Path.{_∙_}
 

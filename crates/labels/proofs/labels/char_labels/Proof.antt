@@ -1,10 +1,8 @@
 -- The function `char_labels` meets its contract: the count of words, and then each label. Assumes nothing.
-use Rattle.block.proofs.words.count_words.Reads as count-words-reads
 use Rattle.block.specs.Judged.{judged}
 use Rattle.labels.proofs.EachLabelled.{count-right, count-wrong}
 use Rattle.labels.proofs.labels.char_labels.Statement.{statement}
 use Rattle.labels.proofs.labels.char_labels.Tie as tie
-use Rattle.labels.proofs.labels.label_each.Reads as label-each-reads
 use borrow.Author.Needs.{needs}
 use mathlib.Core.Path.{refl, sym, _∙_}
 

@@ -1,7 +1,5 @@
 -- The function `label_command` meets its contract: by the command. Assumes nothing.
 use Rattle.labels.proofs.LabelCommands.{command-each, command-states, command-both}
-use Rattle.labels.proofs.entries.label_entries.Reads as label-entries-reads
-use Rattle.labels.proofs.labels.char_labels.Reads as char-labels-reads
 use Rattle.labels.proofs.labels.label_command.Statement.{statement}
 use Rattle.labels.proofs.labels.label_command.Tie as tie
 use borrow.Author.Needs.{needs}

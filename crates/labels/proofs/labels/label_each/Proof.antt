@@ -1,13 +1,10 @@
-use native.Mathlib.Omega.{arith}
 -- The function `label_each` meets its contract: a turn for each word, which labels the next character. The measure is what is left of the words. Assumes
 -- nothing.
-use Prim.Native.Nat.{_-_, _≤_}
-use Rattle.block.proofs.words.newline.Reads as newline-reads
+use Prim.Native.Nat.{_-_}
 use Rattle.block.specs.Judged.{judged}
 use Rattle.labels.proofs.EachLabelled.{Each, each-start, each-newline, each-turn, each-refused, each-full, each-end}
 use Rattle.labels.proofs.labels.label_each.Statement.{statement}
 use Rattle.labels.proofs.labels.label_each.Tie as tie
-use Rattle.labels.proofs.labels.label_one.Reads as label-one-reads
 use borrow.Author.Needs.{needs}
 use mathlib.Core.Path.{sym, _∙_}
 

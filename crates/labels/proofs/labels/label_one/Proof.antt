@@ -1,11 +1,8 @@
 -- The function `label_one` meets its contract: one test after the other, and a store. Assumes nothing.
-use Rattle.block.proofs.words.named.Reads as named-reads
 use Rattle.block.specs.Judged.{judged}
 use Rattle.labels.proofs.LabelTurns.{one-twice, one-nameless, one-new}
 use Rattle.labels.proofs.labels.label_one.Statement.{statement}
 use Rattle.labels.proofs.labels.label_one.Tie as tie
-use Rattle.labels.proofs.labels.put_slot.Reads as put-slot-reads
-use Rattle.labels.proofs.labels.slot_given.Reads as slot-given-reads
 use borrow.Author.Needs.{needs}
 use borrow.Author.Tests.{not-true, not-false}
 use mathlib.Core.Path.{refl, sym, _∙_}

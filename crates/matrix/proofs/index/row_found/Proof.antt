@@ -5,7 +5,7 @@ use Rattle.matrix.proofs.index.row_found.Statement.{statement}
 use Rattle.matrix.proofs.index.row_found.Tie as tie
 use Rattle.matrix.specs.Lines.{name·at}
 use borrow.Author.Needs.{needs}
-use mathlib.Core.Path.{refl, sym, _∙_}
+use mathlib.Core.Path.{refl, _∙_}
 use native.Mathlib.Omega.{arith}
 
 abbrev Inv-loop : tie.InvT-loop

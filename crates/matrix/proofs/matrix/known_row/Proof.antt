@@ -4,7 +4,6 @@ use Rattle.lexer.specs.Base.{given}
 use Rattle.matrix.proofs.PlaceWalk.{known-placed}
 use Rattle.matrix.proofs.matrix.known_row.Statement.{statement}
 use Rattle.matrix.proofs.matrix.known_row.Tie as tie
-use Rattle.matrix.proofs.index.row_found.Reads as row-found-reads
 use borrow.Author.Needs.{needs}
 
 row-found-requires : tie.Need-row-found-requires

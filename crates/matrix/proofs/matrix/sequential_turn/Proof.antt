@@ -4,7 +4,6 @@ use Rattle.matrix.proofs.matrix.sequential_turn.Tie as tie
 use Rattle.matrix.specs.SequentialShape.{cells·of·row, last, turn·shape}
 use borrow.Author.Needs.{needs}
 use mathlib.Core.Path.{refl}
-use native.Mathlib.Omega.{arith}
 
 enum-told : tie.Need-enum-told
 enum-told c = search needs

@@ -5,7 +5,6 @@ use Rattle.matrix.proofs.matrix.told_chunk.Tie as tie
 use Rattle.matrix.specs.RowShape.{chunked·of}
 use borrow.Author.Needs.{needs}
 use mathlib.Core.Path.{sym}
-use native.Mathlib.Omega.{arith}
 
 all-cells-requires : tie.Need-all-cells-requires
 all-cells-requires c κs = search needs

@@ -3,12 +3,12 @@ use Prim.Native.Nat.{_-_}
 use Rattle.block.specs.Cells.{index·of}
 use Rattle.block.specs.Judged.{judged}
 use Rattle.block.specs.declared.formats.Index.{Index}
-use Rattle.matrix.proofs.ArrangeWalk.{Arranging, arranging-start, arranging-room, word-here, names-here, found-place, arranging-newline, arranging-absent, arranging-turn, arranging-end}
+use Rattle.matrix.proofs.ArrangeWalk.{Arranging, arranging-start, arranging-room, word-here, found-place, arranging-newline, arranging-absent, arranging-turn, arranging-end}
 use Rattle.matrix.proofs.order.arrange_names.Statement.{statement}
 use Rattle.matrix.proofs.order.arrange_names.Tie as tie
 use Rattle.matrix.specs.OrderHeld.{Index·below}
 use borrow.Author.Needs.{needs}
-use mathlib.Core.Path.{sym, ap, _∙_}
+use mathlib.Core.Path.{sym, _∙_}
 use native.Mathlib.Omega.{arith}
 
 abbrev Inv-loop : tie.InvT-loop

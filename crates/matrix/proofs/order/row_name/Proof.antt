@@ -1,6 +1,5 @@
 -- The function `row_name` meets its contract. Assumes nothing.
 use Prim.Native.Nat.{_+_, _-_}
-use Rattle.lexer.proofs.start_of.Reads as start-of-reads
 use Rattle.matrix.proofs.order.row_name.Statement.{statement}
 use Rattle.matrix.proofs.order.row_name.Tie as tie
 use borrow.Author.Needs.{needs}

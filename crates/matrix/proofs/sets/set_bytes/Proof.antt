@@ -1,5 +1,4 @@
 -- The function `set_bytes` meets its contract. Assumes nothing.
-use Prim.Native.Nat.{_+_}
 use Rattle.matrix.proofs.SetLaws.{marks-told}
 use Rattle.matrix.proofs.sets.set_bytes.Statement.{statement}
 use Rattle.matrix.proofs.sets.set_bytes.Tie as tie

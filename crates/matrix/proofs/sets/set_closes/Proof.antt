@@ -1,5 +1,5 @@
 -- The function `set_closes` meets its contract. Assumes nothing.
-use Prim.Native.Nat.{_+_, _<_}
+use Prim.Native.Nat.{_+_}
 use Rattle.matrix.proofs.SetLaws.{set-told, starts-told}
 use Rattle.matrix.proofs.sets.set_closes.Statement.{statement}
 use Rattle.matrix.proofs.sets.set_closes.Tie as tie

@@ -1,6 +1,4 @@
 -- The function `format_of` meets its contract. Assumes nothing.
-use Rattle.block.proofs.formats.Format.default.Reads as default-reads
-use Rattle.block.proofs.formats.Format.of.Reads as of-reads
 use Rattle.parser.proofs.FormatHeld.{default-meant, given-meant}
 use Rattle.parser.proofs.reading.format_of.Statement.{statement}
 use Rattle.parser.proofs.reading.format_of.Tie as tie

@@ -1,7 +1,4 @@
 -- The function `matrix_reading` meets its contract: the rows, then their order and the labels. Assumes nothing.
-use Rattle.block.proofs.formats.Format.states.Reads as states-reads
-use Rattle.commands.proofs.map.map_fits.Reads as map-fits-reads
-use Rattle.matrix.proofs.rows_of.Reads as rows-of-reads
 use Rattle.parser.proofs.MatrixStored.{rows-told, rows-refused, rows-short, labels-told, labels-refused, labels-good}
 use Rattle.parser.proofs.reading.matrix_reading.Statement.{statement}
 use Rattle.parser.proofs.reading.matrix_reading.Tie as tie

@@ -1,5 +1,4 @@
 -- The function `matrix_stored` meets its contract. Assumes nothing.
-use Rattle.commands.proofs.data.in_data.Reads as in-data-reads
 use Rattle.parser.proofs.MatrixMade.{storing, storing-asks, storing-short, storing-done, storing-refused}
 use Rattle.parser.proofs.StorableLaws.{none-there}
 use Rattle.parser.proofs.reading.matrix_stored.Statement.{statement}

@@ -1,6 +1,4 @@
 -- The function `order_labels` meets its contract: the order, then the labels. Assumes nothing.
-use Rattle.commands.proofs.map.labels_place.Reads as labels-place-reads
-use Rattle.labels.proofs.apply_labels.Reads as apply-labels-reads
 use Rattle.parser.proofs.LabelsStored.{fits-order, labels-few, labels-room, labels-stored, order-refused}
 use Rattle.parser.proofs.reading.order_labels.Statement.{statement}
 use Rattle.parser.proofs.reading.order_labels.Tie as tie

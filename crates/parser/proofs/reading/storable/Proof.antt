@@ -1,5 +1,4 @@
 -- The function `storable` meets its contract: one test after the other. Assumes nothing.
-use Rattle.commands.proofs.blocks.matrix_given.Reads as matrix-given-reads
 use Rattle.commands.specs.MatrixHeld.{held}
 use Rattle.parser.proofs.StorableLaws.{storable-long, storable-short, both-short, none-held}
 use Rattle.parser.proofs.reading.storable.Statement.{statement}

@@ -1,5 +1,4 @@
 -- The function `symbols_few` meets its contract. Assumes nothing.
-use Rattle.block.proofs.formats.Format.of.Reads as of-reads
 use Rattle.parser.proofs.FormatHeld.{default-few, given-few}
 use Rattle.parser.proofs.reading.symbols_few.Statement.{statement}
 use Rattle.parser.proofs.reading.symbols_few.Tie as tie

@@ -1,6 +1,4 @@
 -- The function `taxa_order` meets its contract. Assumes nothing.
-use Rattle.commands.proofs.map.order_place.Reads as order-place-reads
-use Rattle.matrix.proofs.arrange.Reads as arrange-reads
 use Rattle.parser.proofs.OrderLaws.{order-few, order-room, order-none, order-arranged}
 use Rattle.parser.proofs.reading.taxa_order.Statement.{statement}
 use Rattle.parser.proofs.reading.taxa_order.Tie as tie

@@ -5,7 +5,6 @@ use Rattle.reading.proofs.NamePuts.{name-past, plain-name, text-name}
 use Rattle.reading.proofs.characters.put_name.Statement.{statement}
 use Rattle.reading.proofs.characters.put_name.Tie as tie
 use borrow.Author.Needs.{needs}
-use native.Mathlib.Omega.{arith}
 
 start-of-requires : tie.Need-start-of-requires
 start-of-requires c κs = search needs

@@ -3,7 +3,7 @@ use Rattle.reading.proofs.lines.put_next.Statement.{statement}
 use Rattle.reading.proofs.lines.put_next.Tie as tie
 use Rattle.reading.specs.RowWalk.{one·word, whole·set}
 use borrow.Author.Needs.{needs}
-use mathlib.Core.Path.{refl, sym, ap, _∙_}
+use mathlib.Core.Path.{refl}
 use native.Mathlib.Omega.{arith}
 
 set-closes-requires : tie.Need-set-closes-requires

@@ -1,7 +1,7 @@
 -- The function `set_letter` meets its contract. Assumes nothing.
 use Rattle.lexer.specs.Base.{pick}
-use Rattle.reading.proofs.cells.set_letter.Statement.{statement}
-use Rattle.reading.proofs.cells.set_letter.Tie as tie
+use Rattle.reading.proofs.sets.set_letter.Statement.{statement}
+use Rattle.reading.proofs.sets.set_letter.Tie as tie
 use Rattle.reading.specs.CodedCells.{letter·of}
 use borrow.Author.Tests.{eq-eqb, ne-eqb}
 

@@ -1,8 +1,8 @@
 -- The function `put_member` meets its contract, behind others or not. Assumes nothing.
 use Rattle.emit.proofs.PutLaws.{puts-as, puts-then}
 use Rattle.lexer.specs.Base.{pick}
-use Rattle.reading.proofs.cells.put_member.Statement.{statement}
-use Rattle.reading.proofs.cells.put_member.Tie as tie
+use Rattle.reading.proofs.sets.put_member.Statement.{statement}
+use Rattle.reading.proofs.sets.put_member.Tie as tie
 use Rattle.reading.specs.CodedCells.{dotted·on}
 use borrow.Author.Needs.{needs}
 

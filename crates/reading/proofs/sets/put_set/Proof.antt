@@ -1,7 +1,7 @@
 -- The function `put_set` meets its contract: the letter of its kind, and its states. Assumes nothing.
 use Rattle.reading.proofs.SetPieces.{brace-put, parenthesis-put}
-use Rattle.reading.proofs.cells.put_set.Statement.{statement}
-use Rattle.reading.proofs.cells.put_set.Tie as tie
+use Rattle.reading.proofs.sets.put_set.Statement.{statement}
+use Rattle.reading.proofs.sets.put_set.Tie as tie
 use borrow.Author.Needs.{needs}
 
 enum-told : tie.Need-enum-told

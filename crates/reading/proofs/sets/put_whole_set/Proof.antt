@@ -1,7 +1,7 @@
 -- The function `put_whole_set` meets its contract: a blank, the letter and the states. Assumes nothing.
 use Rattle.reading.proofs.WholePuts.{set-digits, whole-put}
-use Rattle.reading.proofs.cells.put_whole_set.Statement.{statement}
-use Rattle.reading.proofs.cells.put_whole_set.Tie as tie
+use Rattle.reading.proofs.sets.put_whole_set.Statement.{statement}
+use Rattle.reading.proofs.sets.put_whole_set.Tie as tie
 use borrow.Author.Needs.{needs}
 use native.Mathlib.Omega.{arith}
 

@@ -1,6 +1,6 @@
 -- The function `put_bits` meets its contract: the marks of the four states are those of its bits. Assumes nothing.
-use Rattle.reading.proofs.cells.put_bits.Statement.{statement}
-use Rattle.reading.proofs.cells.put_bits.Tie as tie
+use Rattle.reading.proofs.sets.put_bits.Statement.{statement}
+use Rattle.reading.proofs.sets.put_bits.Tie as tie
 use Rattle.reading.specs.CodedCells.{marks}
 use borrow.Author.Needs.{needs}
 

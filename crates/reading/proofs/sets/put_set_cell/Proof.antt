@@ -1,7 +1,7 @@
 -- The function `put_set_cell` meets its contract: a blank and the set. Assumes nothing.
 use Rattle.reading.proofs.RowPieces.{row-one}
-use Rattle.reading.proofs.cells.put_set_cell.Statement.{statement}
-use Rattle.reading.proofs.cells.put_set_cell.Tie as tie
+use Rattle.reading.proofs.sets.put_set_cell.Statement.{statement}
+use Rattle.reading.proofs.sets.put_set_cell.Tie as tie
 use borrow.Author.Needs.{needs}
 
 put-blank-requires : tie.Need-put-blank-requires

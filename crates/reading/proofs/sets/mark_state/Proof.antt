@@ -1,8 +1,8 @@
 -- The function `mark_state` meets its contract: a code from 96 on has no state. Assumes nothing.
 use Rattle.lexer.specs.Base.{pick}
 use Rattle.reading.proofs.MarkLaws.{states-high, states-low}
-use Rattle.reading.proofs.cells.mark_state.Statement.{statement}
-use Rattle.reading.proofs.cells.mark_state.Tie as tie
+use Rattle.reading.proofs.sets.mark_state.Statement.{statement}
+use Rattle.reading.proofs.sets.mark_state.Tie as tie
 use Rattle.reading.specs.CodedCells.{marked, topped}
 use borrow.Author.Needs.{needs}
 use borrow.Author.Tests.{le-ltb, lt-ltb}

@@ -2,8 +2,8 @@
 use Prim.Native.Nat.{_-_}
 use Rattle.lexer.proofs.NextBytes.{yielded}
 use Rattle.reading.proofs.MarkLaws.{Marking, marking-end, marking-start, marking-turn}
-use Rattle.reading.proofs.cells.mark_states.Statement.{statement}
-use Rattle.reading.proofs.cells.mark_states.Tie as tie
+use Rattle.reading.proofs.sets.mark_states.Statement.{statement}
+use Rattle.reading.proofs.sets.mark_states.Tie as tie
 use borrow.Author.Needs.{needs}
 use lib.ListN.{length}
 use native.Mathlib.Omega.{arith}

@@ -1,10 +1,10 @@
 -- The function `put_digits` meets its contract: a turn puts a mark and a digit. The measure is what is left of the states. Assumes nothing.
 use Prim.Native.Nat.{_-_}
 use Rattle.reading.proofs.WholePuts.{Digits·left, digits-end, digits-turn}
-use Rattle.reading.proofs.cells.put_digits.Statement.{statement}
-use Rattle.reading.proofs.cells.put_digits.Tie as tie
+use Rattle.reading.proofs.sets.put_digits.Statement.{statement}
+use Rattle.reading.proofs.sets.put_digits.Tie as tie
 use borrow.Author.Needs.{needs}
-use mathlib.Core.Path.{refl, _∙_}
+use mathlib.Core.Path.{refl}
 use native.Mathlib.Omega.{arith}
 
 abbrev Inv-loop : tie.InvT-loop

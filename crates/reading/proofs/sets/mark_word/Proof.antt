@@ -1,8 +1,8 @@
 -- The function `mark_word` meets its contract. Assumes nothing.
 use Rattle.matrix.specs.Taken.{states·taken}
 use Rattle.reading.proofs.WordCells.{word-none, word-some}
-use Rattle.reading.proofs.cells.mark_word.Statement.{statement}
-use Rattle.reading.proofs.cells.mark_word.Tie as tie
+use Rattle.reading.proofs.sets.mark_word.Statement.{statement}
+use Rattle.reading.proofs.sets.mark_word.Tie as tie
 use Rattle.reading.specs.CodedCells.{marked, topped}
 use borrow.Author.Needs.{needs}
 use borrow.Author.Tests.{not-false, not-true}

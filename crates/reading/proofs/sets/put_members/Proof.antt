@@ -2,8 +2,8 @@
 -- nothing.
 use Prim.Native.Nat.{_-_, _≤_}
 use Rattle.reading.proofs.SetPieces.{Members·left, left-end, left-put, left-skipped}
-use Rattle.reading.proofs.cells.put_members.Statement.{statement}
-use Rattle.reading.proofs.cells.put_members.Tie as tie
+use Rattle.reading.proofs.sets.put_members.Statement.{statement}
+use Rattle.reading.proofs.sets.put_members.Tie as tie
 use borrow.Author.Needs.{needs}
 use lib.ListN.{length}
 use mathlib.Core.Path.{_≡_, refl, _∙_}

@@ -1,8 +1,8 @@
 -- The function `clear` meets its contract. A turn makes one mark more 0. The measure is how many are left. Assumes nothing.
 use Prim.Native.Nat.{_-_, _≤_}
 use Rattle.reading.proofs.MarkLaws.{cleared-all, cleared-more, cleared-none}
-use Rattle.reading.proofs.cells.clear.Statement.{statement}
-use Rattle.reading.proofs.cells.clear.Tie as tie
+use Rattle.reading.proofs.sets.clear.Statement.{statement}
+use Rattle.reading.proofs.sets.clear.Tie as tie
 use Rattle.reading.specs.CodedCells.{Cleared}
 use borrow.Author.Needs.{needs}
 use denote.Ref.{now}
