@@ -1,7 +1,7 @@
 -- Words that are told by their bytes at once: plain bytes, and behind them one that ends a word whatever comes next.
-use Prim.Native.Nat.{ℕ, _+_, _-_, _≤_, _<_}
+use Prim.Native.Nat.{ℕ, zero, suc, _+_, _-_, _≤_, _<_}
 use lib.Dec.{eqb}
-use lib.ListN.{length, getD, take, drop}
+use lib.ListN.{length, getD, set, take, drop}
 use mathlib.Core.Bool.{Bool, true, _||_}
 use mathlib.Core.List.{List}
 use mathlib.Core.Path.{_≡_}
@@ -28,7 +28,12 @@ ends? b = eqb b (byte " ") || eqb b (byte "\r") || alone? b
 unfoldable pub word·byte : ℕ → ℕ
 word·byte b = pick (plain? b) 1 (pick (ends? b) 2 0)
 
--- That of every byte.
+-- So many entries of a table from a place on become a number.
+unfoldable pub filled : ℕ → ℕ → ℕ → List ℕ → List ℕ
+filled value i zero table = table
+filled value i (suc n) table = filled value (i + 1) n (set table i value)
+
+-- How each byte stands to a word.
 abbrev pub word·bytes : List ℕ
 word·bytes = tabulated word·byte 0 256
 

@@ -1,9 +1,9 @@
 // The class of each byte, and its symbol.
 
-ghost use Prim.Native.Nat.{_<_, _≤_, _+_};
+ghost use Prim.Native.Nat.{_<_, _≤_, _+_, _-_};
 ghost use Rattle.lexer.specs.ByteBlocks.{plain?};
 ghost use Rattle.lexer.specs.Classes.{class, symbol·of, wide·blank};
-ghost use Rattle.lexer.specs.PlainWords.{word·bytes};
+ghost use Rattle.lexer.specs.PlainWords.{filled, word·bytes};
 ghost use Rattle.lexer.specs.Scanning.{symbol·at};
 ghost use Rattle.lexer.specs.declared.Class.{Class};
 ghost use lib.ListN.{length, getD, drop};
@@ -52,278 +52,40 @@ const CLASSES: [[Class; 16]; 16] = [
     [Class::Part; 16],
 ];
 
-// How a byte stands to a word: it goes on with it, ends it, or one must look at more.
-const W: u8 = 1;
+// The entries of a table from a place up to an end become a number.
+fn fill(table: &mut [u8; 256], from: usize, end: usize, value: u8)
+    requires { ⌜ end ≤ 256 ⌝ }
+    ensures { λ _. ⌜ now (table .exit) ≡ filled value from (end - from) (now (table .entry)) ⌝ }
+{
+    let mut i = from;
+    while i < end {
+        table[i] = value;
+        i += 1;
+    }
+}
 
-const E: u8 = 2;
-
-const M: u8 = 0;
-
-// The same of every byte, a row for each sixteen.
-const WORD_BYTES: [u8; 256] = [
-    M,
-    M,
-    M,
-    M,
-    M,
-    M,
-    M,
-    M,
-    M,
-    M,
-    E,
-    M,
-    M,
-    E,
-    M,
-    M,
-    M,
-    M,
-    M,
-    M,
-    M,
-    M,
-    M,
-    M,
-    M,
-    M,
-    M,
-    M,
-    M,
-    M,
-    M,
-    M,
-    E,
-    M,
-    M,
-    M,
-    M,
-    M,
-    M,
-    M,
-    E,
-    E,
-    M,
-    M,
-    E,
-    W,
-    W,
-    M,
-    W,
-    W,
-    W,
-    W,
-    W,
-    W,
-    W,
-    W,
-    W,
-    W,
-    M,
-    E,
-    M,
-    E,
-    M,
-    W,
-    M,
-    W,
-    W,
-    W,
-    W,
-    W,
-    W,
-    W,
-    W,
-    W,
-    W,
-    W,
-    W,
-    W,
-    W,
-    W,
-    W,
-    W,
-    W,
-    W,
-    W,
-    W,
-    W,
-    W,
-    W,
-    W,
-    W,
-    M,
-    M,
-    M,
-    M,
-    W,
-    M,
-    W,
-    W,
-    W,
-    W,
-    W,
-    W,
-    W,
-    W,
-    W,
-    W,
-    W,
-    W,
-    W,
-    W,
-    W,
-    W,
-    W,
-    W,
-    W,
-    W,
-    W,
-    W,
-    W,
-    W,
-    W,
-    W,
-    E,
-    M,
-    E,
-    M,
-    M,
-    M,
-    M,
-    M,
-    M,
-    M,
-    M,
-    M,
-    M,
-    M,
-    M,
-    M,
-    M,
-    M,
-    M,
-    M,
-    M,
-    M,
-    M,
-    M,
-    M,
-    M,
-    M,
-    M,
-    M,
-    M,
-    M,
-    M,
-    M,
-    M,
-    M,
-    M,
-    M,
-    M,
-    M,
-    M,
-    M,
-    M,
-    M,
-    M,
-    M,
-    M,
-    M,
-    M,
-    M,
-    M,
-    M,
-    M,
-    M,
-    M,
-    M,
-    M,
-    M,
-    M,
-    M,
-    M,
-    M,
-    M,
-    M,
-    M,
-    M,
-    M,
-    M,
-    M,
-    M,
-    M,
-    M,
-    M,
-    M,
-    M,
-    M,
-    M,
-    M,
-    M,
-    M,
-    M,
-    M,
-    M,
-    M,
-    M,
-    M,
-    M,
-    M,
-    M,
-    M,
-    M,
-    M,
-    M,
-    M,
-    M,
-    M,
-    M,
-    M,
-    M,
-    M,
-    M,
-    M,
-    M,
-    M,
-    M,
-    M,
-    M,
-    M,
-    M,
-    M,
-    M,
-    M,
-    M,
-    M,
-    M,
-    M,
-    M,
-    M,
-    M,
-    M,
-    M,
-    M,
-    M,
-    M,
-    M,
-    M,
-    M,
-    M,
-    M,
-    M,
-    M,
-    M,
-    M,
-    M,
-];
-
-// How each byte stands to a word.
+// How each byte stands to a word: 1 goes on with it (letters, digits, `-`, `.`, `?` and `_`), 2 ends it whatever comes next (LF, CR, a blank, brackets of
+// sets, `,`, `;` and `=`), 0 is for all others.
 pub fn word_bytes() -> [u8; 256]
     ensures { λ r. ⌜ r ≡ word·bytes ⌝ }
 {
-    WORD_BYTES
+    let mut table = [0u8; 256];
+    fill(&mut table, 97, 123, 1);
+    fill(&mut table, 65, 91, 1);
+    fill(&mut table, 48, 58, 1);
+    fill(&mut table, 45, 47, 1);
+    table[63] = 1;
+    table[95] = 1;
+    table[10] = 2;
+    table[13] = 2;
+    table[32] = 2;
+    fill(&mut table, 40, 42, 2);
+    table[44] = 2;
+    table[59] = 2;
+    table[61] = 2;
+    table[123] = 2;
+    table[125] = 2;
+    table
 }
 
 // What a table has for a byte.

@@ -23,6 +23,7 @@ use commands::Data;
 use commands::Held;
 use commands::Matrix;
 use commands::Names;
+use commands::Phase;
 use commands::Sizes;
 use commands::State;
 use commands::Stepped;
