@@ -4,7 +4,6 @@ use Rattle.lexer.proofs.TableLaws.{Filling, filling-end, filling-start,
 use Rattle.lexer.proofs.classes.fill.Statement.{statement}
 use Rattle.lexer.proofs.classes.fill.Tie as tie
 use borrow.Author.Needs.{needs}
-use native.Mathlib.Omega.{arith}
 
 abbrev Inv-loop : tie.InvT-loop
 Inv-loop table₀ from end value i₀ table i = Filling value table₀ from end table i
