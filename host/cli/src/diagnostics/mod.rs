@@ -1,0 +1,124 @@
+//! A refusal as compilers show theirs: the file, the place, its line with a mark under the place, a
+//! sentence, and a hint where there is an obvious one.
+
+mod hints;
+mod snippet;
+mod words;
+
+pub use words::{line_of, word_at};
+
+use nexus::Refusal;
+
+use crate::json::Object;
+use crate::terminal::{Colour, Terminal};
+use hints::Seen;
+
+/// A refusal, and what was refused.
+#[derive(Clone, Copy, Debug)]
+pub struct Refused<'a> {
+    /// The name of what was refused, safe to show.
+    pub name: &'a str,
+    /// Its bytes.
+    pub text: &'a [u8],
+    /// Why.
+    pub refusal: Refusal,
+}
+
+impl Refused<'_> {
+    /// What is shown of it, with this hint.
+    pub fn shown(&self, terminal: &Terminal, hint: Option<&str>) -> String {
+        let mut shown = self.title(terminal);
+        let margin = match self.place() {
+            Some(line) => {
+                let margin = " ".repeat(self.refusal.line.to_string().len());
+                shown.push_str(&self.framed(terminal, &margin, line));
+                margin
+            }
+            None => {
+                let arrow = terminal.paint(Colour::Frame, " -->");
+                shown.push_str(&format!("{arrow} {}\n", self.name));
+                " ".to_string()
+            }
+        };
+        if let Some(hint) = hint {
+            let frame = terminal.paint(Colour::Frame, "=");
+            let word = terminal.paint(Colour::Hint, "hint");
+            shown.push_str(&format!("{margin} {frame} {word}: {hint}\n"));
+        }
+        shown.push('\n');
+        shown
+    }
+
+    /// An object of JSON that has it, with this hint.
+    pub fn object(&self, file: &str, hint: Option<&str>) -> Object {
+        let Refusal {
+            number,
+            line,
+            column,
+        } = self.refusal;
+        let object = Object::new().text("file", file).text("status", "refused");
+        let object = object.value("number", number).value("line", line);
+        let object = object.value("column", column);
+        let object = object.text("message", self.refusal.sentence());
+        match hint {
+            Some(hint) => object.text("hint", hint),
+            None => object,
+        }
+    }
+
+    /// The hint, where there is one.
+    pub fn hint(&self) -> Option<String> {
+        let word = self.place().map(|line| word_at(line, self.refusal.column));
+        hints::hint(&Seen {
+            number: self.refusal.number,
+            text: self.text,
+            word: word.unwrap_or_default(),
+            name: self.name,
+        })
+    }
+
+    /// The number and the sentence.
+    fn title(&self, terminal: &Terminal) -> String {
+        let number = terminal.error(&format!("error[{}]", self.refusal.number));
+        let sentence = terminal.paint(Colour::Title, self.refusal.sentence());
+        format!("{number}: {sentence}\n")
+    }
+
+    /// The line of the place, where the refusal has one.
+    fn place(&self) -> Option<&str> {
+        let text = std::str::from_utf8(self.text).ok()?;
+        match self.refusal.line {
+            0 => None,
+            line => Some(line_of(text, line)),
+        }
+    }
+
+    /// The file and the place, the line, and the mark under the place.
+    fn framed(&self, terminal: &Terminal, margin: &str, line: &str) -> String {
+        let Refusal {
+            line: number,
+            column,
+            ..
+        } = self.refusal;
+        let room = terminal.columns().saturating_sub(margin.len() + 4).max(20);
+        let cut = snippet::cut(line, column, self.marked(line), room);
+        let bar = terminal.paint(Colour::Frame, "|");
+        let head = terminal.paint(Colour::Frame, &format!("{margin}-->"));
+        let digits = terminal.paint(Colour::Frame, &number.to_string());
+        let blanks = " ".repeat(cut.before);
+        let marks = terminal.paint(Colour::Fault, &"^".repeat(cut.marks));
+        format!(
+            "{head} {}:{number}:{column}\n{margin} {bar}\n{digits} {bar} {}\n{margin} {bar} {blanks}{marks}\n",
+            self.name, cut.line
+        )
+    }
+
+    /// What is marked: the word at the place, or only the mark that opens what is left open.
+    fn marked<'t>(&self, line: &'t str) -> &'t str {
+        let word = word_at(line, self.refusal.column);
+        match (self.refusal.number, word.char_indices().nth(1)) {
+            (4 | 5, Some((second, _))) => &word[..second],
+            _ => word,
+        }
+    }
+}

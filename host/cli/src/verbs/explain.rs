@@ -1,0 +1,106 @@
+//! `nexus explain`: what a refusal means.
+
+use nexus::refusals::{self, Call, Entry, Example};
+
+use super::Verb;
+use crate::args::Asked;
+use crate::diagnostics::Refused;
+use crate::session::{Session, Stop};
+use crate::terminal::{Colour, Terminal};
+
+/// The verb.
+pub static VERB: Verb = Verb {
+    name: "explain",
+    operands: "[NUMBER]",
+    about: "say what a refusal means and how to mend it; without a number, list them",
+    more: "\
+It prints what the refusal means, a small text that is refused so, and how it is mended.",
+    flags: &[],
+    example: "\
+$ nexus explain 22",
+    needs_archive: false,
+    run,
+};
+
+fn run(asked: &Asked, session: &mut Session) -> Result<(), Stop> {
+    if asked.operands.is_empty() {
+        return session.result(list().as_bytes());
+    }
+    let [operand] = asked.exactly(&VERB)?;
+    let number = operand.to_str().and_then(|number| number.parse().ok());
+    let Some(entry) = number.and_then(refusals::entry) else {
+        let last = refusals::all().last().map_or(0, |entry| entry.number);
+        let message = format!("refusals have numbers from 1 to {last}");
+        return Err(Stop::wrong(&message, Some(VERB.name)));
+    };
+    let said = explained(entry, &session.screen);
+    session.result(said.as_bytes())
+}
+
+/// A line for each refusal.
+fn list() -> String {
+    let lines = refusals::all().map(|entry| format!("{:>2}  {}\n", entry.number, entry.title));
+    lines.collect()
+}
+
+/// All that there is to say of a refusal.
+fn explained(entry: &Entry, screen: &Terminal) -> String {
+    let title = |text: &str| screen.paint(Colour::Title, text);
+    let heading = format!("{}: {}", entry.number, entry.title);
+    format!(
+        "{}\n\n{}\n\n{}\n\n{}\n\n{}{}\n{}\n{}\n\n{}",
+        title(&heading),
+        entry.sentence,
+        filled(entry.meaning, screen),
+        filled(&format!("Its place: {}", entry.place), screen),
+        shown(&title("Refused"), &entry.refused),
+        refused(entry, screen),
+        title("How to mend it"),
+        filled(entry.mend, screen),
+        shown(&title("Mended"), &entry.mended),
+    )
+}
+
+/// The refusal of the example, as the command shows it.
+fn refused(entry: &Entry, screen: &Terminal) -> String {
+    let text = entry.refused.bytes();
+    let refused = Refused {
+        name: "example",
+        text: &text,
+        refusal: entry.refusal(),
+    };
+    refused.shown(screen, refused.hint().as_deref())
+}
+
+/// An example, with the call that it is for.
+fn shown(title: &str, example: &Example) -> String {
+    let call = match example.call() {
+        Call::Read => String::new(),
+        Call::ReadInto { work, buffer } => {
+            format!(", read with work memory of {work} numbers and a buffer of {buffer} bytes")
+        }
+        Call::Write => ", a record that is written".to_string(),
+        Call::Lookup(name) => format!(", a record in which \"{name}\" is looked up"),
+    };
+    let text = example.to_string();
+    let lines = text.lines().map(|line| format!("    {line}\n"));
+    format!("{title}{call}:\n\n{}\n", lines.collect::<String>())
+}
+
+/// The words in lines that are as wide as the screen, and 80 columns at most.
+fn filled(text: &str, screen: &Terminal) -> String {
+    let columns = screen.columns().min(80);
+    let mut lines = vec![String::new()];
+    for word in text.split_whitespace() {
+        let line = lines.last_mut().expect("a line");
+        if line.is_empty() {
+            line.push_str(word);
+        } else if crate::width::of(line) + 1 + crate::width::of(word) <= columns {
+            line.push(' ');
+            line.push_str(word);
+        } else {
+            lines.push(word.to_string());
+        }
+    }
+    lines.join("\n")
+}
