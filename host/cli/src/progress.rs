@@ -8,8 +8,8 @@ use crate::terminal::Terminal;
 /// The bar is drawn anew after so long.
 const PAUSE: Duration = Duration::from_millis(80);
 
-/// The columns of the bar itself.
-const LENGTH: usize = 30;
+/// The most columns of the bar itself; it takes a third of the terminal.
+const LONGEST: usize = 30;
 
 /// How far the work is.
 pub struct Progress {
@@ -37,7 +37,8 @@ impl Progress {
             return;
         }
         self.drawn = Some(Instant::now());
-        let line = line(done, self.total, refused);
+        let length = (self.columns / 3).min(LONGEST);
+        let line = line(done, self.total, refused, length);
         put(&format!(
             "\r{}\u{1b}[K",
             crate::width::cut(&line, self.columns.saturating_sub(1))
@@ -58,10 +59,10 @@ fn put(text: &str) {
     let _ = stream.flush();
 }
 
-/// The bar and its numbers.
-fn line(done: usize, total: usize, refused: usize) -> String {
-    let full = (done * LENGTH).checked_div(total).unwrap_or(LENGTH);
-    let bar = "#".repeat(full) + &"-".repeat(LENGTH - full);
+/// The bar, in so many columns, and its numbers.
+fn line(done: usize, total: usize, refused: usize, length: usize) -> String {
+    let full = (done * length).checked_div(total).unwrap_or(length);
+    let bar = "#".repeat(full) + &"-".repeat(length - full);
     let refused = match refused {
         0 => String::new(),
         n => format!(", {n} refused"),
@@ -75,13 +76,9 @@ mod tests {
 
     #[test]
     fn the_bar_grows() {
-        let at = |done, total| line(done, total, 0);
-        assert_eq!(at(0, 4), format!("[{}] 0 of 4 files", "-".repeat(30)));
-        let half = format!("[{}{}] 2 of 4 files", "#".repeat(15), "-".repeat(15));
-        assert_eq!(at(2, 4), half);
-        assert_eq!(
-            line(4, 4, 1),
-            format!("[{}] 4 of 4 files, 1 refused", "#".repeat(30))
-        );
+        assert_eq!(line(0, 4, 0, 8), "[--------] 0 of 4 files");
+        assert_eq!(line(2, 4, 0, 8), "[####----] 2 of 4 files");
+        assert_eq!(line(4, 4, 1, 8), "[########] 4 of 4 files, 1 refused");
+        assert_eq!(line(0, 0, 0, 3), "[###] 0 of 0 files");
     }
 }

@@ -16,7 +16,7 @@ pub struct Seen<'a> {
 pub fn hint(seen: &Seen<'_>) -> Option<String> {
     let word = seen.word.to_ascii_uppercase();
     let fixed = match seen.number {
-        1 => "a text has at most 1,048,576 bytes",
+        1 => "take out comments and blocks that are not read, or part the matrix",
         3 => return Some(encoding(seen)),
         4 => quote(seen.word),
         5 => "each `[` opens a comment, also within one, and needs a `]` of its own",

@@ -11,6 +11,7 @@ use nexus::Refusal;
 
 use crate::json::Object;
 use crate::terminal::{Colour, Terminal};
+use crate::width;
 use hints::Seen;
 
 /// A refusal, and what was refused.
@@ -41,9 +42,7 @@ impl Refused<'_> {
             }
         };
         if let Some(hint) = hint {
-            let frame = terminal.paint(Colour::Frame, "=");
-            let word = terminal.paint(Colour::Hint, "hint");
-            shown.push_str(&format!("{margin} {frame} {word}: {hint}\n"));
+            shown.push_str(&hinted(terminal, &margin, hint));
         }
         shown.push('\n');
         shown
@@ -121,4 +120,14 @@ impl Refused<'_> {
             _ => word,
         }
     }
+}
+
+/// A hint, in as many lines as it needs.
+fn hinted(terminal: &Terminal, margin: &str, hint: &str) -> String {
+    let frame = terminal.paint(Colour::Frame, "=");
+    let word = terminal.paint(Colour::Hint, "hint");
+    let room = terminal.columns().saturating_sub(margin.len() + 9).max(20);
+    let indent = format!("\n{margin}         ");
+    let lines = width::filled(hint, room).join(&indent);
+    format!("{margin} {frame} {word}: {lines}\n")
 }

@@ -118,7 +118,13 @@ mod tests {
         let line = format!("{} X {}", "a".repeat(50), "b".repeat(50));
         let blanks = |count| " ".repeat(count) + "^";
         let end = "b".repeat(18);
-        check(&line, 1, 20, &format!("{}…", "a".repeat(19)), &"^".repeat(19));
+        check(
+            &line,
+            1,
+            20,
+            &format!("{}…", "a".repeat(19)),
+            &"^".repeat(19),
+        );
         check(&line, 52, 20, "…aaaaaaaa X bbbbbbb…", &blanks(10));
         check(&line, 103, 20, &format!("…{end}b"), &blanks(19));
         check(&line, 104, 20, &format!("…{end}"), &blanks(19));

@@ -7,6 +7,7 @@ use crate::args::Asked;
 use crate::diagnostics::Refused;
 use crate::session::{Session, Stop};
 use crate::terminal::{Colour, Terminal};
+use crate::width;
 
 /// The verb.
 pub static VERB: Verb = Verb {
@@ -47,10 +48,9 @@ fn list() -> String {
 fn explained(entry: &Entry, screen: &Terminal) -> String {
     let title = |text: &str| screen.paint(Colour::Title, text);
     let heading = format!("{}: {}", entry.number, entry.title);
-    format!(
-        "{}\n\n{}\n\n{}\n\n{}\n\n{}{}\n{}\n{}\n\n{}",
+    let parts = [
         title(&heading),
-        entry.sentence,
+        entry.sentence.to_string(),
         filled(entry.meaning, screen),
         filled(&format!("Its place: {}", entry.place), screen),
         shown(&title("Refused"), &entry.refused),
@@ -58,11 +58,17 @@ fn explained(entry: &Entry, screen: &Terminal) -> String {
         title("How to mend it"),
         filled(entry.mend, screen),
         shown(&title("Mended"), &entry.mended),
-    )
+    ];
+    let parts = parts.iter().filter(|part| !part.is_empty());
+    let parts: Vec<&str> = parts.map(|part| part.trim_end()).collect();
+    parts.join("\n\n") + "\n"
 }
 
-/// The refusal of the example, as the command shows it.
+/// The refusal of the example, as the command shows it, where it has a place.
 fn refused(entry: &Entry, screen: &Terminal) -> String {
+    if entry.at == (0, 0) {
+        return String::new();
+    }
     let text = entry.refused.bytes();
     let refused = Refused {
         name: "example",
@@ -84,23 +90,10 @@ fn shown(title: &str, example: &Example) -> String {
     };
     let text = example.to_string();
     let lines = text.lines().map(|line| format!("    {line}\n"));
-    format!("{title}{call}:\n\n{}\n", lines.collect::<String>())
+    format!("{title}{call}:\n\n{}", lines.collect::<String>())
 }
 
 /// The words in lines that are as wide as the screen, and 80 columns at most.
 fn filled(text: &str, screen: &Terminal) -> String {
-    let columns = screen.columns().min(80);
-    let mut lines = vec![String::new()];
-    for word in text.split_whitespace() {
-        let line = lines.last_mut().expect("a line");
-        if line.is_empty() {
-            line.push_str(word);
-        } else if crate::width::of(line) + 1 + crate::width::of(word) <= columns {
-            line.push(' ');
-            line.push_str(word);
-        } else {
-            lines.push(word.to_string());
-        }
-    }
-    lines.join("\n")
+    width::filled(text, screen.columns().min(80)).join("\n")
 }

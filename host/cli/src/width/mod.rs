@@ -68,6 +68,21 @@ pub fn padded(text: &str, columns: usize) -> String {
     format!("{text}{}", " ".repeat(blanks))
 }
 
+/// The words of a text in lines of so many columns at most; a longer word has a line of its own.
+pub fn filled(text: &str, columns: usize) -> Vec<String> {
+    let mut lines: Vec<String> = Vec::new();
+    for word in text.split_whitespace() {
+        match lines.last_mut() {
+            Some(line) if of(line) + 1 + of(word) <= columns => {
+                line.push(' ');
+                line.push_str(word);
+            }
+            _ => lines.push(word.to_string()),
+        }
+    }
+    lines
+}
+
 #[cfg(test)]
 mod tests {
     use super::*;
@@ -131,6 +146,16 @@ mod tests {
         assert_eq!(cut("abc", 0), "");
         assert_eq!(padded("日", 4), "日  ");
         assert_eq!(padded("abc", 2), "abc");
+    }
+
+    #[test]
+    fn words_fill_lines() {
+        assert_eq!(filled("ab cd  efg\nh", 5), ["ab cd", "efg h"]);
+        assert_eq!(
+            filled("日本 語 abcdefgh i", 7),
+            ["日本 語", "abcdefgh", "i"]
+        );
+        assert!(filled(" ", 5).is_empty());
     }
 
     #[test]

@@ -49,10 +49,9 @@ unreadable), with `number`, `line`, `column` and `message` for what is refused; 
         FORMAT,
     ],
     example: "\
-$ nexus check incoming/
-$ nexus check --quiet *.nex
+$ nexus check --quiet incoming/
 10 files: 9 read, 1 refused
-  refused by 22, cell symbol: 1 file",
+     1  [22] cell symbol",
     needs_archive: true,
     run,
 };

@@ -54,7 +54,7 @@ impl Summary {
         let mut said = format!("{}: {}\n", files(self.total()), counts.join(", "));
         for (number, count) in &self.refused {
             let reason = nexus::refusals::entry(*number).map_or("", |entry| entry.title);
-            said.push_str(&format!("{:>8}  [{number}] {reason}\n", grouped(*count)));
+            said.push_str(&format!("{:>6}  [{number}] {reason}\n", grouped(*count)));
         }
         said
     }

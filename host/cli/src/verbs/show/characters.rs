@@ -7,7 +7,8 @@ use nexus::{Character, View};
 use crate::terminal::{Colour, Terminal};
 use crate::width;
 
-/// A longer label is cut, where there are state labels behind it.
+/// A longer label is cut, where there are state labels behind it, and one of more than a third of
+/// the terminal.
 const LONGEST_LABEL: usize = 30;
 
 /// Shows a line for each character; those in a row that have a type only share one.
@@ -21,7 +22,8 @@ pub fn show(
     let numbers = lines.iter().map(|line| line.numbers.len()).max();
     let labels = lines.iter().map(|line| width::of(&line.label)).max();
     let numbers = numbers.unwrap_or(0);
-    let labels = labels.unwrap_or(0).min(LONGEST_LABEL);
+    let most = limit.map_or(LONGEST_LABEL, |columns| LONGEST_LABEL.min(columns / 3));
+    let labels = labels.unwrap_or(0).min(most);
     writeln!(out, "\n{}", screen.paint(Colour::Title, "Characters"))?;
     for line in lines {
         let label = match line.states.is_empty() {

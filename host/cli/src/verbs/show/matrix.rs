@@ -104,8 +104,9 @@ impl Table<'_> {
             return Ok(());
         }
         writeln!(out)?;
-        for note in notes {
-            writeln!(out, "{}", self.screen.paint(Colour::Faint, &note))?;
+        let columns = limit.unwrap_or(usize::MAX);
+        for line in notes.iter().flat_map(|note| width::filled(note, columns)) {
+            writeln!(out, "{}", self.screen.paint(Colour::Faint, &line))?;
         }
         Ok(())
     }

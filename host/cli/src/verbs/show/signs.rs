@@ -82,6 +82,6 @@ impl Met {
         ];
         let met = kinds.into_iter().filter(|(met, _)| *met);
         let said: Vec<String> = met.map(|(_, said)| said).collect();
-        said.join("   ")
+        said.join(", ")
     }
 }
