@@ -32,15 +32,16 @@ fn answer(arguments: &[OsString], session: &mut Session) -> Result<(), Stop> {
     let Some((first, rest)) = arguments.split_first() else {
         return Err(Stop::wrong("a verb is missing", None));
     };
+    let columns = session.screen.columns().min(80);
     match first.to_str() {
-        Some("--help" | "-h") => return session.result(help::whole().as_bytes()),
+        Some("--help" | "-h") => return session.result(help::whole(columns).as_bytes()),
         Some("--version" | "-V") => return session.result(help::version().as_bytes()),
         _ => {}
     }
     let verb = verbs::named(first)?;
     let asked = Asked::parse(verb, rest)?;
     if asked.help {
-        return session.result(help::of(verb).as_bytes());
+        return session.result(help::of(verb, columns).as_bytes());
     }
     if verb.needs_archive && !nexus::archive::LINKED {
         return Err(Stop::Failed(nexus::archive::NOT_LINKED.to_string()));

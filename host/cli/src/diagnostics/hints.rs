@@ -12,11 +12,19 @@ pub struct Seen<'a> {
     pub name: &'a str,
 }
 
+impl Seen<'_> {
+    /// Does the text have these letters somewhere, in any case?
+    fn has(&self, letters: &str) -> bool {
+        let mut windows = self.text.windows(letters.len());
+        windows.any(|window| window.eq_ignore_ascii_case(letters.as_bytes()))
+    }
+}
+
 /// What may mend it.
 pub fn hint(seen: &Seen<'_>) -> Option<String> {
     let word = seen.word.to_ascii_uppercase();
     let fixed = match seen.number {
-        1 => "take out comments and blocks that are not read, or part the matrix",
+        1 => "take out comments and a TREES block, or part the matrix",
         3 => return Some(encoding(seen)),
         4 => quote(seen.word),
         5 => "each `[` opens a comment, also within one, and needs a `]` of its own",
@@ -46,6 +54,7 @@ fn later(seen: &Seen<'_>, word: &str) -> Option<String> {
         21 => "states, MISSING and GAP are all different, and there are two states at least",
         22 => return symbol(seen),
         23 => "write a set as {01} or (01): one state at least, and the bracket that closes it",
+        24 if seen.has("INTERLEAVE") => "each page has all names in one order, and one width",
         24 => "count the cells of this row: a set in brackets is one, and NCHAR says how many",
         25 => "each name of TAXLABELS needs a row, spelled as there",
         26 => "write an entry as `2 label / first second`: its number, and states behind a `/`",
@@ -85,7 +94,7 @@ fn newlines(bytes: &[u8]) -> usize {
 
 fn quote(word: &str) -> &'static str {
     match word.starts_with('\'') {
-        true => "close it; a quote or apostrophe within a name is written twice: 'St John''s'",
+        true => "close it; a quote or apostrophe within a name is written twice: 'Grevy''s'",
         false => "close it with another double quote",
     }
 }
@@ -120,7 +129,10 @@ fn block(word: &str) -> &'static str {
         "TAXA" => "TAXA stands once, before the matrix",
         "DATA" | "CHARACTERS" => "a text has one matrix, in one DATA or CHARACTERS block",
         "ASSUMPTIONS" => "ASSUMPTIONS stands once, behind the matrix",
-        _ => "take this block out: TAXA, DATA, CHARACTERS and ASSUMPTIONS are read, others not",
+        _ => {
+            "take this block out: TAXA, DATA, CHARACTERS and ASSUMPTIONS are read, TREES is \
+            passed over, and there are no others"
+        }
     }
 }
 
@@ -166,13 +178,9 @@ fn option(word: &str) -> &'static str {
 
 /// A gap that nobody declared is the likeliest; else the symbols are not those of the cells.
 fn symbol(seen: &Seen<'_>) -> Option<String> {
-    let has = |word: &[u8]| {
-        let mut windows = seen.text.windows(word.len());
-        windows.any(|window| window.eq_ignore_ascii_case(word))
-    };
-    let hint = if seen.word.contains('-') && !has(b"GAP") && !has(b"DNA") {
+    let hint = if seen.word.contains('-') && !seen.has("GAP") && !seen.has("DNA") {
         "is `-` a gap? Then write `FORMAT GAP=-`"
-    } else if has(b"DNA") {
+    } else if seen.has("DNA") {
         "the symbols of DNA are ACGT, the IUPAC codes, and those of MISSING and GAP"
     } else {
         "declare each symbol: `FORMAT SYMBOLS=\"012\" MISSING=? GAP=-`"
@@ -180,17 +188,25 @@ fn symbol(seen: &Seen<'_>) -> Option<String> {
     Some(hint.to_string())
 }
 
+/// What bytes that are no record may be. What is wrong within one is not looked for.
 fn no_record(seen: &Seen<'_>) -> Option<String> {
     let start = seen.text.trim_ascii_start();
-    let nexus = start
-        .get(..6)
-        .is_some_and(|first| first.eq_ignore_ascii_case(b"#NEXUS"));
-    nexus.then(|| {
-        format!(
-            "this looks like NEXUS; `nexus read {}` makes a record of it",
-            seen.name
-        )
-    })
+    let first = start.get(..6).unwrap_or_default();
+    let hint = if first.eq_ignore_ascii_case(b"#NEXUS") {
+        let name = seen.name;
+        return Some(format!(
+            "this looks like NEXUS; `nexus read {name}` makes a record of it"
+        ));
+    } else if !seen.text.starts_with(b"datatype=") {
+        "a record begins with `datatype=`; `nexus read` makes one of a NEXUS file"
+    } else if seen.text.windows(2).any(|pair| pair == b"\r\n") {
+        "the lines of a record end in LF, and some of these in CR LF"
+    } else if !seen.text.ends_with(b"\n") {
+        "the last line of a record ends in LF too"
+    } else {
+        return None;
+    };
+    Some(hint.to_string())
 }
 
 #[cfg(test)]
@@ -212,9 +228,8 @@ mod tests {
         let none: Vec<u32> = (1..=33)
             .filter(|n| said(*n, b"x", "x").is_empty())
             .collect();
-        // Memory is not a text's fault; whether a record is one, only its beginning tells; names
-        // are looked for where the lookup is.
-        assert_eq!(none, [2, 30, 31, 33]);
+        // Memory is not a text's fault, and names are looked for where the lookup is.
+        assert_eq!(none, [2, 30, 33]);
     }
 
     #[test]
@@ -236,7 +251,10 @@ mod tests {
         assert!(said(6, b" \n", "").contains("empty"));
         assert!(said(6, b"NEXUS\n", "NEXUS").contains("#NEXUS"));
         assert!(said(31, b"\n#nexus begin data;", "").contains("`nexus read a.nex`"));
-        assert!(said(31, b"#nex", "").is_empty());
+        assert!(said(31, b"#nex", "").contains("begins with `datatype=`"));
+        assert!(said(31, b"datatype=DNA\r\n", "").contains("CR LF"));
+        assert!(said(31, b"datatype=DNA", "").contains("ends in LF"));
+        assert!(said(31, b"datatype=DNA\n", "").is_empty());
     }
 
     #[test]

@@ -106,10 +106,10 @@ impl Refused<'_> {
         let digits = terminal.paint(Colour::Frame, &number.to_string());
         let blanks = " ".repeat(cut.before);
         let marks = terminal.paint(Colour::Fault, &"^".repeat(cut.marks));
-        format!(
-            "{head} {}:{number}:{column}\n{margin} {bar}\n{digits} {bar} {}\n{margin} {bar} {blanks}{marks}\n",
-            self.name, cut.line
-        )
+        let place = format!("{head} {}:{number}:{column}\n{margin} {bar}", self.name);
+        let source = format!("{digits} {bar} {}", cut.line);
+        let source = source.trim_end();
+        format!("{place}\n{source}\n{margin} {bar} {blanks}{marks}\n")
     }
 
     /// What is marked: the word at the place, or only the mark that opens what is left open.

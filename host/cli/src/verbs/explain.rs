@@ -13,9 +13,10 @@ use crate::width;
 pub static VERB: Verb = Verb {
     name: "explain",
     operands: "[NUMBER]",
-    about: "say what a refusal means and how to mend it; without a number, list them",
+    about: "say what a refusal means and how to mend it",
     more: "\
-It prints what the refusal means, a small text that is refused so, and how it is mended.",
+It prints what the refusal with this number means, a small text that is refused so, and how it is
+mended. Without a number it lists all refusals.",
     flags: &[],
     example: "\
 $ nexus explain 22",

@@ -26,7 +26,7 @@ With --format json there is an object on a line: `file`, `status` (found, refuse
 `name`, and `cells`.",
     flags: &[FORMAT],
     example: "\
-$ nexus read primates.nex | nexus lookup - 'Homo sapiens'
+$ nexus lookup primates.record 'Homo sapiens'
 0 1 u0.1 m",
     needs_archive: true,
     run,

@@ -17,6 +17,7 @@ The text says what the record says, and reading it gives the same record again, 
 records have the same text exactly where they are the same.",
     flags: &[],
     example: "\
+$ nexus write primates.record > tidy.nex
 $ nexus read primates.nex | nexus write - > tidy.nex",
     needs_archive: true,
     run,

@@ -20,9 +20,9 @@ use voice::Voice;
 pub static VERB: Verb = Verb {
     name: "check",
     operands: "FILE..",
-    about: "say which of many files and folders are refused, and why",
+    about: "say which files are refused, and why",
     more: "\
-Every file is judged; nothing is written. Each refusal is shown, in the order of the files, and then a
+FILE is a file or a folder. Every file is judged; nothing is written. Each refusal is shown, in the order of the files, and then a
 summary with the number of files by refusal. All cores work at it.
 
 Of a folder, and of the folders in it, the files with the endings .nex, .nexus and .nxs are taken, in

@@ -77,7 +77,7 @@ impl Table<'_> {
             let cells = taxon.cells().skip(self.layout.first);
             let mut behind = 0;
             for (place, (width, cell)) in self.layout.widths.iter().zip(cells).enumerate() {
-                met.note(&cell);
+                met.note(&cell, self.signs);
                 line.push_str(&" ".repeat(behind + self.layout.blanks(place)));
                 line.push_str(&self.signs.shown(&cell, self.screen));
                 behind = width - self.signs.width(&cell);

@@ -23,8 +23,8 @@ pub static VERB: Verb = Verb {
     about: "show a matrix as a table, and its characters",
     more: "\
 FILE is a NEXUS file or a record. Each taxon is a line, with its cells under the numbers of their
-characters: the symbols of states, `{..}` where it is one of several, `(..)` where it is all of them,
-`?` missing and `-` a gap. Then come the characters with their types, labels and state labels.
+characters: the symbols of states, `{..}` where it is one of several (of DNA its IUPAC code), `(..)`
+where it is all of them, `?` missing and `-` a gap. Then come the characters with their types, labels and state labels.
 
 A matrix that is wider than the terminal is cut, and a note says what is left out. Where the table
 does not go to a terminal it is whole. COLUMNS says how many columns there are, if the terminal is

@@ -1,0 +1,12 @@
+//! The command, run as people run it.
+
+mod absent;
+mod ends;
+mod json;
+mod manual;
+mod many;
+mod out;
+mod programs;
+mod run;
+mod sessions;
+mod terminal;

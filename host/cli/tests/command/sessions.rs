@@ -1,0 +1,108 @@
+//! Sessions that are kept: lines `$ COMMAND`, each with all that is printed behind it, and the exit
+//! status where that is not 0. They stand in tests/sessions and, one for each refusal, in
+//! tests/refused, beside the files that they use.
+//!
+//! NEXUS_SESSIONS=write writes what is printed into them, in place of what they say. Read the
+//! difference before it is kept.
+
+use std::collections::BTreeSet;
+use std::fs;
+use std::path::{Path, PathBuf};
+
+use crate::run::{Folder, NEXUS, finished, plain};
+
+/// The session with all that its commands print in the folder.
+fn played(session: &str, folder: &Folder) -> String {
+    let program = Path::new(NEXUS).parent().expect("a folder");
+    let path = std::env::var("PATH").unwrap_or_default();
+    let path = format!("{}:{path}", program.display());
+    let commands = session.lines().filter_map(|line| line.strip_prefix("$ "));
+    let mut played = String::new();
+    for command in commands {
+        let mut shell = plain("sh");
+        let joined = format!("{{ {command}\n}} 2>&1");
+        shell.arg("-c").arg(joined).current_dir(&folder.0);
+        let done = finished(shell.env("PATH", &path), b"");
+        played.push_str(&format!("$ {command}\n{}", done.out));
+        if done.status != 0 {
+            played.push_str(&format!("[exit status {}]\n", done.status));
+        }
+    }
+    played
+}
+
+fn tests() -> PathBuf {
+    Path::new(env!("CARGO_MANIFEST_DIR")).join("tests")
+}
+
+/// The files of a folder, in order.
+fn files_of(folder: &Path) -> Vec<PathBuf> {
+    let entries = fs::read_dir(folder).expect("a folder");
+    let mut files: Vec<PathBuf> = entries.map(|e| e.expect("an entry").path()).collect();
+    files.sort();
+    files
+}
+
+/// Plays all sessions of a folder where its files are, and compares; the names of the sessions and
+/// what is printed in them.
+#[track_caller]
+fn hold(name: &str, more: impl Fn(&Folder)) -> Vec<(String, String)> {
+    let (sessions, files): (Vec<_>, Vec<_>) = files_of(&tests().join(name))
+        .into_iter()
+        .partition(|file| file.extension().is_some_and(|ending| ending == "txt"));
+    let rewrite = std::env::var("NEXUS_SESSIONS").is_ok_and(|value| value == "write");
+    let mut held = Vec::new();
+    for session in sessions {
+        let stem = session.file_stem().expect("a name").to_string_lossy();
+        let folder = Folder::new(&format!("{name}-{stem}"));
+        for file in &files {
+            let target = folder.0.join(file.file_name().expect("a name"));
+            fs::copy(file, target).expect("a copy");
+        }
+        more(&folder);
+        let kept = fs::read_to_string(&session).expect("a session");
+        let played = played(&kept, &folder);
+        if rewrite {
+            fs::write(&session, &played).expect("a session is written");
+        } else {
+            assert_eq!(played, kept, "{}", session.display());
+        }
+        held.push((stem.into_owned(), played));
+    }
+    held
+}
+
+#[test]
+#[cfg_attr(not(archive), ignore = "no archive; tools/test-calls makes it")]
+fn verbs() {
+    assert!(hold("sessions", |_| ()).len() >= 6);
+}
+
+/// A text of one byte too many, and a record whose form is one: each is made here, being long.
+fn long_files(folder: &Folder) {
+    let text = [inputs::example::TEXT.as_bytes(), &[b' '; inputs::MEGABYTE]].concat();
+    folder.put("01-long.nex", &text[..inputs::MEGABYTE + 1]);
+    let quotes = format!("name={}", "'".repeat(inputs::MEGABYTE / 2));
+    let record = inputs::example::RECORD.replace("name=C", &quotes);
+    folder.put("32-long.record", record);
+}
+
+/// Each number has a session, in which it is met. No file is refused by 2 or 30: they are about
+/// memory that is lent, and the command lends enough.
+#[test]
+#[cfg_attr(not(archive), ignore = "no archive; tools/test-calls makes it")]
+fn refusals() {
+    let held = hold("refused", long_files);
+    for (number, played) in &held {
+        let number = number.trim_start_matches('0');
+        let met = played.matches(&format!("error[{number}]: ")).count();
+        let all = played.matches("error[").count();
+        let asked = played.lines().filter(|l| l.starts_with("$ ")).count();
+        assert!(met == asked && all == asked, "{number}: {played}");
+        let refused = played.matches("[exit status 1]").count();
+        assert_eq!(refused, asked, "{number}");
+    }
+    let numbers: BTreeSet<u32> = held.iter().map(|(n, _)| n.parse().expect("n")).collect();
+    let expected = (1..=33).filter(|number| ![2, 30].contains(number));
+    assert_eq!(numbers, expected.collect());
+}
