@@ -162,7 +162,7 @@ fn files_that_cannot_be_read() {
     assert_eq!(check.out, "3 files: 1 read, 0 refused, 2 cannot be read\n");
     assert_eq!(check.status, 2);
     let closed = folder.put("closed.nex", TEXT);
-    fs::set_permissions(&closed, fs::Permissions::from_mode(0)).expect("permissions");
+    fs::set_permissions(&closed, fs::Permissions::from_mode(0o000)).expect("permissions");
     // Where this user may read everything, the file is read.
     let open = File::open(&closed).is_ok();
     let check = folder.run(["check", "closed.nex"]);

@@ -103,6 +103,16 @@ fn names_and_labels() {
     }
 }
 
+/// Puts the texts into files of a folder; their names, which rise.
+fn put_all(folder: &Folder, texts: &[Vec<u8>]) -> Vec<String> {
+    let named = texts.iter().enumerate().map(|(number, text)| {
+        let name = format!("{number:03}.nex");
+        folder.put(&name, text);
+        name
+    });
+    named.collect()
+}
+
 /// On generated and damaged texts `read` and `check` say what the library says, file by file. So
 /// `check`, which lends no buffer for records, refuses what `read` refuses.
 #[test]
@@ -110,21 +120,16 @@ fn names_and_labels() {
 fn generated_texts() {
     let folder = Folder::new("programs-generated");
     let texts: Vec<Vec<u8>> = (0..600).map(|n| oracle::generate::text(71, n)).collect();
-    let name = |number: usize| format!("{number:03}.nex");
-    for (number, text) in texts.iter().enumerate() {
-        folder.put(name(number), text);
-    }
+    let names = put_all(&folder, &texts);
     let check = folder.run(["check", "--format", "json", "."]);
-    let mut arguments = vec!["read".to_string()];
-    arguments.extend((0..texts.len()).map(name));
-    let read = folder.run(&arguments);
+    let read = folder.run(["read"].into_iter().chain(names.iter().map(String::as_str)));
     assert_eq!((check.status, check.err.as_str()), (1, ""));
     assert_eq!(read.status, 1);
     let lines = Json::lines(&check.out);
     assert_eq!(lines.len(), texts.len() + 1);
     let mut records = 0;
-    for (number, (text, line)) in texts.iter().zip(&lines).enumerate() {
-        assert_eq!(line.get("file").text(), format!("./{}", name(number)));
+    for ((text, line), name) in texts.iter().zip(&lines).zip(&names) {
+        assert_eq!(line.get("file").text(), format!("./{name}"));
         match nexus::read(text) {
             Ok(_) => {
                 records += 1;
@@ -153,24 +158,16 @@ fn generated_texts() {
 #[cfg_attr(not(archive), ignore = "no archive; tools/test-calls makes it")]
 fn generated_records() {
     let folder = Folder::new("programs-records");
-    let texts: Vec<String> = (0..200)
-        .map(|n| oracle::generate::sound_pair(72, n).1)
-        .collect();
-    let name = |number: usize| format!("{number:03}.nex");
-    for (number, text) in texts.iter().enumerate() {
-        folder.put(name(number), text);
-    }
-    let mut arguments = vec!["read".to_string(), "--format=json".to_string()];
-    arguments.extend((0..texts.len()).map(name));
-    let done = folder.run(&arguments);
+    let texts = (0..200).map(|n| oracle::generate::sound_pair(72, n).1.into_bytes());
+    let texts: Vec<Vec<u8>> = texts.collect();
+    let names = put_all(&folder, &texts);
+    let arguments = ["read", "--format=json"].into_iter();
+    let done = folder.run(arguments.chain(names.iter().map(String::as_str)));
     assert_eq!((done.status, done.err.as_str()), (0, ""));
     let lines = Json::lines(&done.out);
     assert_eq!(lines.len(), texts.len());
     for (text, line) in texts.iter().zip(&lines) {
-        hold(
-            line.get("record"),
-            &nexus::read(text.as_bytes()).expect("a record"),
-        );
+        hold(line.get("record"), &nexus::read(text).expect("a record"));
     }
 }
 
