@@ -1,6 +1,7 @@
 //! The arguments of a verb: its options, and its operands.
 
 use std::ffi::{OsStr, OsString};
+use std::os::unix::ffi::OsStrExt;
 
 use crate::session::Stop;
 use crate::verbs::{Flag, Verb};
@@ -132,32 +133,18 @@ impl Asked {
 
 /// A lone `-` is standard input, and no option.
 fn is_option(argument: &OsStr) -> bool {
-    let bytes = argument.as_encoded_bytes();
+    let bytes = argument.as_bytes();
     bytes.len() > 1 && bytes[0] == b'-'
 }
 
 /// The option's name, and the value that is joined to it by `=`.
 fn split(argument: &OsStr) -> (String, Option<OsString>) {
-    let whole = argument.to_string_lossy();
-    match (argument.to_str(), whole.split_once('=')) {
-        (Some(_), Some((name, value))) => (name.to_string(), Some(value.into())),
-        (None, Some((name, _))) => (name.to_string(), joined_bytes(argument)),
-        _ => (whole.into_owned(), None),
-    }
-}
-
-/// The value behind `=` of an argument that is not UTF-8.
-#[cfg(unix)]
-fn joined_bytes(argument: &OsStr) -> Option<OsString> {
-    use std::os::unix::ffi::{OsStrExt, OsStringExt};
     let mut parts = argument.as_bytes().splitn(2, |byte| *byte == b'=');
-    parts.nth(1).map(|value| OsString::from_vec(value.to_vec()))
-}
-
-#[cfg(not(unix))]
-fn joined_bytes(argument: &OsStr) -> Option<OsString> {
-    let lossy = argument.to_string_lossy();
-    lossy.split_once('=').map(|(_, value)| value.into())
+    let name = parts.next().unwrap_or_default();
+    let value = parts
+        .next()
+        .map(|value| OsStr::from_bytes(value).to_os_string());
+    (String::from_utf8_lossy(name).into_owned(), value)
 }
 
 fn unknown(name: &str, verb: &Verb) -> String {

@@ -8,8 +8,6 @@ pub struct Seen<'a> {
     pub text: &'a [u8],
     /// The word at the place.
     pub word: &'a str,
-    /// The name of what was refused.
-    pub name: &'a str,
 }
 
 impl Seen<'_> {
@@ -28,12 +26,12 @@ pub fn hint(seen: &Seen<'_>) -> Option<String> {
         3 => return Some(encoding(seen)),
         4 => quote(seen.word),
         5 => "each `[` opens a comment, also within one, and needs a `]` of its own",
-        6 => return beginning(seen),
+        6 => beginning(seen),
         7 => "take this `;` out",
         8 => "put a `;` behind the last word of this command",
         9 => "close the block with `END;`",
         10 => "write `END;` and nothing between",
-        11 => return Some(no_block(&word)),
+        11 => no_block(&word),
         12 => block(&word),
         13 => command(&word),
         14 => absent(&word),
@@ -52,7 +50,7 @@ fn later(seen: &Seen<'_>, word: &str) -> Option<String> {
     let fixed = match seen.number {
         20 => option(word),
         21 => "states, MISSING and GAP are all different, and there are two states at least",
-        22 => return symbol(seen),
+        22 => symbol(seen),
         23 => "write a set as {01} or (01): one state at least, and the bracket that closes it",
         24 if seen.has("INTERLEAVE") => "each page has all names in one order, and one width",
         24 => "count the cells of this row: a set in brackets is one, and NCHAR says how many",
@@ -61,7 +59,7 @@ fn later(seen: &Seen<'_>, word: &str) -> Option<String> {
         27 => "write `TYPESET * name = ORD: 1-3, UNORD: 4;`",
         28 => "write numbers from 1 to NCHAR, ranges as 1-4 or 2-.\\3, or ALL",
         29 => "take the ordered types out, or write the data as DATATYPE=STANDARD",
-        31 => return no_record(seen),
+        31 => return no_record(seen).map(str::to_string),
         32 => "part the record: its NEXUS text would have more than 1,048,576 bytes",
         _ => return None,
     };
@@ -100,27 +98,25 @@ fn quote(word: &str) -> &'static str {
 }
 
 /// What a text that does not begin with #NEXUS may be.
-fn beginning(seen: &Seen<'_>) -> Option<String> {
+fn beginning(seen: &Seen<'_>) -> &'static str {
     let start = seen.text.trim_ascii_start();
-    let hint = match start {
-        [] => "the text is empty".to_string(),
-        [b'>', ..] => "this looks like FASTA, which is not read".to_string(),
-        [b'<', ..] => "this looks like XML, which is not read".to_string(),
-        [b'0'..=b'9', ..] => "this looks like PHYLIP, which is not read".to_string(),
-        _ if start.starts_with(b"datatype=") => format!(
-            "this looks like a record; `nexus write {}` makes a NEXUS text of it",
-            seen.name
-        ),
-        _ => "write `#NEXUS` on the first line".to_string(),
-    };
-    Some(hint)
+    match start {
+        [] => "the text is empty",
+        [b'>', ..] => "this looks like FASTA, which is not read",
+        [b'<', ..] => "this looks like XML, which is not read",
+        [b'0'..=b'9', ..] => "this looks like PHYLIP, which is not read",
+        _ if start.starts_with(b"datatype=") => {
+            "this looks like a record; `nexus write` makes a NEXUS text of it"
+        }
+        _ => "write `#NEXUS` on the first line",
+    }
 }
 
-fn no_block(word: &str) -> String {
+fn no_block(word: &str) -> &'static str {
     match word {
-        "BEGIN" => "write `BEGIN`, one name and `;`".to_string(),
-        "END" | "ENDBLOCK" => "no block is open here".to_string(),
-        _ => "commands stand in a block, between `BEGIN DATA;` and `END;`".to_string(),
+        "BEGIN" => "write `BEGIN`, one name and `;`",
+        "END" | "ENDBLOCK" => "no block is open here",
+        _ => "commands stand in a block, between `BEGIN DATA;` and `END;`",
     }
 }
 
@@ -177,36 +173,31 @@ fn option(word: &str) -> &'static str {
 }
 
 /// A gap that nobody declared is the likeliest; else the symbols are not those of the cells.
-fn symbol(seen: &Seen<'_>) -> Option<String> {
-    let hint = if seen.word.contains('-') && !seen.has("GAP") && !seen.has("DNA") {
+fn symbol(seen: &Seen<'_>) -> &'static str {
+    if seen.word.contains('-') && !seen.has("GAP") && !seen.has("DNA") {
         "is `-` a gap? Then write `FORMAT GAP=-`"
     } else if seen.has("DNA") {
         "the symbols of DNA are ACGT, the IUPAC codes, and those of MISSING and GAP"
     } else {
         "declare each symbol: `FORMAT SYMBOLS=\"012\" MISSING=? GAP=-`"
-    };
-    Some(hint.to_string())
+    }
 }
 
 /// What bytes that are no record may be. What is wrong within one is not looked for.
-fn no_record(seen: &Seen<'_>) -> Option<String> {
+fn no_record(seen: &Seen<'_>) -> Option<&'static str> {
     let start = seen.text.trim_ascii_start();
     let first = start.get(..6).unwrap_or_default();
-    let hint = if first.eq_ignore_ascii_case(b"#NEXUS") {
-        let name = seen.name;
-        return Some(format!(
-            "this looks like NEXUS; `nexus read {name}` makes a record of it"
-        ));
+    if first.eq_ignore_ascii_case(b"#NEXUS") {
+        Some("this looks like NEXUS; `nexus read` makes a record of it")
     } else if !seen.text.starts_with(b"datatype=") {
-        "a record begins with `datatype=`; `nexus read` makes one of a NEXUS file"
+        Some("a record begins with `datatype=`; `nexus read` makes one of a NEXUS file")
     } else if seen.text.windows(2).any(|pair| pair == b"\r\n") {
-        "the lines of a record end in LF, and some of these in CR LF"
+        Some("the lines of a record end in LF, and some of these in CR LF")
     } else if !seen.text.ends_with(b"\n") {
-        "the last line of a record ends in LF too"
+        Some("the last line of a record ends in LF too")
     } else {
-        return None;
-    };
-    Some(hint.to_string())
+        None
+    }
 }
 
 #[cfg(test)]
@@ -214,12 +205,7 @@ mod tests {
     use super::*;
 
     fn said(number: u32, text: &[u8], word: &str) -> String {
-        let seen = Seen {
-            number,
-            text,
-            word,
-            name: "a.nex",
-        };
+        let seen = Seen { number, text, word };
         hint(&seen).unwrap_or_default()
     }
 
@@ -247,10 +233,10 @@ mod tests {
         assert!(said(6, b">a\nACGT\n", ">").contains("FASTA"));
         assert!(said(6, b" 4 10\n", "4").contains("PHYLIP"));
         assert!(said(6, b"<?xml", "<").contains("XML"));
-        assert!(said(6, b"datatype=DNA\n", "datatype").contains("`nexus write a.nex`"));
+        assert!(said(6, b"datatype=DNA\n", "datatype").contains("`nexus write`"));
         assert!(said(6, b" \n", "").contains("empty"));
         assert!(said(6, b"NEXUS\n", "NEXUS").contains("#NEXUS"));
-        assert!(said(31, b"\n#nexus begin data;", "").contains("`nexus read a.nex`"));
+        assert!(said(31, b"\n#nexus begin data;", "").contains("looks like NEXUS"));
         assert!(said(31, b"#nex", "").contains("begins with `datatype=`"));
         assert!(said(31, b"datatype=DNA\r\n", "").contains("CR LF"));
         assert!(said(31, b"datatype=DNA", "").contains("ends in LF"));

@@ -72,7 +72,6 @@ impl Refused<'_> {
             number: self.refusal.number,
             text: self.text,
             word: word.unwrap_or_default(),
-            name: self.name,
         })
     }
 

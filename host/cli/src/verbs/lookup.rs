@@ -1,5 +1,7 @@
 //! `nexus lookup`: the cells of a taxon in a record.
 
+use std::os::unix::ffi::OsStrExt;
+
 use nexus::{Refusal, View};
 
 use super::{FORMAT, Verb};
@@ -40,7 +42,7 @@ fn run(asked: &Asked, session: &mut Session) -> Result<(), Stop> {
         Err(error) => return session.unreadable(&source, &error),
     };
     let view = View::of(&record);
-    match view.and_then(|view| view.find(name.as_encoded_bytes())) {
+    match view.and_then(|view| view.find(name.as_bytes())) {
         Ok(cells) => found(&source, &name.to_string_lossy(), cells, session),
         Err(refusal) if refusal.number == Refusal::NO_NAME => {
             let name = name.to_string_lossy();

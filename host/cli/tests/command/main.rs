@@ -5,6 +5,7 @@ mod ends;
 mod json;
 mod manual;
 mod many;
+mod marks;
 mod out;
 mod programs;
 mod run;

@@ -11,14 +11,18 @@ use std::path::{Path, PathBuf};
 
 use crate::run::{Folder, NEXUS, finished, plain};
 
+/// The commands of a session.
+fn commands(session: &str) -> impl Iterator<Item = &str> {
+    session.lines().filter_map(|line| line.strip_prefix("$ "))
+}
+
 /// The session with all that its commands print in the folder.
 fn played(session: &str, folder: &Folder) -> String {
     let program = Path::new(NEXUS).parent().expect("a folder");
     let path = std::env::var("PATH").unwrap_or_default();
     let path = format!("{}:{path}", program.display());
-    let commands = session.lines().filter_map(|line| line.strip_prefix("$ "));
     let mut played = String::new();
-    for command in commands {
+    for command in commands(session) {
         let mut shell = plain("sh");
         let joined = format!("{{ {command}\n}} 2>&1");
         shell.arg("-c").arg(joined).current_dir(&folder.0);
@@ -43,10 +47,10 @@ fn files_of(folder: &Path) -> Vec<PathBuf> {
     files
 }
 
-/// Plays all sessions of a folder where its files are, and compares; the names of the sessions and
-/// what is printed in them.
+/// Plays all sessions of a folder, each with the files that its commands name, and compares; the
+/// names of the sessions and what is printed in them.
 #[track_caller]
-fn hold(name: &str, more: impl Fn(&Folder)) -> Vec<(String, String)> {
+fn hold(name: &str, made: &[(&str, fn() -> Vec<u8>)]) -> Vec<(String, String)> {
     let (sessions, files): (Vec<_>, Vec<_>) = files_of(&tests().join(name))
         .into_iter()
         .partition(|file| file.extension().is_some_and(|ending| ending == "txt"));
@@ -55,12 +59,17 @@ fn hold(name: &str, more: impl Fn(&Folder)) -> Vec<(String, String)> {
     for session in sessions {
         let stem = session.file_stem().expect("a name").to_string_lossy();
         let folder = Folder::new(&format!("{name}-{stem}"));
-        for file in &files {
-            let target = folder.0.join(file.file_name().expect("a name"));
-            fs::copy(file, target).expect("a copy");
-        }
-        more(&folder);
         let kept = fs::read_to_string(&session).expect("a session");
+        let named = |name: &str| commands(&kept).any(|command| command.contains(name));
+        for file in &files {
+            let name = file.file_name().expect("a name").to_string_lossy();
+            if named(&name) {
+                fs::copy(file, folder.0.join(&*name)).expect("a copy");
+            }
+        }
+        for (name, make) in made.iter().filter(|(name, _)| named(name)) {
+            folder.put(name, make());
+        }
         let played = played(&kept, &folder);
         if rewrite {
             fs::write(&session, &played).expect("a session is written");
@@ -75,16 +84,25 @@ fn hold(name: &str, more: impl Fn(&Folder)) -> Vec<(String, String)> {
 #[test]
 #[cfg_attr(not(archive), ignore = "no archive; tools/test-calls makes it")]
 fn verbs() {
-    assert!(hold("sessions", |_| ()).len() >= 6);
+    let held = hold("sessions", &[]);
+    let mut names: Vec<&str> = cli::verbs::all().map(|verb| verb.name).collect();
+    names.push("usage");
+    names.sort_unstable();
+    assert!(held.iter().map(|(name, _)| name.as_str()).eq(names));
 }
 
-/// A text of one byte too many, and a record whose form is one: each is made here, being long.
-fn long_files(folder: &Folder) {
-    let text = [inputs::example::TEXT.as_bytes(), &[b' '; inputs::MEGABYTE]].concat();
-    folder.put("01-long.nex", &text[..inputs::MEGABYTE + 1]);
-    let quotes = format!("name={}", "'".repeat(inputs::MEGABYTE / 2));
-    let record = inputs::example::RECORD.replace("name=C", &quotes);
-    folder.put("32-long.record", record);
+/// A text of one byte too many.
+fn long_text() -> Vec<u8> {
+    let mut text = inputs::example::TEXT.as_bytes().to_vec();
+    text.resize(inputs::MEGABYTE + 1, b' ');
+    text
+}
+
+/// A record whose form is too long.
+fn long_record() -> Vec<u8> {
+    let name = format!("name={}", "'".repeat(inputs::MEGABYTE / 2));
+    let record = inputs::example::RECORD.replace("name=C", &name);
+    record.into_bytes()
 }
 
 /// Each number has a session, in which it is met. No file is refused by 2 or 30: they are about
@@ -92,7 +110,10 @@ fn long_files(folder: &Folder) {
 #[test]
 #[cfg_attr(not(archive), ignore = "no archive; tools/test-calls makes it")]
 fn refusals() {
-    let held = hold("refused", long_files);
+    let held = hold(
+        "refused",
+        &[("01-long.nex", long_text), ("32-long.record", long_record)],
+    );
     for (number, played) in &held {
         let number = number.trim_start_matches('0');
         let met = played.matches(&format!("error[{number}]: ")).count();
