@@ -47,31 +47,43 @@ fn files_of(folder: &Path) -> Vec<PathBuf> {
     files
 }
 
+/// Are sessions written anew?
+fn rewrites() -> bool {
+    std::env::var("NEXUS_SESSIONS").is_ok_and(|value| value == "write")
+}
+
+/// Copies the files that the commands of a session name, or makes them.
+fn supply(session: &str, folder: &Folder, files: &[PathBuf], made: &[Made]) {
+    let named = |name: &str| commands(session).any(|command| command.contains(name));
+    for file in files {
+        let name = file.file_name().expect("a name").to_string_lossy();
+        if named(&name) {
+            fs::copy(file, folder.0.join(&*name)).expect("a copy");
+        }
+    }
+    for (name, make) in made.iter().filter(|(name, _)| named(name)) {
+        folder.put(name, make());
+    }
+}
+
+/// A file that is made for a session, being long.
+type Made = (&'static str, fn() -> Vec<u8>);
+
 /// Plays all sessions of a folder, each with the files that its commands name, and compares; the
 /// names of the sessions and what is printed in them.
 #[track_caller]
-fn hold(name: &str, made: &[(&str, fn() -> Vec<u8>)]) -> Vec<(String, String)> {
+fn hold(name: &str, made: &[Made]) -> Vec<(String, String)> {
     let (sessions, files): (Vec<_>, Vec<_>) = files_of(&tests().join(name))
         .into_iter()
         .partition(|file| file.extension().is_some_and(|ending| ending == "txt"));
-    let rewrite = std::env::var("NEXUS_SESSIONS").is_ok_and(|value| value == "write");
     let mut held = Vec::new();
     for session in sessions {
         let stem = session.file_stem().expect("a name").to_string_lossy();
         let folder = Folder::new(&format!("{name}-{stem}"));
         let kept = fs::read_to_string(&session).expect("a session");
-        let named = |name: &str| commands(&kept).any(|command| command.contains(name));
-        for file in &files {
-            let name = file.file_name().expect("a name").to_string_lossy();
-            if named(&name) {
-                fs::copy(file, folder.0.join(&*name)).expect("a copy");
-            }
-        }
-        for (name, make) in made.iter().filter(|(name, _)| named(name)) {
-            folder.put(name, make());
-        }
+        supply(&kept, &folder, &files, made);
         let played = played(&kept, &folder);
-        if rewrite {
+        if rewrites() {
             fs::write(&session, &played).expect("a session is written");
         } else {
             assert_eq!(played, kept, "{}", session.display());
@@ -79,6 +91,64 @@ fn hold(name: &str, made: &[(&str, fn() -> Vec<u8>)]) -> Vec<(String, String)> {
         held.push((stem.into_owned(), played));
     }
     held
+}
+
+/// The sessions in a page: what is indented by four blanks and begins with a command of these. A line
+/// without anything in it is a part of the session where another indented one follows.
+fn sessions_in(page: &str) -> Vec<String> {
+    let mut sessions: Vec<String> = Vec::new();
+    let (mut inside, mut empty) = (false, 0);
+    for line in page.lines() {
+        let begins = line.starts_with("    $ nexus ") || line.starts_with("    $ cat bears.nex");
+        match (line.strip_prefix("    "), sessions.last_mut()) {
+            (Some(line), Some(session)) if inside => {
+                session.push_str(&"\n".repeat(empty));
+                session.push_str(&format!("{line}\n"));
+            }
+            (Some(line), _) if begins => sessions.push(format!("{line}\n")),
+            _ if line.is_empty() => {
+                empty += 1;
+                continue;
+            }
+            _ => {}
+        }
+        inside = line.starts_with("    ") && (inside || begins);
+        empty = 0;
+    }
+    sessions
+}
+
+/// A session as it stands in a page.
+fn indented(session: &str) -> String {
+    let lines = session.lines().map(|line| match line {
+        "" => "\n".to_string(),
+        line => format!("    {line}\n"),
+    });
+    lines.collect()
+}
+
+/// What README says that the command prints, it prints.
+#[test]
+#[cfg_attr(not(archive), ignore = "no archive; tools/test-calls makes it")]
+fn readme() {
+    let path = Path::new(env!("CARGO_MANIFEST_DIR")).join("../../README.md");
+    let page = fs::read_to_string(&path).expect("README.md");
+    let folder = Folder::new("sessions-readme");
+    let files = files_of(&tests().join("sessions"));
+    let mut written = page.clone();
+    let sessions = sessions_in(&page);
+    assert!(sessions.len() >= 4);
+    for session in sessions {
+        supply(&session, &folder, &files, &[]);
+        let played = played(&session, &folder);
+        let place = indented(&session);
+        assert!(written.contains(&place), "{session}");
+        written = written.replacen(&place, &indented(&played), 1);
+        assert!(rewrites() || played == session, "{played}");
+    }
+    if rewrites() {
+        fs::write(&path, written).expect("README.md is written");
+    }
 }
 
 #[test]
