@@ -32,6 +32,21 @@ fn records_are_written_whole() {
     assert_eq!(held(names[2]), RECORD);
 }
 
+/// What was there before is not written into: it may have another name.
+#[test]
+#[cfg_attr(not(archive), ignore = "no archive; tools/test-calls makes it")]
+fn a_record_takes_the_place_of_another() {
+    let folder = Folder::new("out-place");
+    folder.put("a.nex", TEXT);
+    let before = folder.put("records/a.nex.record", "what was there before");
+    fs::hard_link(&before, folder.0.join("kept")).expect("a link");
+    let done = folder.run(["read", "--out", "records", "a.nex"]);
+    assert_eq!((done.status, done.err.as_str()), (0, ""));
+    let held = |name: &str| fs::read_to_string(folder.0.join(name)).expect("a file");
+    assert_eq!(held("records/a.nex.record"), RECORD);
+    assert_eq!(held("kept"), "what was there before");
+}
+
 /// A file that cannot be put in its place leaves nothing behind, and the next is written.
 #[test]
 #[cfg_attr(not(archive), ignore = "no archive; tools/test-calls makes it")]

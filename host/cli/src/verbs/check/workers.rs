@@ -1,7 +1,7 @@
 //! The judging of many files by all cores.
 
 use std::sync::atomic::{AtomicUsize, Ordering};
-use std::sync::mpsc::{self, Sender};
+use std::sync::mpsc::{self, SyncSender};
 use std::thread;
 
 use nexus::{Refusal, TEXT_LIMIT, read_into, work_needed};
@@ -9,6 +9,9 @@ use nexus::{Refusal, TEXT_LIMIT, read_into, work_needed};
 use super::Job;
 use super::voice::Voice;
 use crate::session::{Outcome, Stop};
+
+/// So many files may wait to be taken; then the workers wait.
+const MOST_WAITING: usize = 1_000;
 
 /// What was found of a file, and what is to be said of it.
 pub struct Found {
@@ -28,7 +31,7 @@ pub fn judge(
     let cores = thread::available_parallelism().map_or(1, |cores| cores.get());
     let next = AtomicUsize::new(0);
     thread::scope(|scope| {
-        let (sender, receiver) = mpsc::channel();
+        let (sender, receiver) = mpsc::sync_channel(MOST_WAITING);
         for _ in 0..cores.min(jobs.len()) {
             let sender = sender.clone();
             scope.spawn(|| work(jobs, &next, voice, sender));
@@ -42,7 +45,7 @@ pub fn judge(
 }
 
 /// Takes one job after another, until there are no more.
-fn work(jobs: &[Job], next: &AtomicUsize, voice: &Voice, sender: Sender<(usize, Found)>) {
+fn work(jobs: &[Job], next: &AtomicUsize, voice: &Voice, sender: SyncSender<(usize, Found)>) {
     let mut lent = Lent::default();
     loop {
         let place = next.fetch_add(1, Ordering::Relaxed);
