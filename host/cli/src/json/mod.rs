@@ -85,8 +85,8 @@ mod tests {
         assert_eq!(said("a b"), "\"a b\"");
         assert_eq!(said("\"\\\n\t\r"), "\"\\\"\\\\\\n\\t\\r\"");
         assert_eq!(
-            said("\u{0}\u{1b}\u{7f}\u{2028}"),
-            "\"\\u0000\\u001b\\u007f\\u2028\""
+            said("\u{0}\u{1f}\u{7f}\u{2028}"),
+            "\"\\u0000\\u001f\\u007f\\u2028\""
         );
         assert_eq!(said("日本 🌿 é"), "\"日本 🌿 é\"");
     }
