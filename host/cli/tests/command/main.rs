@@ -10,4 +10,5 @@ mod out;
 mod programs;
 mod run;
 mod sessions;
+mod tables;
 mod terminal;

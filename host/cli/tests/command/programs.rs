@@ -119,7 +119,7 @@ fn put_all(folder: &Folder, texts: &[Vec<u8>]) -> Vec<String> {
 #[cfg_attr(not(archive), ignore = "no archive; tools/test-calls makes it")]
 fn generated_texts() {
     let folder = Folder::new("programs-generated");
-    let texts: Vec<Vec<u8>> = (0..600).map(|n| oracle::generate::text(71, n)).collect();
+    let texts: Vec<Vec<u8>> = (0..400).map(|n| oracle::generate::text(71, n)).collect();
     let names = put_all(&folder, &texts);
     let check = folder.run(["check", "--format", "json", "."]);
     let read = folder.run(["read"].into_iter().chain(names.iter().map(String::as_str)));
@@ -138,7 +138,7 @@ fn generated_texts() {
             Err(refusal) => hold_refusal(line, refusal),
         }
     }
-    assert!((150..450).contains(&records), "{records} are read");
+    assert!((80..320).contains(&records), "{records} are read");
     let summary = lines[texts.len()].get("summary");
     assert_eq!(summary.get("files").number(), texts.len() as u64);
     assert_eq!(summary.get("read").number(), records);

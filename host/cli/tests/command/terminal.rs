@@ -29,7 +29,7 @@ fn seen(folder: &Folder, columns: usize, arguments: &str, before: &str) -> Optio
 
 fn with_files(name: &str) -> Folder {
     let folder = Folder::new(name);
-    for number in 0..300 {
+    for number in 0..60 {
         folder.put(format!("in/{number}.nex"), TEXT);
     }
     folder.put("in/x.nex", TEXT.replace('?', "x"));
@@ -46,7 +46,7 @@ fn a_bar_and_colours() {
     let Some(seen) = seen(&folder, 70, "check in", "") else {
         return;
     };
-    let bar = format!("\r[{}] 0 of 301 files{ESCAPE}[K", "-".repeat(23));
+    let bar = format!("\r[{}] 0 of 61 files{ESCAPE}[K", "-".repeat(23));
     assert!(seen.contains(&bar), "{seen:?}");
     // The bar is taken away before anything else is written, and in the end.
     let (before, behind) = seen.split_once("error[22]").expect("an error");
@@ -58,9 +58,9 @@ fn a_bar_and_colours() {
         behind.contains(&format!("{ESCAPE}[1;31m^{ESCAPE}[0m\n")),
         "{behind:?}"
     );
-    let (before, behind) = seen.split_once("301 files: ").expect("a summary");
+    let (before, behind) = seen.split_once("61 files: ").expect("a summary");
     assert!(before.ends_with(&format!("\r{ESCAPE}[K")) || before.ends_with('\n'));
-    assert!(behind.starts_with("300 read, 1 refused\n"), "{behind:?}");
+    assert!(behind.starts_with("60 read, 1 refused\n"), "{behind:?}");
     assert!(!behind.contains('\r'));
 }
 
@@ -137,7 +137,7 @@ fn a_pipe_from_a_terminal() {
 fn seen_messages(folder: &Folder) -> String {
     let seen = seen(folder, 40, "check in 2>messages", "").expect("script is there");
     assert!(
-        seen.starts_with("301 files: 300 read, 1 refused\n"),
+        seen.starts_with("61 files: 60 read, 1 refused\n"),
         "{seen:?}"
     );
     std::fs::read_to_string(folder.0.join("messages")).expect("messages")
