@@ -1,6 +1,7 @@
 //! The command `nexus`: one file for each verb, and what they share. Results go to standard output,
 //! messages to standard error.
 #![forbid(unsafe_code)]
+#![warn(missing_docs)]
 
 pub mod args;
 pub mod diagnostics;

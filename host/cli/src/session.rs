@@ -148,23 +148,20 @@ impl Session {
         self.message(&shown)
     }
 
-    /// Ends the run: what stopped it is said, and the status is given.
+    /// Ends the run: what stopped it is said, and the status is given. That is 2 where the run could
+    /// not be ended; else a refusal goes before a file that could not be read.
     pub fn end(mut self, done: Result<(), Stop>) -> ExitCode {
-        let done = done.and_then(|()| self.flush_all());
-        match done {
-            Ok(()) | Err(Stop::Unread) => {}
-            Err(Stop::Failed(message)) => self.say(&format!("nexus: {message}\n")),
+        let status = match done.and_then(|()| self.flush_all()) {
+            Ok(()) | Err(Stop::Unread) if self.refused => 1,
+            Ok(()) | Err(Stop::Unread) if self.failed => 2,
+            Ok(()) | Err(Stop::Unread) => 0,
+            Err(Stop::Failed(message)) => self.ended(&format!("nexus: {message}\n")),
             Err(Stop::Wrong(message, verb)) => {
                 let verb = verb.map(|verb| format!(" {verb}")).unwrap_or_default();
-                self.say(&format!(
+                self.ended(&format!(
                     "nexus: {message}\n`nexus{verb} --help` says how it is used\n"
-                ));
+                ))
             }
-        }
-        let status = match (self.refused, self.failed) {
-            (true, _) => 1,
-            (false, true) => 2,
-            (false, false) => 0,
         };
         ExitCode::from(status)
     }
@@ -179,11 +176,11 @@ impl Session {
         }
     }
 
-    /// Says why the run ends here, which is a failure.
-    fn say(&mut self, text: &str) {
-        self.failed = true;
+    /// Says why the run ends here; the status for it.
+    fn ended(&mut self, why: &str) -> u8 {
         let _ = self.out.flush();
-        let _ = io::stderr().lock().write_all(text.as_bytes());
+        let _ = io::stderr().lock().write_all(why.as_bytes());
+        2
     }
 }
 

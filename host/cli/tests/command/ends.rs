@@ -121,7 +121,13 @@ fn messages_that_nobody_reads() {
 fn a_full_device() {
     let folder = Folder::new("ends-full");
     folder.put("a.nex", TEXT);
-    for arguments in [&["read", "a.nex"][..], &["check", "a.nex"], &["--help"]] {
+    folder.put("b.nex", "nothing");
+    for arguments in [
+        &["read", "a.nex"][..],
+        &["check", "a.nex"],
+        &["check", "--quiet", "b.nex"],
+        &["--help"],
+    ] {
         let full = File::options().write(true).open("/dev/full");
         let mut command = folder.nexus(arguments);
         command

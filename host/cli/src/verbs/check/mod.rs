@@ -22,8 +22,8 @@ pub static VERB: Verb = Verb {
     operands: "FILE..",
     about: "say which files are refused, and why",
     more: "\
-FILE is a file or a folder. Every file is judged; nothing is written. Each refusal is shown, in the order of the files, and then a
-summary with the number of files by refusal. All cores work at it.
+FILE is a file or a folder. Every file is judged; nothing is written. Each refusal is shown, in the
+order of the files, and then a summary with the number of files by refusal. All cores work at it.
 
 Of a folder, and of the folders in it, the files with the endings .nex, .nexus and .nxs are taken, in
 the order of their names; links to folders are not followed. A folder that has none is said to be
