@@ -50,11 +50,8 @@ fn ten_thousand_files() {
     let broken = TEXT.replace('?', "x");
     for number in 0..FILES {
         let text = if number % 100 == 7 { &broken } else { TEXT };
-        let name = format!("in/{:02}/{number}.nex", number / 200);
-        match number % 200 {
-            0 => drop(folder.put(name, text)),
-            _ => fs::write(folder.0.join(name), text).expect("a file"),
-        }
+        let name = format!("in/{number}.nex");
+        fs::write(folder.0.join(name), text).expect("a file");
     }
     let (printed, time, most) = checked(&folder);
     println!(
