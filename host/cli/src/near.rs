@@ -17,8 +17,8 @@ pub fn nearest<'a>(given: &str, names: impl IntoIterator<Item = &'a str>) -> Opt
 /// Longer names are not compared.
 const LONGEST: usize = 64;
 
-/// How many letters must be put in, taken out or changed to make the name of the given one; the case
-/// of ASCII letters does not matter. None where their lengths are too far apart.
+/// How many letters must be put in, taken out or changed to make the name of the given one; the
+/// case of ASCII letters does not matter. None where their lengths are too far apart.
 fn distance(given: &[char], name: &str) -> Option<usize> {
     let name: Vec<char> = name.chars().take(LONGEST + 1).collect();
     if name.len().abs_diff(given.len()) > 2 {

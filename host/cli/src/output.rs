@@ -46,8 +46,8 @@ impl Folder {
         })
     }
 
-    /// The file for the result of a source, or why there is none: another source has its name, or it
-    /// is one that is read.
+    /// The file for the result of a source, or why there is none: another source has its name, or
+    /// it is one that is read.
     pub fn claim(&mut self, source: &Source) -> Result<PathBuf, String> {
         let mut name = match source {
             Source::Input => OsString::from("stdin"),

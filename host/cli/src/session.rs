@@ -148,8 +148,8 @@ impl Session {
         self.message(&shown)
     }
 
-    /// Ends the run: what stopped it is said, and the status is given. That is 2 where the run could
-    /// not be ended; else a refusal goes before a file that could not be read.
+    /// Ends the run: what stopped it is said, and the status is given. That is 2 where the run
+    /// could not be ended; else a refusal goes before a file that could not be read.
     pub fn end(mut self, done: Result<(), Stop>) -> ExitCode {
         let status = match done.and_then(|()| self.flush_all()) {
             Ok(()) | Err(Stop::Unread) if self.refused => 1,

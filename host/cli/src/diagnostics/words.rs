@@ -23,8 +23,8 @@ pub fn column_start(line: &str, column: usize) -> usize {
         .map_or(line.len(), |(start, _)| start)
 }
 
-/// The word that begins at the column: one mark, a quoted text as far as it is on this line, or what
-/// goes up to the next blank, mark, quote or comment. Empty at the line's end.
+/// The word that begins at the column: one mark, a quoted text as far as it is on this line, or
+/// what goes up to the next blank, mark, quote or comment. Empty at the line's end.
 pub fn word_at(line: &str, column: usize) -> &str {
     let rest = &line[column_start(line, column)..];
     let mut characters = rest.char_indices();

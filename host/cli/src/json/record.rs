@@ -38,8 +38,8 @@ impl Display for OneTaxon<'_> {
     }
 }
 
-/// An array of cells: a state is its number, a set an object with the numbers of its states, and the
-/// others are words.
+/// An array of cells: a state is its number, a set an object with the numbers of its states, and
+/// the others are words.
 pub struct Cells<'r>(pub nexus::Cells<'r>);
 
 impl Display for Cells<'_> {

@@ -23,8 +23,8 @@ and cells, then each character's label, type and state labels. A file that is re
 its fault; the others are read all the same.
 
 With --out each record is a file of its own in DIR, which is made where it is not there. Its name is
-that of its file with `.record` behind it (`.json` with --format json; `stdin.record` for `-`). It is
-written whole or not at all, in place of one that was there before, but never over a file that is
+that of its file with `.record` behind it (`.json` with --format json; `stdin.record` for `-`). It
+is written whole or not at all, in place of one that was there before, but never over a file that is
 read. Of two files of one name the first is read, and the other is named as left out.
 
 With --format json there is an object on a line for each file: `file`, `status` (read, refused or

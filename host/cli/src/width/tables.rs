@@ -1,4 +1,5 @@
-//! Characters that are not one column wide, after Unicode 14.0.0: pairs of a first and a last character.
+//! Characters that are not one column wide, after Unicode 14.0.0: pairs of a first and a last
+//! character.
 
 /// Marks that stand on the character before them (Mn, Me), signs that are not shown (Cf), and the
 /// vowels and last consonants of Hangul syllables.

@@ -1,5 +1,5 @@
-//! The command where the archive was not there when it was built: it says so, and what needs no call
-//! is done all the same.
+//! The command where the archive was not there when it was built: it says so, and what needs no
+//! call is done all the same.
 
 #[cfg(not(archive))]
 #[test]

@@ -93,8 +93,8 @@ fn hold(name: &str, made: &[Made]) -> Vec<(String, String)> {
     held
 }
 
-/// The sessions in a page: what is indented by four blanks and begins with a command of these. A line
-/// without anything in it is a part of the session where another indented one follows.
+/// The sessions in a page: what is indented by four blanks and begins with a command of these. A
+/// line without anything in it is a part of the session where another indented one follows.
 fn sessions_in(page: &str) -> Vec<String> {
     let mut sessions: Vec<String> = Vec::new();
     let (mut inside, mut empty) = (false, 0);

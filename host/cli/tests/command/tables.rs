@@ -75,8 +75,8 @@ fn every_cell_is_shown() {
     assert!((5..55).contains(&dna), "{dna} of DNA");
 }
 
-/// Whatever the columns, no row is wider, but for the one character that is always shown, and no line
-/// of a character.
+/// Whatever the columns, no row is wider, but for the one character that is always shown, and no
+/// line of a character.
 #[test]
 #[cfg_attr(not(archive), ignore = "no archive; tools/test-calls makes it")]
 fn tables_are_cut() {

@@ -25,12 +25,12 @@ pub static VERB: Verb = Verb {
 FILE is a file or a folder. Every file is judged; nothing is written. Each refusal is shown, in the
 order of the files, and then a summary with the number of files by refusal. All cores work at it.
 
-Of a folder, and of the folders in it, the files with the endings .nex, .nexus and .nxs are taken, in
-the order of their names; links to folders are not followed. A folder that has none is said to be
+Of a folder, and of the folders in it, the files with the endings .nex, .nexus and .nxs are taken,
+in the order of their names; links to folders are not followed. A folder that has none is said to be
 empty and counts as one that cannot be read.
 
-The exit status is 1 where any file is refused, and else 2 where any cannot be read. On a terminal
-a bar shows how far the work is.
+The exit status is 1 where any file is refused, and else 2 where any cannot be read. On a terminal a
+bar shows how far the work is.
 
 With --format json there is an object on a line for each file: `file` and `status` (read, refused or
 unreadable), with `number`, `line`, `column` and `message` for what is refused; and at last one with

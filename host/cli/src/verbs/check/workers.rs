@@ -93,8 +93,8 @@ impl Lent {
         }
     }
 
-    /// Why the text is refused. No buffer is lent for its record: that this is too short is the last
-    /// refusal of all, and so says that the text is read.
+    /// Why the text is refused. No buffer is lent for its record: that this is too short is the
+    /// last refusal of all, and so says that the text is read.
     fn refusal(&mut self) -> Option<Refusal> {
         let needed = match self.text.len() {
             0..=TEXT_LIMIT => work_needed(&self.text),

@@ -24,7 +24,8 @@ pub static VERB: Verb = Verb {
     more: "\
 FILE is a NEXUS file or a record. Each taxon is a line, with its cells under the numbers of their
 characters: the symbols of states, `{..}` where it is one of several (of DNA its IUPAC code), `(..)`
-where it is all of them, `?` missing and `-` a gap. Then come the characters with their types, labels and state labels.
+where it is all of them, `?` missing and `-` a gap. Then come the characters with their types,
+labels and state labels.
 
 A matrix that is wider than the terminal is cut, and a note says what is left out. Where the table
 does not go to a terminal it is whole. COLUMNS says how many columns there are, if the terminal is
