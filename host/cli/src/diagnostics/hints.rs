@@ -8,6 +8,8 @@ pub struct Seen<'a> {
     pub text: &'a [u8],
     /// The word at the place.
     pub word: &'a str,
+    /// Is it the first of its line?
+    pub leads: bool,
 }
 
 impl Seen<'_> {
@@ -172,9 +174,13 @@ fn option(word: &str) -> &'static str {
     }
 }
 
-/// A gap that nobody declared is the likeliest; else the symbols are not those of the cells.
+/// Where rows are not interleaved, the first word of a line is most likely a name, which is read as
+/// cells because some are missing before it. Else a gap that nobody declared is likely; else the
+/// symbols are not those of the cells.
 fn symbol(seen: &Seen<'_>) -> &'static str {
-    if seen.word.contains('-') && !seen.has("GAP") && !seen.has("DNA") {
+    if seen.leads && !seen.has("INTERLEAVE") {
+        "is this a name? Then the row before it has too few cells: NCHAR says how many"
+    } else if seen.word.contains('-') && !seen.has("GAP") && !seen.has("DNA") {
         "is `-` a gap? Then write `FORMAT GAP=-`"
     } else if seen.has("DNA") {
         "the symbols of DNA are ACGT, the IUPAC codes, and those of MISSING and GAP"
@@ -205,7 +211,12 @@ mod tests {
     use super::*;
 
     fn said(number: u32, text: &[u8], word: &str) -> String {
-        let seen = Seen { number, text, word };
+        let seen = Seen {
+            number,
+            text,
+            word,
+            leads: false,
+        };
         hint(&seen).unwrap_or_default()
     }
 
@@ -241,6 +252,21 @@ mod tests {
         assert!(said(31, b"datatype=DNA\r\n", "").contains("CR LF"));
         assert!(said(31, b"datatype=DNA", "").contains("ends in LF"));
         assert!(said(31, b"datatype=DNA\n", "").is_empty());
+    }
+
+    #[test]
+    fn a_name_that_is_read_as_cells() {
+        let said = |text: &[u8]| {
+            let seen = Seen {
+                number: 22,
+                text,
+                word: "Ursus",
+                leads: true,
+            };
+            hint(&seen).unwrap_or_default()
+        };
+        assert!(said(b"MATRIX\na 0\nUrsus 01;").contains("is this a name?"));
+        assert!(said(b"FORMAT Interleave; MATRIX\na 0\nUrsus 01;").contains("SYMBOLS"));
     }
 
     #[test]

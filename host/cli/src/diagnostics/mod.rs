@@ -5,7 +5,7 @@ mod hints;
 mod snippet;
 mod words;
 
-pub use words::{line_of, word_at};
+pub use words::{leads_line, line_of, word_at};
 
 use nexus::Refusal;
 
@@ -67,11 +67,13 @@ impl Refused<'_> {
 
     /// The hint, where there is one.
     pub fn hint(&self) -> Option<String> {
-        let word = self.place().map(|line| word_at(line, self.refusal.column));
+        let line = self.place().unwrap_or_default();
+        let column = self.refusal.column.max(1);
         hints::hint(&Seen {
             number: self.refusal.number,
             text: self.text,
-            word: word.unwrap_or_default(),
+            word: word_at(line, column),
+            leads: leads_line(line, column),
         })
     }
 

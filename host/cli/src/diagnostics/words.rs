@@ -40,6 +40,11 @@ pub fn word_at(line: &str, column: usize) -> &str {
     &rest[..end]
 }
 
+/// Do only blanks stand before the column?
+pub fn leads_line(line: &str, column: usize) -> bool {
+    line[..column_start(line, column)].trim().is_empty()
+}
+
 fn is_mark(c: char) -> bool {
     "(){}]/\\,;:=*`<>^+".contains(c)
 }
@@ -60,6 +65,14 @@ mod tests {
             assert_eq!(line_of(text, number + 1), *line, "{number}");
         }
         assert_eq!(line_of("", 1), "");
+    }
+
+    #[test]
+    fn blanks_before_a_word() {
+        assert!(leads_line("ab cd", 1));
+        assert!(leads_line(" \t\u{3000}é", 4));
+        assert!(!leads_line("é cd", 3));
+        assert!(leads_line("", 1));
     }
 
     #[test]

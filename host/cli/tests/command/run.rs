@@ -66,7 +66,7 @@ impl Drop for Folder {
 pub fn plain(program: &str) -> Command {
     let mut command = Command::new(program);
     command.env_remove("COLUMNS").env_remove("NO_COLOR");
-    command.env("TERM", "xterm");
+    command.env("TERM", "xterm").env("LC_ALL", "C");
     command
 }
 
