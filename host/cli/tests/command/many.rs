@@ -64,7 +64,8 @@ fn ten_thousand_files() {
     let first = printed.lines().next().unwrap_or_default();
     assert_eq!(format!("{first}\n"), expected.replacen(':', " files:", 1));
     assert!(printed.contains("   100  [22] "), "{printed}");
-    assert!(time < Duration::from_secs(10), "{time:?}");
+    // It takes less than half a second where nothing else runs, and some where much does.
+    assert!(time < Duration::from_secs(30), "{time:?}");
     // Each core has a text of a megabyte and sixteen of work memory; the rest is for the program,
     // the names of the files, and what waits to be said.
     assert!(most > 0 && most < (20 * cores + 16) * 1024, "{most} KiB");
