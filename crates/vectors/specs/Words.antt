@@ -1,6 +1,6 @@
 -- Words, quoted text, comments and marks, as names and cells show them.
 -- Made from host/definitions/chosen/02-words.txt, with the Rust's answers.
-use mathlib.Core.List.{_∷_, _++_}
+use mathlib.Core.List.{[], _∷_, _++_}
 use mathlib.Core.Path.{_≡_, refl}
 use Rattle.lexer.specs.Base.{bytes}
 use Rattle.vectors.specs.Asked.{read, answered, refused}
