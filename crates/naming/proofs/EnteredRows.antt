@@ -3,12 +3,13 @@ use Prim.Native.Nat.{ℕ, suc, _+_, _-_, _≤_, _<_}
 use Rattle.block.specs.Names.{known}
 use Rattle.block.specs.Reading.{Taxon}
 use Rattle.block.specs.Sound.{names·differ}
-use Rattle.naming.proofs.JudgedLaws.{new-turn, new-twice, new-start, none-turn, none-found, row-told, row-turn, remains-all, remains-on, remains-same, lines-differ}
-use Rattle.naming.specs.Entries.{lines·at, name·lines, none·known, new·differ, Rows·judged, Remains, Lines·kept, Room·for, Room·of, Line·entered, Names·entered, Block·judged}
+use Rattle.naming.proofs.JudgedLaws.{new-turn, new-twice, new-start, few-turn, few-hit, few-over, few-none, row-told, row-turn, remains-all, remains-on, remains-same, lines-differ}
+use Rattle.naming.specs.Entries.{lines·at, name·lines, none·known, new·differ, known·count, few·known, Rows·judged, Remains, Lines·kept, Room·for, Room·of, Line·entered, Names·entered, Block·judged}
 use Rattle.naming.specs.Lines.{line·at}
 use Rattle.naming.specs.Rows.{Row·passed, Names·judged}
 use Rattle.naming.specs.declared.names.Entered.{Entered}
 use Rattle.slots.specs.declared.Table.{Table}
+use lib.Dec.{leb·zero}
 use lib.ListN.{length, take}
 use mathlib.Core.Bool.{Bool, true, false}
 use mathlib.Core.List.{List, [], _∷_, _++_}
@@ -26,7 +27,7 @@ same-behind : (p q : ℕ) → Entered.Behind p ≡ Entered.Behind q → p ≡ q
 same-behind p q e = cc
 
 -- The line at one place more.
-lines-last : (b ps : List ℕ) (p : ℕ) → lines·at b (ps ++ (p ∷ [])) ≡ lines·at b ps ++ (line·at b p ∷ [])
+pub lines-last : (b ps : List ℕ) (p : ℕ) → lines·at b (ps ++ (p ∷ [])) ≡ lines·at b ps ++ (line·at b p ∷ [])
 unfolding lines·at
 lines-last b [] p = refl
 lines-last b (q ∷ ps) p = ap (λ l. line·at b q ∷ l) (lines-last b ps p)
@@ -112,31 +113,38 @@ module _ (b : List ℕ) (characters at rows : ℕ) (t : Table) (slots₀ places�
               rw (← same-behind here next e, ap (λ n. take n places) all) (rw none at (k .rest later));
         }
 
--- The names of rows were looked for among some, as far as here, and none was found.
-pub record Looking (b : List ℕ) (characters at rows : ℕ) (es : List (List ℕ)) (here left : ℕ) : Type 0 where
-  pub rest : Remains b characters at rows (none·known es) here left (none·known es)
+-- The names of rows were looked for among some, as far as here; at most so many from here on may be found.
+pub record Looking (b : List ℕ) (characters at rows : ℕ) (es : List (List ℕ)) (most here left room : ℕ) : Type 0 where
+  pub rest : Remains b characters at rows (few·known es most) here left (few·known es room)
 
-module _ (b : List ℕ) (characters at rows : ℕ) (es : List (List ℕ)) (here left : ℕ) (k : Looking b characters at rows es here left) where
+module _ (b : List ℕ) (characters at rows : ℕ) (es : List (List ℕ)) (most here left room : ℕ) (k : Looking b characters at rows es most here left room) where
   module _ (h : 0 < left) {name : ℕ} (begins : here < length b → name ≡ here + 5) {r : Bool} (told : r ≡ known (line·at b name) es) where
     one-more : left ≡ suc (left - 1)
     one-more = omega arith
 
-    pub looking-found : r ≡ true → Rows·judged b characters at rows (none·known es) false
-    looking-found y =
-        k .rest .back false (rw one-more (row-told b characters here (none·known es) begins false (left - 1) (λ ns. none-found es (line·at b name) ns (sym told ∙ y))))
+    pub looking-over : r ≡ true → room ≡ 0 → Rows·judged b characters at rows (few·known es most) false
+    looking-over y z =
+        k .rest .back false
+        (rw one-more (row-told b characters here (few·known es room) begins false (left - 1) (λ ns. rw z (few-over es (line·at b name) ns (sym told ∙ y)))))
 
-    pub looking-turn : r ≡ false → {next : ℕ} → Row·passed b here characters next → Looking b characters at rows es next (left - 1)
-    looking-turn n {next} passed =
-        record {
-          rest = remains-on (rw one-more at (k .rest))
-              (row-turn b characters here (none·known es) begins (none·known es) (left - 1) passed (λ ns. none-turn es (line·at b name) ns (sym told ∙ n)));
-        }
+    module _ {next : ℕ} (passed : Row·passed b here characters next) where
+      looking-next : {less : ℕ} → ((ns : List (List ℕ)) → few·known es room (line·at b name ∷ ns) ≡ few·known es less ns) → Looking b characters at rows es most next (left - 1) less
+      looking-next {less} same =
+          record { rest = remains-on (rw one-more at (k .rest)) (row-turn b characters here (few·known es room) begins (few·known es less) (left - 1) passed same) }
 
-  pub looking-end : left ≤ 0 → Rows·judged b characters at rows (none·known es) true
+      pub looking-hit : r ≡ true → (room ≡ 0 → ⊥) → Looking b characters at rows es most next (left - 1) (room - 1)
+      looking-hit y some =
+          let more : room ≡ suc (room - 1) = omega (arith, some) in
+          looking-next (λ ns. ap (λ m. few·known es m (line·at b name ∷ ns)) more ∙ few-hit es (line·at b name) ns (room - 1) (sym told ∙ y))
+
+      pub looking-turn : r ≡ false → Looking b characters at rows es most next (left - 1) room
+      looking-turn n = looking-next (λ ns. few-turn es (line·at b name) ns room (sym told ∙ n))
+
+  pub looking-end : left ≤ 0 → Rows·judged b characters at rows (few·known es most) true
   looking-end h = k .rest .back true (λ ts rest e s. none ts e)
     where
-      none : (ts : List Taxon) → length ts ≡ left → true ≡ none·known es (name·lines ts)
-      none [] e = unfold none·known name·lines in refl
+      none : (ts : List Taxon) → length ts ≡ left → true ≡ few·known es room (name·lines ts)
+      none [] e = unfold few·known known·count name·lines in sym (leb·zero room)
       none (t ∷ ts) e = absurd (omega arith)
 
 -- The names of some rows, entered, and those of the rows behind them.
@@ -151,14 +159,17 @@ module _ (b : List ℕ) (characters at rows later : ℕ) (slots₀ slots after p
         rest = λ next q. absurd (twice-nowhere next q);
       }
 
-  module _ (next : ℕ) (is : r ≡ Entered.Behind next) {n : Bool} (looked : Rows·judged b characters next later (none·known (lines·at b (take rows placed))) n) where
+  module _ (next : ℕ) (is : r ≡ Entered.Behind next) {n : Bool} (looked : Rows·judged b characters next later (few·known (lines·at b (take rows placed)) 0) n) where
+    none-looked : Rows·judged b characters next later (none·known (lines·at b (take rows placed))) n
+    none-looked ts rest l s = looked ts rest l s ∙ few-none (lines·at b (take rows placed)) (name·lines ts)
+
     pub block-known : n ≡ false → Block·judged b characters at rows later slots₀ after places placed Entered.Twice
     unfolding new·differ
     block-known f =
         record {
           size = e .size ∙ cleared;
           room = e .room;
-          twice = λ _. e .rest next is later .back false (λ ts rest l s. sym (rw (sym (looked ts rest l s) ∙ f)));
+          twice = λ _. e .rest next is later .back false (λ ts rest l s. sym (rw (sym (none-looked ts rest l s) ∙ f)));
           rest = λ next q. absurd (twice-nowhere next q);
         }
 
@@ -171,7 +182,7 @@ module _ (b : List ℕ) (characters at rows later : ℕ) (slots₀ slots after p
           twice = λ q. absurd (behind-somewhere next q);
           rest = λ place q.
               rw (← same-behind next place q)
-              (remains-on (e .rest next is later) (record { back = λ w judged ts rest l s. judged ts rest l s ∙ sym (rw (sym (looked ts rest l s) ∙ y)) }));
+              (remains-on (e .rest next is later) (record { back = λ w judged ts rest l s. judged ts rest l s ∙ sym (rw (sym (none-looked ts rest l s) ∙ y)) }));
         }
 
 -- Names of rows that were held against all behind them, as far as here, are different; those of the rows from here on remain to be judged.
@@ -182,7 +193,7 @@ pub record Differing (b : List ℕ) (characters at taxa : ℕ) (slots₀ places�
 
 module _ (b : List ℕ) (characters at taxa : ℕ) where
   -- The names of rows are judged by their lines.
-  by-lines : (r : Bool) → Rows·judged b characters at taxa names·differ r → Names·judged b at taxa characters r
+  pub by-lines : (r : Bool) → Rows·judged b characters at taxa names·differ r → Names·judged b at taxa characters r
   by-lines r judged ts rest e s = judged ts rest e s ∙ lines-differ ts
 
   module _ (slots₀ places₀ : List ℕ) where

@@ -5,13 +5,14 @@ use Rattle.block.specs.Reading.{Taxon}
 use Rattle.block.specs.Sequential.{names}
 use Rattle.block.specs.Sound.{names·differ}
 use Rattle.lexer.proofs.Basics.{or-assoc, or-false, and-assoc, alike-sym}
-use Rattle.lexer.specs.Base.{alike}
+use Rattle.lexer.specs.Base.{pick, alike}
 use Rattle.naming.proofs.EscapeLike.{escaped-alike}
 use Rattle.naming.proofs.RowLaws.{row-before, row-name}
-use Rattle.naming.specs.Entries.{name·lines, none·known, new·differ, Rows·judged, Remains}
+use Rattle.naming.specs.Entries.{name·lines, none·known, new·differ, known·count, few·known, Rows·judged, Remains}
 use Rattle.naming.specs.Lines.{line·at}
 use Rattle.naming.specs.Rows.{Rows·stand, Row·passed}
 use Rattle.record.specs.Spell.{escaped}
+use lib.Dec.{leb, leb·suc-zero, leb·suc-suc}
 use lib.ListN.{length}
 use mathlib.Core.Bool.{Bool, true, false, _&&_, _||_, not}
 use mathlib.Core.List.{List, [], _∷_, _++_}
@@ -30,12 +31,12 @@ lines-differ [] = refl
 lines-differ (t ∷ ts) = rw (known-lines (t .name) ts, lines-differ ts)
 
 -- One name more behind those that were entered.
-known-last : (m : List ℕ) (es : List (List ℕ)) (n : List ℕ) → known m (es ++ (n ∷ [])) ≡ known m es || alike m n
+pub known-last : (m : List ℕ) (es : List (List ℕ)) (n : List ℕ) → known m (es ++ (n ∷ [])) ≡ known m es || alike m n
 unfolding known
 known-last m [] n = or-false (alike m n)
 known-last m (e ∷ es) n = rw (known-last m es n) (or-assoc (alike m e) (known m es) (alike m n))
 
-moved : (x y a z : Bool) → not (x || y) && (a && not z) ≡ not x && a && not (y || z)
+pub moved : (x y a z : Bool) → not (x || y) && (a && not z) ≡ not x && a && not (y || z)
 moved true y a z = refl
 moved false true true z = refl
 moved false true false z = refl
@@ -60,18 +61,34 @@ unfolding none·known known
 none-start [] = refl
 none-start (n ∷ ns) = none-start ns
 
+pub none-one : (n : List ℕ) (ns : List (List ℕ)) → none·known (n ∷ []) ns ≡ not (known n ns)
+none-one n ns = none-last [] n ns ∙ rw (none-start ns)
+
 pub new-start : (ns : List (List ℕ)) → new·differ [] ns ≡ names·differ ns
 unfolding new·differ
 new-start ns = rw (none-start ns)
 
--- The same with names that are only looked for.
-pub none-turn : (es : List (List ℕ)) (n : List ℕ) (ns : List (List ℕ)) → known n es ≡ false → none·known es (n ∷ ns) ≡ none·known es ns
-unfolding none·known
-none-turn es n ns h = rw h
+-- Names that are only looked for, of which at most so many may be found: one that is not found, one that is, and one too many.
+pub few-turn : (es : List (List ℕ)) (n : List ℕ) (ns : List (List ℕ)) (room : ℕ) → known n es ≡ false → few·known es room (n ∷ ns) ≡ few·known es room ns
+unfolding few·known known·count pick
+few-turn es n ns room h = rw h
 
-pub none-found : (es : List (List ℕ)) (n : List ℕ) (ns : List (List ℕ)) → known n es ≡ true → none·known es (n ∷ ns) ≡ false
-unfolding none·known
-none-found es n ns h = rw h
+pub few-hit : (es : List (List ℕ)) (n : List ℕ) (ns : List (List ℕ)) (room : ℕ) → known n es ≡ true → few·known es (suc room) (n ∷ ns) ≡ few·known es room ns
+unfolding few·known known·count pick
+few-hit es n ns room h = rw h (leb·suc-suc (known·count es ns) room)
+
+pub few-over : (es : List (List ℕ)) (n : List ℕ) (ns : List (List ℕ)) → known n es ≡ true → few·known es 0 (n ∷ ns) ≡ false
+unfolding few·known known·count pick
+few-over es n ns h = rw h (leb·suc-zero (known·count es ns))
+
+pub few-none : (es ns : List (List ℕ)) → few·known es 0 ns ≡ none·known es ns
+unfolding few·known known·count pick none·known
+few-none es [] = refl
+few-none es (n ∷ ns) = go (known n es) (few-none es ns)
+  where
+    go : (k : Bool) → leb (known·count es ns) 0 ≡ none·known es ns → leb (pick k (suc (known·count es ns)) (known·count es ns)) 0 ≡ not k && none·known es ns
+    go true e = leb·suc-zero (known·count es ns)
+    go false e = e
 
 -- One row.
 module _ (b : List ℕ) (characters here : ℕ) (test : List (List ℕ) → Bool) {name : ℕ} (begins : here < length b → name ≡ here + 5) where

@@ -7,3 +7,5 @@ pub mod RowLaws
 mod EnteredRows
 mod EntryLaws
 mod JudgedLaws
+mod SiftLaws
+mod SiftedRows

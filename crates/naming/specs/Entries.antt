@@ -1,9 +1,9 @@
 -- Names of rows that were entered by their places, and a table that has them.
-use Prim.Native.Nat.{ℕ, _+_, _≤_, _<_}
+use Prim.Native.Nat.{ℕ, suc, _+_, _≤_, _<_}
 use Rattle.block.specs.Names.{known}
 use Rattle.block.specs.Reading.{Taxon}
 use Rattle.block.specs.Sound.{names·differ}
-use Rattle.lexer.specs.Base.{alike}
+use Rattle.lexer.specs.Base.{pick, alike}
 use Rattle.naming.specs.Lines.{line·at}
 use Rattle.naming.specs.Rows.{Rows·stand}
 use Rattle.naming.specs.declared.names.Entered.{Entered}
@@ -11,6 +11,7 @@ use Rattle.record.specs.Spell.{escaped}
 use Rattle.slots.specs.Filling.{Kept, Table·sound, slot·of}
 use Rattle.slots.specs.Hashes.{hash}
 use Rattle.slots.specs.declared.Table.{Table}
+use lib.Dec.{leb}
 use lib.ListN.{length, getD, take}
 use mathlib.Core.Bool.{Bool, true, false, _&&_, not}
 use mathlib.Core.List.{List, [], _∷_, _++_}
@@ -30,6 +31,15 @@ name·lines (t ∷ r) = escaped (t .name) ∷ name·lines r
 unfoldable pub none·known : List (List ℕ) → List (List ℕ) → Bool
 none·known es [] = true
 none·known es (n ∷ r) = let more = none·known es r in not (known n es) && more
+
+-- How many texts of the second are among the first.
+unfoldable pub known·count : List (List ℕ) → List (List ℕ) → ℕ
+known·count es [] = 0
+known·count es (n ∷ r) = let more = known·count es r in pick (known n es) (suc more) more
+
+-- At most so many texts of the second are among the first.
+unfoldable pub few·known : List (List ℕ) → ℕ → List (List ℕ) → Bool
+few·known es most ns = leb (known·count es ns) most
 
 -- No two of the second are alike, and none is among the first.
 unfoldable pub new·differ : List (List ℕ) → List (List ℕ) → Bool

@@ -1,6 +1,7 @@
 // The rows of a record that stand where they are said to: where the cells of a row begin and end, whose name it is, and whether the names of all
 // differ. What each function means stands in specs/.
 
+pub mod filter;
 mod lines;
 pub mod names;
 mod rows;

@@ -3,13 +3,15 @@
 
 ghost use Prim.Native.Nat.{_≤_, _<_};
 ghost use Rattle.block.specs.Names.{known};
-ghost use Rattle.naming.specs.Entries.{Block·judged, Line·entered, Line·sought, Lines·kept, Names·entered, Room·for, Room·of, Rows·judged, Slot·like, lines·at, none·known};
+ghost use Rattle.naming.specs.Entries.{Block·judged, Line·entered, Line·sought, Lines·kept, Names·entered, Room·for, Room·of, Rows·judged, Slot·like, few·known, lines·at};
 ghost use Rattle.naming.specs.Lines.{line·at};
 ghost use Rattle.naming.specs.Rows.{Names·judged};
 ghost use Rattle.slots.specs.Filling.{Table·sound, slot·of};
 ghost use Rattle.slots.specs.Hashes.{hash};
 ghost use lib.ListN.{length, take};
 ghost use mathlib.Core.Path.{_≡_};
+use super::filter::Compared;
+use super::filter::compare_names;
 use super::lines::lines_alike;
 use super::lines::lower_byte;
 use super::rows::name_begin;
@@ -27,6 +29,22 @@ pub enum Entered {
     Twice,
 }
 
+// The number of the line at a place.
+pub fn line_hash(source: &[u8], at: usize) -> u64
+    ensures { λ r. ⌜ r ≡ hash (line·at (now (source .entry)) at) ⌝ }
+{
+    let mut h: u64 = 0;
+    let mut i = at;
+    loop {
+        let b = lower_byte(source, i);
+        if b == 10 {
+            return h;
+        }
+        h = (h + b as u64) * 2654435761 % 4294967296;
+        i += 1;
+    }
+}
+
 // The slot at which the search for the line at a place begins.
 fn line_slot(source: &[u8], at: usize, table: Table) -> usize
     requires { ⌜ Table·sound table ⌝ }
@@ -34,16 +52,7 @@ fn line_slot(source: &[u8], at: usize, table: Table) -> usize
 {
     let size = table.size as u64;
     let base = table.base;
-    let mut h: u64 = 0;
-    let mut i = at;
-    loop {
-        let b = lower_byte(source, i);
-        if b == 10 {
-            return base + (h % size) as usize;
-        }
-        h = (h + b as u64) * 2654435761 % 4294967296;
-        i += 1;
-    }
+    base + (line_hash(source, at) % size) as usize
 }
 
 // Is the line at a place like one of those at so many others?
@@ -106,7 +115,7 @@ fn found_line(
 }
 
 // The line at a place is looked for among those at so many others, and entered where it is not among them.
-fn enter_line(
+pub fn enter_line(
     source: &[u8],
     at: usize,
     slots: &mut [u32],
@@ -154,8 +163,8 @@ fn enter_names(
     Entered::Behind(here)
 }
 
-// Is none of the names of so many rows at a place among those that were entered?
-fn none_known(
+// Are at most so many of the names of so many rows at a place among those that were entered?
+pub fn few_known(
     source: &[u8],
     at: usize,
     rows: TaxonNumber,
@@ -164,18 +173,23 @@ fn none_known(
     places: &[usize],
     count: TaxonNumber,
     table: Table,
+    most: TaxonNumber,
 ) -> bool
     requires { ⌜ Table·sound table × (count .0 ≤ length (now places)) × Lines·kept (now source) (now slots) (take (count .0) (now places)) table ⌝ }
-    ensures { λ r. ⌜ Rows·judged (now (source .entry)) (characters .0) at (rows .0) (none·known (lines·at (now (source .entry)) (take (count .0) (now (places .entry))))) r ⌝ }
+    ensures { λ r. ⌜ Rows·judged (now (source .entry)) (characters .0) at (rows .0) (few·known (lines·at (now (source .entry)) (take (count .0) (now (places .entry)))) (most .0)) r ⌝ }
 {
     let end = table.end;
     let mut here = at;
     let mut left = rows.0;
+    let mut room = most.0;
     while 0 < left {
         let name = name_begin(source, here);
         let from = line_slot(source, name, table);
         if found_line(source, name, slots, places, count, from, end) {
-            return false;
+            if room == 0 {
+                return false;
+            }
+            room -= 1;
         }
         here = next_row(source, here, characters);
         left -= 1;
@@ -199,7 +213,17 @@ fn block_differs(
     let table = free_table(slots, 0, rows.0 / 2);
     match enter_names(source, at, rows, characters, slots, places, table) {
         Entered::Behind(next) => {
-            if none_known(source, next, later, characters, slots, places, rows, table) {
+            if few_known(
+                source,
+                next,
+                later,
+                characters,
+                slots,
+                places,
+                rows,
+                table,
+                TaxonNumber(0),
+            ) {
                 return Entered::Behind(next);
             }
             return Entered::Twice;
@@ -288,5 +312,18 @@ pub fn names_differ(
     if taxa.0 <= 200 {
         return few_differ(source, at, taxa, characters);
     }
-    many_differ(source, at, taxa, characters)
+    if taxa.0 <= 8000 {
+        return many_differ(source, at, taxa, characters);
+    }
+    match compare_names(source, at, taxa, characters) {
+        Compared::Differ => {
+            return true;
+        }
+        Compared::Twice => {
+            return false;
+        }
+        Compared::Crowded => {
+            return many_differ(source, at, taxa, characters);
+        }
+    }
 }

@@ -14,8 +14,8 @@ enter-names-requires c κs = search needs
 enum-known-next : tie.Need-enum-known-next
 enum-known-next c = search needs
 
-none-known-requires : tie.Need-none-known-requires
-none-known-requires c κs =
+few-known-requires : tie.Need-few-known-requires
+few-known-requires c κs =
     let e = c .before .before .before .before .before .before .before .before .before in
     let f = e .before .before .before .before .before in
     let s = f .before .before .before .before .before .before in
@@ -31,7 +31,7 @@ returns : tie.Need-returns
 returns c =
     let n = c .before .before .before .before .before in
     let e = n .before .before .before .before .before .before in
-    block-behind _ _ _ _ _ _ _ _ _ _ _ (e .before .before .before .before .before .free-table .ensures .0 .size) (e .enter-names .ensures) _ (n .next .given .1) (c .before .none-known .ensures) (c .if1 .taken)
+    block-behind _ _ _ _ _ _ _ _ _ _ _ (e .before .before .before .before .before .free-table .ensures .0 .size) (e .enter-names .ensures) _ (n .next .given .1) (c .before .few-known .ensures) (c .if1 .taken)
 
 same-length-3 : tie.Need-same-length-3
 same-length-3 c = search needs
@@ -43,7 +43,7 @@ returns-2 : tie.Need-returns-2
 returns-2 c =
     let n = c .before .before .before .before .before in
     let e = n .before .before .before .before .before .before in
-    block-known _ _ _ _ _ _ _ _ _ _ _ (e .before .before .before .before .before .free-table .ensures .0 .size) (e .enter-names .ensures) _ (n .next .given .1) (c .before .none-known .ensures) (c .if1 .left)
+    block-known _ _ _ _ _ _ _ _ _ _ _ (e .before .before .before .before .before .free-table .ensures .0 .size) (e .enter-names .ensures) _ (n .next .given .1) (c .before .few-known .ensures) (c .if1 .left)
 
 enum-told : tie.Need-enum-told
 enum-told c = search needs
@@ -66,7 +66,7 @@ block-differs-spec =
     free-table-requires
     enter-names-requires
     enum-known-next
-    none-known-requires
+    few-known-requires
     same-length
     same-length-2
     returns

@@ -1,71 +1,26 @@
--- The function `line_slot` meets its contract: a turn takes one byte of the line. The measure is what is left of the bytes. Assumes nothing.
-use Prim.Native.Nat.{_-_}
-use Rattle.naming.proofs.EntryLaws.{Hashing, hashing-start, hashing-end, hashing-within, hashing-turn}
+-- The function `line_slot` meets its contract. Assumes nothing.
 use Rattle.naming.proofs.names.line_slot.Statement.{statement}
 use Rattle.naming.proofs.names.line_slot.Tie as tie
 use Rattle.slots.specs.Filling.{slot·of}
 use borrow.Author.Needs.{needs}
-use lib.ListN.{length}
 use native.Mathlib.Nat.{mod-lt}
 use native.Mathlib.Omega.{arith}
 
-abbrev Inv-loop : tie.InvT-loop
-Inv-loop source at size base h₀ i₀ h i = Hashing source at i h
+line-hash-requires : tie.Need-line-hash-requires
+line-hash-requires c κs = search needs
 
-abbrev μ-loop : tie.MeasureT-loop
-μ-loop source at size base h₀ i₀ h i = length source - i
+rem-result : tie.Need-rem-result
+rem-result c = search needs
 
-loop-holds : tie.Need-loop-holds Inv-loop μ-loop
-loop-holds c = hashing-start _ _
-
-lower-byte-requires : tie.Need-lower-byte-requires Inv-loop μ-loop
-lower-byte-requires c κs = search needs
-
-rem-result : tie.Need-rem-result Inv-loop μ-loop
-rem-result c = let s = c .before .before .before .before .pre .some in omega arith
-
-add-result : tie.Need-add-result Inv-loop μ-loop
+add-result : tie.Need-add-result
 add-result c =
-    let s = c .before .before .before .before in
-    let m = mod-lt (c .before .before .loop .h) {m = s .args .table .size} (s .pre .some) in
-    omega (arith, s .pre .small)
+    let s = c .before .before in
+    let m = mod-lt (c .line-hash .result) {m = s .args .table .size} (s .pre .some) in
+    omega (arith, m, s .pre .small)
 
-returns : tie.Need-returns Inv-loop μ-loop
+returns : tie.Need-returns
 unfolding slot·of
-returns c = rw (hashing-end _ _ _ _ (c .before .before .loop .inv) (c .before .lower-byte .ensures) (c .if1 .taken))
-
-cast-h : tie.Need-cast-h Inv-loop μ-loop
-cast-h c = search needs
-
-add-h : tie.Need-add-h Inv-loop μ-loop
-add-h c = let h = c .before .before .loop .inv .small in omega arith
-
-mul-h : tie.Need-mul-h Inv-loop μ-loop
-mul-h c = let h = c .before .before .loop .inv .small in omega arith
-
-add-i : tie.Need-add-i Inv-loop μ-loop
-add-i c = let h = hashing-within _ _ _ _ (c .before .before .loop .inv) (c .before .lower-byte .ensures) (c .if1 .left) in omega arith
-
-loop-less : tie.Need-loop-less Inv-loop μ-loop
-loop-less c = let h = hashing-within _ _ _ _ (c .before .before .loop .inv) (c .before .lower-byte .ensures) (c .if1 .left) in omega arith
-
-loop-again : tie.Need-loop-again Inv-loop μ-loop
-loop-again c = hashing-turn _ _ _ _ (c .before .before .loop .inv) (c .before .lower-byte .ensures) (c .if1 .left)
+returns c = rw (c .line-hash .ensures)
 
 pub line-slot-spec : {M : Type 1} → statement M
-line-slot-spec =
-    tie.close
-    (tie.spec
-    Inv-loop
-    μ-loop
-    loop-holds
-    lower-byte-requires
-    rem-result
-    add-result
-    returns
-    cast-h
-    add-h
-    mul-h
-    add-i
-    loop-less
-    loop-again)
+line-slot-spec = tie.close (tie.spec line-hash-requires rem-result add-result returns)
