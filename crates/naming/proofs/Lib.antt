@@ -4,6 +4,9 @@ pub mod LikeLaws
 pub mod EscapeLike
 pub mod RowLaws
 -- What the proofs of this crate alone rest on.
+mod BeforeLaws
 mod EnteredRows
 mod EntryLaws
 mod JudgedLaws
+mod OrderLaws
+mod OrderedRows

@@ -3,6 +3,7 @@
 
 mod lines;
 pub mod names;
+pub mod ordered;
 mod rows;
 
 pub use lines::lines_alike;
