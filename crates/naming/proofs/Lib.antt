@@ -7,6 +7,7 @@ pub mod RowLaws
 mod BeforeLaws
 mod EnteredRows
 mod EntryLaws
+mod InsertLaws
 mod JudgedLaws
 mod OrderLaws
 mod OrderedRows

@@ -1,5 +1,6 @@
 -- The function `insert_line` meets its contract. Assumes nothing.
-use Rattle.naming.proofs.OrderLaws.{line-there, line-inserted, parted-few}
+use Rattle.naming.proofs.InsertLaws.{line-there, line-inserted}
+use Rattle.naming.proofs.OrderLaws.{parted-few}
 use Rattle.naming.proofs.ordered.insert_line.Statement.{statement}
 use Rattle.naming.proofs.ordered.insert_line.Tie as tie
 use borrow.Author.Needs.{needs}

@@ -1,5 +1,5 @@
 -- The function `insert_place` meets its contract: a turn moves one place. The measure is the index that is reached. Assumes nothing.
-use Rattle.naming.proofs.OrderLaws.{Moving, moving-start, moving-turn, moving-end}
+use Rattle.naming.proofs.InsertLaws.{Moving, moving-start, moving-turn, moving-end}
 use Rattle.naming.proofs.ordered.insert_place.Statement.{statement}
 use Rattle.naming.proofs.ordered.insert_place.Tie as tie
 use borrow.Author.Needs.{needs}
