@@ -3,8 +3,8 @@ use Prim.Native.Nat.{ℕ, suc, _+_, _-_, _≤_, _<_}
 use Rattle.block.specs.Names.{known}
 use Rattle.block.specs.Reading.{Taxon}
 use Rattle.block.specs.Sound.{names·differ}
-use Rattle.naming.proofs.JudgedLaws.{new-turn, new-twice, new-start, few-turn, few-hit, few-over, few-none, row-told, row-turn, remains-all, remains-on, remains-same, lines-differ}
-use Rattle.naming.specs.Entries.{lines·at, name·lines, none·known, new·differ, known·count, few·known, Rows·judged, Remains, Lines·kept, Room·for, Room·of, Line·entered, Names·entered, Block·judged}
+use Rattle.naming.proofs.JudgedLaws.{few-turn, few-hit, few-over, row-told, row-turn, remains-on, twice-nowhere, behind-somewhere, same-behind, Names·passed, passed-start, passed-twice, passed-turn, passed-end, by-lines}
+use Rattle.naming.specs.Entries.{lines·at, name·lines, none·known, new·differ, known·count, few·known, Rows·judged, Remains, Lines·kept, Room·for, Room·of, Line·entered, Names·entered}
 use Rattle.naming.specs.Lines.{line·at}
 use Rattle.naming.specs.Rows.{Row·passed, Names·judged}
 use Rattle.naming.specs.declared.names.Entered.{Entered}
@@ -16,29 +16,18 @@ use mathlib.Core.List.{List, [], _∷_, _++_}
 use mathlib.Core.Path.{_≡_, refl, sym, ap, _∙_}
 use native.Mathlib.Omega.{arith}
 
--- The answer that two are alike is no place, and places that are the same answer are equal.
-twice-nowhere : (next : ℕ) → Entered.Twice ≡ Entered.Behind next → ⊥
-twice-nowhere next e = let z : _≡_ {A = ℕ} 0 1 = cc in omega arith
-
-behind-somewhere : (next : ℕ) → Entered.Behind next ≡ Entered.Twice → ⊥
-behind-somewhere next e = let z : _≡_ {A = ℕ} 0 1 = cc in omega arith
-
-same-behind : (p q : ℕ) → Entered.Behind p ≡ Entered.Behind q → p ≡ q
-same-behind p q e = cc
-
 -- The line at one place more.
 pub lines-last : (b ps : List ℕ) (p : ℕ) → lines·at b (ps ++ (p ∷ [])) ≡ lines·at b ps ++ (line·at b p ∷ [])
 unfolding lines·at
 lines-last b [] p = refl
 lines-last b (q ∷ ps) p = ap (λ l. line·at b q ∷ l) (lines-last b ps p)
 
--- The names of so many rows were entered, and are different; those behind remain to be judged, with any rows behind all.
+-- The names of so many rows were entered, and the table has them.
 pub record Entering (b : List ℕ) (characters at rows : ℕ) (t : Table) (slots₀ places₀ slots places : List ℕ) (here count : ℕ) : Type 0 where
   pub size : length slots ≡ length slots₀
   pub room : length places ≡ length places₀
-  pub few : count ≤ rows
   pub kept : Lines·kept b slots (take count places) t
-  pub rest : (later : ℕ) → Remains b characters at (rows + later) names·differ here (rows - count + later) (new·differ (lines·at b (take count places)))
+  pub passed : Names·passed b characters at rows (lines·at b (take count places)) here count
 
 module _ (b : List ℕ) (characters at rows : ℕ) (t : Table) (slots₀ places₀ : List ℕ) where
   pub entering-start : Entering b characters at rows t slots₀ places₀ slots₀ places₀ at 0
@@ -47,11 +36,8 @@ module _ (b : List ℕ) (characters at rows : ℕ) (t : Table) (slots₀ places�
       record {
         size = refl;
         room = refl;
-        few = omega arith;
         kept = record { each = λ k h. absurd (omega arith) };
-        rest = λ later.
-            let all : rows - 0 + later ≡ rows + later = omega arith in
-            rw all (remains-same at (rows + later) names·differ (new·differ []) (λ ns. sym (new-start ns)));
+        passed = passed-start;
       }
 
   module _ (slots places : List ℕ) (here count : ℕ) (k : Entering b characters at rows t slots₀ places₀ slots places here count) where
@@ -66,19 +52,14 @@ module _ (b : List ℕ) (characters at rows : ℕ) (t : Table) (slots₀ places�
             kept = k .kept;
           }
 
-      one-less : (later : ℕ) → rows - count + later ≡ suc (rows - (count + 1) + later)
-      one-less later = omega arith
-
       module _ (after placed : List ℕ) {name : ℕ} (begins : here < length b → name ≡ here + 5) {r : Bool}
           (entered : Line·entered b name slots after places placed count t r) where
         pub entering-twice : r ≡ true → Names·entered b characters at rows slots₀ after places₀ placed t Entered.Twice
         entering-twice y =
-            let es = lines·at b (take count places) in
             record {
               size = entered .size ∙ k .size;
               room = entered .room ∙ k .room;
-              twice = λ _ later. k .rest later .back false
-                  (rw (one-less later) (row-told b characters here (new·differ es) begins false (rows - (count + 1) + later) (λ ns. new-twice es (line·at b name) ns (sym (entered .told) ∙ y))));
+              twice = λ _. passed-twice (k .passed) h begins (sym (entered .told) ∙ y);
               kept = λ next e. absurd (twice-nowhere next e);
               rest = λ next e. absurd (twice-nowhere next e);
             }
@@ -86,31 +67,24 @@ module _ (b : List ℕ) (characters at rows : ℕ) (t : Table) (slots₀ places�
         pub entering-turn : r ≡ false → {next : ℕ} → Row·passed b here characters next
             → Entering b characters at rows t slots₀ places₀ after placed next (count + 1)
         entering-turn n {next} passed =
-            let es = lines·at b (take count places) in
-            let more : lines·at b (take (count + 1) placed) ≡ es ++ (line·at b name ∷ []) = ap (lines·at b) (entered .more n) ∙ lines-last b (take count places) name in
+            let more : lines·at b (take (count + 1) placed) ≡ lines·at b (take count places) ++ (line·at b name ∷ []) =
+            ap (lines·at b) (entered .more n) ∙ lines-last b (take count places) name in
             record {
               size = entered .size ∙ k .size;
               room = entered .room ∙ k .room;
-              few = omega arith;
               kept = entered .kept n;
-              rest = λ later.
-                  rw more
-                  (remains-on (rw (one-less later) at (k .rest later))
-                  (row-turn b characters here (new·differ es) begins (new·differ (es ++ (line·at b name ∷ []))) (rows - (count + 1) + later) passed
-                  (λ ns. new-turn es (line·at b name) ns (sym (entered .told) ∙ n))));
+              passed = passed-turn (k .passed) h begins (sym (entered .told) ∙ n) passed (λ m. ap (known m) more);
             }
 
     pub entering-end : rows ≤ count → Names·entered b characters at rows slots₀ slots places₀ places t (Entered.Behind here)
     entering-end h =
-        let all : rows ≡ count = omega (arith, k .few) in
+        let all : rows ≡ count = omega (arith, k .passed .few) in
         record {
           size = k .size;
           room = k .room;
           twice = λ e. absurd (behind-somewhere here e);
           kept = λ next e. rw all (k .kept);
-          rest = λ next e later.
-              let none : rows - count + later ≡ later = omega arith in
-              rw (← same-behind here next e, ap (λ n. take n places) all) (rw none at (k .rest later));
+          rest = λ next e later. rw (← same-behind here next e, ap (λ n. take n places) all) (passed-end (k .passed) h later);
         }
 
 -- The names of rows were looked for among some, as far as here; at most so many from here on may be found.
@@ -147,78 +121,19 @@ module _ (b : List ℕ) (characters at rows : ℕ) (es : List (List ℕ)) (most 
       none [] e = unfold few·known known·count name·lines in sym (leb·zero room)
       none (t ∷ ts) e = absurd (omega arith)
 
--- The names of some rows, entered, and those of the rows behind them.
-module _ (b : List ℕ) (characters at rows later : ℕ) (slots₀ slots after places placed : List ℕ) (t : Table) (cleared : length slots ≡ length slots₀) {r : Entered}
+-- The names of all rows were entered, or two are alike.
+module _ (b : List ℕ) (characters at rows : ℕ) (slots after places placed : List ℕ) (t : Table) {r : Entered}
     (e : Names·entered b characters at rows slots after places placed t r) where
-  pub block-twice : r ≡ Entered.Twice → Block·judged b characters at rows later slots₀ after places placed Entered.Twice
-  block-twice is =
-      record {
-        size = e .size ∙ cleared;
-        room = e .room;
-        twice = λ _. e .twice is later;
-        rest = λ next q. absurd (twice-nowhere next q);
-      }
+  none-behind : rows + 0 ≡ rows
+  none-behind = omega arith
 
-  module _ (next : ℕ) (is : r ≡ Entered.Behind next) {n : Bool} (looked : Rows·judged b characters next later (few·known (lines·at b (take rows placed)) 0) n) where
-    none-looked : Rows·judged b characters next later (none·known (lines·at b (take rows placed))) n
-    none-looked ts rest l s = looked ts rest l s ∙ few-none (lines·at b (take rows placed)) (name·lines ts)
+  pub all-twice : r ≡ Entered.Twice → Names·judged b at rows characters false
+  all-twice is = by-lines b characters at rows false (rw none-behind at (e .twice is 0))
 
-    pub block-known : n ≡ false → Block·judged b characters at rows later slots₀ after places placed Entered.Twice
-    unfolding new·differ
-    block-known f =
-        record {
-          size = e .size ∙ cleared;
-          room = e .room;
-          twice = λ _. e .rest next is later .back false (λ ts rest l s. sym (rw (sym (none-looked ts rest l s) ∙ f)));
-          rest = λ next q. absurd (twice-nowhere next q);
-        }
-
-    pub block-behind : n ≡ true → Block·judged b characters at rows later slots₀ after places placed (Entered.Behind next)
-    unfolding new·differ
-    block-behind y =
-        record {
-          size = e .size ∙ cleared;
-          room = e .room;
-          twice = λ q. absurd (behind-somewhere next q);
-          rest = λ place q.
-              rw (← same-behind next place q)
-              (remains-on (e .rest next is later) (record { back = λ w judged ts rest l s. judged ts rest l s ∙ sym (rw (sym (none-looked ts rest l s) ∙ y)) }));
-        }
-
--- Names of rows that were held against all behind them, as far as here, are different; those of the rows from here on remain to be judged.
-pub record Differing (b : List ℕ) (characters at taxa : ℕ) (slots₀ places₀ slots places : List ℕ) (here left : ℕ) : Type 0 where
-  pub size : length slots ≡ length slots₀
-  pub room : length places ≡ length places₀
-  pub rest : Remains b characters at taxa names·differ here left names·differ
-
-module _ (b : List ℕ) (characters at taxa : ℕ) where
-  -- The names of rows are judged by their lines.
-  pub by-lines : (r : Bool) → Rows·judged b characters at taxa names·differ r → Names·judged b at taxa characters r
-  by-lines r judged ts rest e s = judged ts rest e s ∙ lines-differ ts
-
-  module _ (slots₀ places₀ : List ℕ) where
-    pub differing-start : Differing b characters at taxa slots₀ places₀ slots₀ places₀ at taxa
-    differing-start = record { size = refl; room = refl; rest = remains-all at taxa names·differ }
-
-    module _ (slots places : List ℕ) (here left : ℕ) (k : Differing b characters at taxa slots₀ places₀ slots places here left) where
-      module _ (after placed : List ℕ) {rows : ℕ} (few : rows ≤ left) {r : Entered} (judged : Block·judged b characters here rows (left - rows) slots after places placed r) where
-        all-rows : rows + (left - rows) ≡ left
-        all-rows = omega arith
-
-        pub differing-twice : r ≡ Entered.Twice → Names·judged b at taxa characters false
-        differing-twice is = by-lines false (k .rest .back false (rw all-rows at (judged .twice is)))
-
-        pub differing-turn : (next : ℕ) → r ≡ Entered.Behind next → Differing b characters at taxa slots₀ places₀ after placed next (left - rows)
-        differing-turn next is =
-            record {
-              size = judged .size ∙ k .size;
-              room = judged .room ∙ k .room;
-              rest = remains-on (k .rest) (rw all-rows at (judged .rest next is));
-            }
-
-      pub differing-end : left ≤ 0 → Names·judged b at taxa characters true
-      differing-end h = by-lines true (k .rest .back true (λ ts rest e s. none ts e))
-        where
-          none : (ts : List Taxon) → length ts ≡ left → true ≡ names·differ (name·lines ts)
-          none [] e = unfold names·differ name·lines in refl
-          none (t ∷ ts) e = absurd (omega arith)
+  pub all-entered : (next : ℕ) → r ≡ Entered.Behind next → Names·judged b at rows characters true
+  unfolding names·differ
+  all-entered next is = by-lines b characters at rows true (rw none-behind at (e .rest next is 0 .back true nothing))
+    where
+      nothing : Rows·judged b characters next 0 (new·differ (lines·at b (take rows placed))) true
+      nothing [] rest z s = unfold new·differ none·known name·lines in refl
+      nothing (t ∷ ts) rest z s = absurd (omega arith)

@@ -55,13 +55,13 @@ module _ (b : List ℕ) (at : ℕ) where
 
 -- A line is known among those at some places exactly where it is like one of them.
 module _ (b n : List ℕ) where
-  known-hit : (ps : List ℕ) (k : ℕ) → k < length ps → alike n (line·at b (getD ps k 0)) ≡ true → known n (lines·at b ps) ≡ true
+  pub known-hit : (ps : List ℕ) (k : ℕ) → k < length ps → alike n (line·at b (getD ps k 0)) ≡ true → known n (lines·at b ps) ≡ true
   unfolding known lines·at
   known-hit [] k h a = absurd (omega arith)
   known-hit (p ∷ ps) zero h a = or-first _ (known n (lines·at b ps)) a
   known-hit (p ∷ ps) (suc k) h a = or-second (alike n (line·at b p)) _ (known-hit ps k (omega arith) a)
 
-  known-miss : (ps : List ℕ) → ((k : ℕ) → k < length ps → alike n (line·at b (getD ps k 0)) ≡ false) → known n (lines·at b ps) ≡ false
+  pub known-miss : (ps : List ℕ) → ((k : ℕ) → k < length ps → alike n (line·at b (getD ps k 0)) ≡ false) → known n (lines·at b ps) ≡ false
   unfolding known lines·at
   known-miss [] none = refl
   known-miss (p ∷ ps) none = or-both (none 0 (omega arith)) (known-miss ps (λ k h. none (suc k) (omega arith)))

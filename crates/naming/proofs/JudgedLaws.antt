@@ -1,5 +1,5 @@
 -- Names that differ, with those that were entered, and what remains to be judged of rows. Assumes nothing.
-use Prim.Native.Nat.{ℕ, suc, _+_, _<_}
+use Prim.Native.Nat.{ℕ, suc, _+_, _-_, _≤_, _<_}
 use Rattle.block.specs.Names.{known}
 use Rattle.block.specs.Reading.{Taxon}
 use Rattle.block.specs.Sequential.{names}
@@ -10,7 +10,8 @@ use Rattle.naming.proofs.EscapeLike.{escaped-alike}
 use Rattle.naming.proofs.RowLaws.{row-before, row-name}
 use Rattle.naming.specs.Entries.{name·lines, none·known, new·differ, known·count, few·known, Rows·judged, Remains}
 use Rattle.naming.specs.Lines.{line·at}
-use Rattle.naming.specs.Rows.{Rows·stand, Row·passed}
+use Rattle.naming.specs.Rows.{Rows·stand, Row·passed, Names·judged}
+use Rattle.naming.specs.declared.names.Entered.{Entered}
 use Rattle.record.specs.Spell.{escaped}
 use lib.Dec.{leb, leb·suc-zero, leb·suc-suc}
 use lib.ListN.{length}
@@ -25,7 +26,7 @@ unfolding known name·lines names
 known-lines n [] = refl
 known-lines n (t ∷ ts) = rw (escaped-alike n (t .name), known-lines n ts)
 
-pub lines-differ : (ts : List Taxon) → names·differ (name·lines ts) ≡ names·differ (names ts)
+lines-differ : (ts : List Taxon) → names·differ (name·lines ts) ≡ names·differ (names ts)
 unfolding names·differ name·lines names
 lines-differ [] = refl
 lines-differ (t ∷ ts) = rw (known-lines (t .name) ts, lines-differ ts)
@@ -48,11 +49,11 @@ none-last es n [] = refl
 none-last es n (m ∷ ns) = rw (known-last m es n, none-last es n ns, alike-sym n m) (moved (known m es) (alike m n) (none·known es ns) (known n ns))
 
 -- A name that is not among those that were entered is entered, and the names behind it remain; one that is among them is there twice.
-pub new-turn : (es : List (List ℕ)) (n : List ℕ) (ns : List (List ℕ)) → known n es ≡ false → new·differ es (n ∷ ns) ≡ new·differ (es ++ (n ∷ [])) ns
+new-turn : (es : List (List ℕ)) (n : List ℕ) (ns : List (List ℕ)) → known n es ≡ false → new·differ es (n ∷ ns) ≡ new·differ (es ++ (n ∷ [])) ns
 unfolding new·differ none·known names·differ
 new-turn es n ns h = rw (h, none-last es n ns) (and-assoc (none·known es ns) (not (known n ns)) (names·differ ns))
 
-pub new-twice : (es : List (List ℕ)) (n : List ℕ) (ns : List (List ℕ)) → known n es ≡ true → new·differ es (n ∷ ns) ≡ false
+new-twice : (es : List (List ℕ)) (n : List ℕ) (ns : List (List ℕ)) → known n es ≡ true → new·differ es (n ∷ ns) ≡ false
 unfolding new·differ none·known
 new-twice es n ns h = rw h
 
@@ -67,6 +68,16 @@ none-one n ns = none-last [] n ns ∙ rw (none-start ns)
 pub new-start : (ns : List (List ℕ)) → new·differ [] ns ≡ names·differ ns
 unfolding new·differ
 new-start ns = rw (none-start ns)
+
+-- Names that were entered may stand in any order.
+none-same : (es fs : List (List ℕ)) → ((m : List ℕ) → known m es ≡ known m fs) → (ns : List (List ℕ)) → none·known es ns ≡ none·known fs ns
+unfolding none·known
+none-same es fs same [] = refl
+none-same es fs same (n ∷ ns) = rw (same n, none-same es fs same ns)
+
+new-same : (es fs : List (List ℕ)) → ((m : List ℕ) → known m es ≡ known m fs) → (ns : List (List ℕ)) → new·differ es ns ≡ new·differ fs ns
+unfolding new·differ
+new-same es fs same ns = rw (none-same es fs same ns)
 
 -- Names that are only looked for, of which at most so many may be found: one that is not found, one that is, and one too many.
 pub few-turn : (es : List (List ℕ)) (n : List ℕ) (ns : List (List ℕ)) (room : ℕ) → known n es ≡ false → few·known es room (n ∷ ns) ≡ few·known es room ns
@@ -122,5 +133,79 @@ module _ {b : List ℕ} {characters : ℕ} where
   remains-on first second = record { back = λ r judged. first .back r (second .back r judged) }
 
   -- Tests that are the same.
-  pub remains-same : (at rows : ℕ) (test other : List (List ℕ) → Bool) → ((ns : List (List ℕ)) → test ns ≡ other ns) → Remains b characters at rows test at rows other
+  remains-same : (at rows : ℕ) (test other : List (List ℕ) → Bool) → ((ns : List (List ℕ)) → test ns ≡ other ns) → Remains b characters at rows test at rows other
   remains-same at rows test other same = record { back = λ r judged ts rest e s. judged ts rest e s ∙ sym (same (name·lines ts)) }
+
+-- The answer that two are alike is no place, and places that are the same answer are equal.
+pub twice-nowhere : (next : ℕ) → Entered.Twice ≡ Entered.Behind next → ⊥
+twice-nowhere next e = let z : _≡_ {A = ℕ} 0 1 = cc in omega arith
+
+pub behind-somewhere : (next : ℕ) → Entered.Behind next ≡ Entered.Twice → ⊥
+behind-somewhere next e = let z : _≡_ {A = ℕ} 0 1 = cc in omega arith
+
+pub same-behind : (p q : ℕ) → Entered.Behind p ≡ Entered.Behind q → p ≡ q
+same-behind p q e = cc
+
+-- The names of so many rows were entered, and are different; those behind remain to be judged, with any rows behind all.
+pub record Names·passed (b : List ℕ) (characters at rows : ℕ) (es : List (List ℕ)) (here count : ℕ) : Type 0 where
+  pub few : count ≤ rows
+  pub rest : (later : ℕ) → Remains b characters at (rows + later) names·differ here (rows - count + later) (new·differ es)
+
+module _ {b : List ℕ} {characters at rows : ℕ} where
+  pub passed-start : Names·passed b characters at rows [] at 0
+  passed-start =
+      record {
+        few = omega arith;
+        rest = λ later.
+            let all : rows - 0 + later ≡ rows + later = omega arith in
+            rw all (remains-same at (rows + later) names·differ (new·differ []) (λ ns. sym (new-start ns)));
+      }
+
+  module _ {es : List (List ℕ)} {here count : ℕ} (k : Names·passed b characters at rows es here count) where
+    module _ (h : count < rows) {name : ℕ} (begins : here < length b → name ≡ here + 5) where
+      one-less : (later : ℕ) → rows - count + later ≡ suc (rows - (count + 1) + later)
+      one-less later = omega arith
+
+      pub passed-twice : known (line·at b name) es ≡ true → (later : ℕ) → Rows·judged b characters at (rows + later) names·differ false
+      passed-twice y later =
+          k .rest later .back false
+          (rw (one-less later) (row-told b characters here (new·differ es) begins false (rows - (count + 1) + later) (λ ns. new-twice es (line·at b name) ns y)))
+
+      pub passed-turn : known (line·at b name) es ≡ false → {next : ℕ} → Row·passed b here characters next → {fs : List (List ℕ)}
+          → ((m : List ℕ) → known m fs ≡ known m (es ++ (line·at b name ∷ []))) → Names·passed b characters at rows fs next (count + 1)
+      passed-turn n {next} passed {fs} same =
+          record {
+            few = omega arith;
+            rest = λ later.
+                remains-on (rw (one-less later) at (k .rest later))
+                (row-turn b characters here (new·differ es) begins (new·differ fs) (rows - (count + 1) + later) passed
+                (λ ns. new-turn es (line·at b name) ns n ∙ sym (new-same fs (es ++ (line·at b name ∷ [])) same ns)));
+          }
+
+    pub passed-end : rows ≤ count → (later : ℕ) → Remains b characters at (rows + later) names·differ here later (new·differ es)
+    passed-end h later = let none : rows - count + later ≡ later = omega (arith, k .few) in rw none at (k .rest later)
+
+-- The names of rows behind those that were entered were looked for among them.
+module _ {b : List ℕ} {characters at rows next later : ℕ} (es : List (List ℕ)) (rest : Remains b characters at rows names·differ next later (new·differ es)) {n : Bool}
+    (looked : Rows·judged b characters next later (few·known es 0) n) where
+  none-looked : Rows·judged b characters next later (none·known es) n
+  none-looked ts rest l s = looked ts rest l s ∙ few-none es (name·lines ts)
+
+  pub behind-known : n ≡ false → Rows·judged b characters at rows names·differ false
+  unfolding new·differ
+  behind-known f = rest .back false (λ ts rest l s. sym (rw (sym (none-looked ts rest l s) ∙ f)))
+
+  pub behind-new : n ≡ true → Remains b characters at rows names·differ next later names·differ
+  unfolding new·differ
+  behind-new y = remains-on rest (record { back = λ w judged ts rest l s. judged ts rest l s ∙ sym (rw (sym (none-looked ts rest l s) ∙ y)) })
+
+-- The names of rows are judged by their lines; where no rows are left, they differ.
+pub by-lines : (b : List ℕ) (characters at taxa : ℕ) (r : Bool) → Rows·judged b characters at taxa names·differ r → Names·judged b at taxa characters r
+by-lines b characters at taxa r judged ts rest e s = judged ts rest e s ∙ lines-differ ts
+
+pub none-left : (b : List ℕ) (characters at taxa here left : ℕ) → Remains b characters at taxa names·differ here left names·differ → left ≤ 0 → Names·judged b at taxa characters true
+none-left b characters at taxa here left rest h = by-lines b characters at taxa true (rest .back true (λ ts rest e s. none ts e))
+  where
+    none : (ts : List Taxon) → length ts ≡ left → true ≡ names·differ (name·lines ts)
+    none [] e = unfold names·differ name·lines in refl
+    none (t ∷ ts) e = absurd (omega arith)

@@ -6,8 +6,8 @@ use Rattle.block.specs.Sound.{names·differ}
 use Rattle.block.specs.declared.data.TaxonNumber.{TaxonNumber}
 use Rattle.lexer.proofs.Basics.{by-test}
 use Rattle.lexer.specs.Base.{alike}
-use Rattle.naming.proofs.EnteredRows.{lines-last, by-lines}
-use Rattle.naming.proofs.JudgedLaws.{known-last, row-told, row-turn, remains-all, remains-on}
+use Rattle.naming.proofs.EnteredRows.{lines-last}
+use Rattle.naming.proofs.JudgedLaws.{known-last, row-told, row-turn, remains-all, remains-on, by-lines}
 use Rattle.naming.proofs.SiftLaws.{Suspected, suspected-start, suspected-passed, suspected-entered, suspected-twice}
 use Rattle.naming.specs.Entries.{lines·at, name·lines, few·known, Rows·judged, Remains, Lines·kept, Room·of, Line·entered}
 use Rattle.naming.specs.Lines.{line·at}

@@ -99,11 +99,3 @@ pub record Names·entered (b : List ℕ) (characters at rows : ℕ) (slots after
   pub kept : (next : ℕ) → r ≡ Entered.Behind next → Lines·kept b after (take rows placed) t
   pub rest : (next : ℕ) → r ≡ Entered.Behind next → (later : ℕ)
       → Remains b characters at (rows + later) names·differ next later (new·differ (lines·at b (take rows placed)))
-
--- The names of so many rows were held against each other and against those of so many rows behind them: two are alike; or the rows behind remain to
--- be judged.
-pub record Block·judged (b : List ℕ) (characters at rows later : ℕ) (slots after places placed : List ℕ) (r : Entered) : Type 0 where
-  pub size : length after ≡ length slots
-  pub room : length placed ≡ length places
-  pub twice : r ≡ Entered.Twice → Rows·judged b characters at (rows + later) names·differ false
-  pub rest : (next : ℕ) → r ≡ Entered.Behind next → Remains b characters at (rows + later) names·differ next later names·differ

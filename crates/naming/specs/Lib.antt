@@ -2,4 +2,5 @@
 pub mod Rows
 pub mod Lines
 pub mod Entries
+pub mod Order
 pub mod Sifting

@@ -4,6 +4,7 @@
 pub mod filter;
 mod lines;
 pub mod names;
+pub mod ordered;
 mod rows;
 
 pub use lines::lines_alike;

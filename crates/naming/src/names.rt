@@ -1,9 +1,10 @@
-// The names of rows, whether no two are alike, ASCII case ignored. Some thousand are entered into a table at a time and all later ones are looked up in
-// it. A name is looked for from its slot on up to a free one; where the table ends first, all names that were entered are looked at.
+// The names of rows, whether no two are alike, ASCII case ignored. Up to some thousand are entered into a table. A name is looked for from its slot on up
+// to a free one; where the table ends first, all names that were entered are looked at. More names are sifted (filter.rt), and those that this cannot
+// tell are kept in order (ordered.rt).
 
 ghost use Prim.Native.Nat.{_≤_, _<_};
 ghost use Rattle.block.specs.Names.{known};
-ghost use Rattle.naming.specs.Entries.{Block·judged, Line·entered, Line·sought, Lines·kept, Names·entered, Room·for, Room·of, Rows·judged, Slot·like, few·known, lines·at};
+ghost use Rattle.naming.specs.Entries.{Line·entered, Line·sought, Lines·kept, Names·entered, Room·for, Room·of, Rows·judged, Slot·like, few·known, lines·at};
 ghost use Rattle.naming.specs.Lines.{line·at};
 ghost use Rattle.naming.specs.Rows.{Names·judged};
 ghost use Rattle.slots.specs.Filling.{Table·sound, slot·of};
@@ -14,6 +15,7 @@ use super::filter::Compared;
 use super::filter::compare_names;
 use super::lines::lines_alike;
 use super::lines::lower_byte;
+use super::ordered::ordered_differ;
 use super::rows::name_begin;
 use super::rows::next_row;
 use block::CharacterNumber;
@@ -197,55 +199,8 @@ pub fn few_known(
     true
 }
 
-// The names of so many rows at a place are held against each other, and against those of so many rows behind them.
-fn block_differs(
-    source: &[u8],
-    at: usize,
-    rows: TaxonNumber,
-    later: TaxonNumber,
-    characters: CharacterNumber,
-    slots: &mut [u32],
-    places: &mut [usize],
-) -> Entered
-    requires { ⌜ (rows .0 ≤ length (now places)) × (rows .0 ≤ 1048576) ⌝ }
-    ensures { λ r. ⌜ Block·judged (now (source .entry)) (characters .0) at (rows .0) (later .0) (now (slots .entry)) (now (slots .exit)) (now (places .entry)) (now (places .exit)) r ⌝ }
-{
-    let table = free_table(slots, 0, rows.0 / 2);
-    match enter_names(source, at, rows, characters, slots, places, table) {
-        Entered::Behind(next) => {
-            if few_known(
-                source,
-                next,
-                later,
-                characters,
-                slots,
-                places,
-                rows,
-                table,
-                TaxonNumber(0),
-            ) {
-                return Entered::Behind(next);
-            }
-            return Entered::Twice;
-        }
-        Entered::Twice => {
-            return Entered::Twice;
-        }
-    }
-}
-
-// The lesser of two numbers.
-fn least(a: usize, b: usize) -> usize
-    ensures { λ r. ⌜ (r ≤ a) × (r ≤ b) × (0 < a → 0 < b → 0 < r) ⌝ }
-{
-    if a < b {
-        return a;
-    }
-    b
-}
-
-// Do the names of so many rows at a place differ? As many as there is room for are entered at a time.
-fn differ_by(
+// Do the names of so many rows at a place differ? All are entered into one table.
+fn entered_differ(
     source: &[u8],
     at: usize,
     taxa: TaxonNumber,
@@ -253,51 +208,34 @@ fn differ_by(
     slots: &mut [u32],
     places: &mut [usize],
 ) -> bool
-    requires { ⌜ (0 < length (now places)) × (length (now places) ≤ 1048576) ⌝ }
+    requires { ⌜ (taxa .0 ≤ length (now places)) × (taxa .0 ≤ 1048576) ⌝ }
     ensures { λ r. ⌜ Names·judged (now (source .entry)) at (taxa .0) (characters .0) r ⌝ }
 {
-    let mut here = at;
-    let mut left = taxa.0;
-    while 0 < left {
-        let rows = least(left, places.len());
-        let later = left - rows;
-        match block_differs(
-            source,
-            here,
-            TaxonNumber(rows),
-            TaxonNumber(later),
-            characters,
-            slots,
-            places,
-        ) {
-            Entered::Behind(next) => {
-                here = next;
-                left = later;
-            }
-            Entered::Twice => {
-                return false;
-            }
-        }
+    let table = free_table(slots, 0, taxa.0 / 2);
+    match enter_names(source, at, taxa, characters, slots, places, table) {
+        Entered::Behind(_) => true,
+        Entered::Twice => false,
     }
-    true
 }
 
 // The same with room for few names.
 fn few_differ(source: &[u8], at: usize, taxa: TaxonNumber, characters: CharacterNumber) -> bool
+    requires { ⌜ taxa .0 ≤ 200 ⌝ }
     ensures { λ r. ⌜ Names·judged (now (source .entry)) at (taxa .0) (characters .0) r ⌝ }
 {
     let mut slots = [0u32; 512];
     let mut places = [0usize; 200];
-    differ_by(source, at, taxa, characters, &mut slots, &mut places)
+    entered_differ(source, at, taxa, characters, &mut slots, &mut places)
 }
 
 // The same with room for some thousand names.
 fn many_differ(source: &[u8], at: usize, taxa: TaxonNumber, characters: CharacterNumber) -> bool
+    requires { ⌜ taxa .0 ≤ 8000 ⌝ }
     ensures { λ r. ⌜ Names·judged (now (source .entry)) at (taxa .0) (characters .0) r ⌝ }
 {
     let mut slots = [0u32; 16384];
     let mut places = [0usize; 8000];
-    differ_by(source, at, taxa, characters, &mut slots, &mut places)
+    entered_differ(source, at, taxa, characters, &mut slots, &mut places)
 }
 
 // Do the names of so many rows at a place, with so many cells each, differ, ASCII case ignored?
@@ -323,7 +261,7 @@ pub fn names_differ(
             return false;
         }
         Compared::Crowded => {
-            return many_differ(source, at, taxa, characters);
+            return ordered_differ(source, at, taxa, characters);
         }
     }
 }

@@ -33,8 +33,8 @@ returns-4 c = c .before .before .compare-names .ensures .twice (c .enum-told2 .g
 enum-told-3 : tie.Need-enum-told-3
 enum-told-3 c = search needs
 
-many-differ-requires-2 : tie.Need-many-differ-requires-2
-many-differ-requires-2 c κs = search needs
+ordered-differ-requires : tie.Need-ordered-differ-requires
+ordered-differ-requires c κs = search needs
 
 returns-5 : tie.Need-returns-5
 returns-5 c = search needs
@@ -53,5 +53,5 @@ names-differ-spec =
     enum-told-2
     returns-4
     enum-told-3
-    many-differ-requires-2
+    ordered-differ-requires
     returns-5)
