@@ -2,3 +2,8 @@
 pub mod HashLaws
 pub mod FillingLaws
 pub mod SeekingLaws
+pub mod LetterLaws
+pub mod TrieLaws
+pub mod ReachLaws
+pub mod GrowthLaws
+pub mod PathLaws

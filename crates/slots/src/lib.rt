@@ -3,6 +3,7 @@
 
 pub mod filling;
 pub mod hashes;
+pub mod trie;
 
 pub use filling::fill_slot;
 pub use filling::free_table;
@@ -13,4 +14,11 @@ pub struct Table {
     pub base: usize,
     pub size: usize,
     pub end: usize,
+}
+
+// What a trie has for a name: a value, none, or nothing that is known.
+pub enum Entry {
+    Unknown,
+    None,
+    Value(usize),
 }
