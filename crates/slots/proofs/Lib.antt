@@ -7,3 +7,5 @@ pub mod TrieLaws
 pub mod ReachLaws
 pub mod GrowthLaws
 pub mod PathLaws
+pub mod EnteringLaws
+pub mod SoughtLaws
