@@ -1,5 +1,5 @@
 -- Numbers that are entered in a table with a trie behind it, and one more of them. Assumes nothing.
-use Prim.Native.Nat.{ℕ, _+_, _-_, _≤_, _<_}
+use Prim.Native.Nat.{ℕ, _-_, _≤_, _<_}
 use Rattle.lexer.proofs.Basics.{by-test}
 use Rattle.lexer.specs.Base.{pick}
 use Rattle.slots.proofs.TrieLaws.{path-grown}
@@ -20,8 +20,8 @@ use native.Mathlib.Omega.{arith}
 pub window-within : (end from : ℕ) → window·end end from ≤ end
 unfolding window·end pick
 window-within end from =
-    by-test (ltb 64 (end - from))
-    (λ e. let l = ltb-true 64 (end - from) e in rw e (omega arith))
+    by-test (ltb 16 (end - from))
+    (λ e. let l = ltb-true 16 (end - from) e in rw e (omega arith))
     (λ e. rw e (omega arith))
 
 -- What is entered is so still where numbers above 0 in front of the trie stay, and the trie has what it had.

@@ -6,10 +6,10 @@ use Rattle.slots.specs.declared.trie.Letter.{Letter}
 use lib.ListN.{length, getD, take, set, length-set}
 use lib.Seq.{getD-set-same, getD-set-other, take-set-le}
 use mathlib.Core.List.{List, [], _∷_}
-use mathlib.Core.Path.{_≡_, refl, sym, ap, _∙_}
+use mathlib.Core.Path.{_≡_, refl, ap, _∙_}
 use native.Mathlib.Omega.{arith}
 
-pub grown-same : (head : ℕ) (work : List ℕ) (top : ℕ) → Grown head work top work top
+grown-same : (head : ℕ) (work : List ℕ) (top : ℕ) → Grown head work top work top
 grown-same head work top = record { more = omega arith; stays = λ q a b s. refl }
 
 grown-then : {head : ℕ} {a : List ℕ} {t : ℕ} {b : List ℕ} {u : ℕ} {c : List ℕ} {w : ℕ} → Grown head a t b u → Grown head b u c w → Grown head a t c w
@@ -89,7 +89,7 @@ module _ (before : List ℕ) (first head next : ℕ) (all : List ℕ) where
       }
 
   module _ {work : List ℕ} {link top : ℕ} where
-    pub growing-turn : {x : ℕ} {r : List ℕ} → Growing work link top (x ∷ r) → 0 < x → top + 3 ≤ length work → Growing (with·node work link top x) (top + 1) (top + 3) r
+    growing-turn : {x : ℕ} {r : List ℕ} → Growing work link top (x ∷ r) → 0 < x → top + 3 ≤ length work → Growing (with·node work link top x) (top + 1) (top + 3) r
     growing-turn {x} {r} g some room =
         let one = node-grown work link top x (g .below) room head (g .free) in
         record {

@@ -7,7 +7,6 @@ use Rattle.lexer.specs.Bytes.{left}
 use Rattle.lexer.specs.Words.{spaced}
 use Rattle.lexer.specs.declared.Cursor.{Cursor}
 use Rattle.slots.specs.Trie.{letters, letters·left, Letter·told}
-use Rattle.slots.specs.declared.trie.Letter.{Letter}
 use borrow.Author.Tests.{eqb-true}
 use lib.Dec.{eqb}
 use mathlib.Core.Bool.{true, false≢true}

@@ -4,7 +4,6 @@ use Rattle.lexer.proofs.Basics.{by-test}
 use Rattle.lexer.specs.Base.{pick}
 use Rattle.slots.proofs.TrieLaws.{path-value, path-grown}
 use Rattle.slots.specs.Trie.{Leads, Ends, Led, Told, Letters·put, Path·put, entry·of}
-use Rattle.slots.specs.declared.Entry.{Entry}
 use borrow.Author.Tests.{eqb-true, eqb-false, leb-true, leb-false, ltb-true, ltb-false}
 use lib.Dec.{eqb, leb, ltb}
 use lib.ListN.{length, getD, set, length-set, List·getD-eq-default}

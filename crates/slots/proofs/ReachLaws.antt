@@ -8,7 +8,7 @@ use Rattle.slots.specs.declared.trie.Letter.{Letter}
 use borrow.Author.Tests.{eqb-true, eqb-false}
 use lib.Dec.{eqb}
 use mathlib.Core.List.{List, [], _∷_}
-use mathlib.Core.Path.{_≡_, _∙_, sym}
+use mathlib.Core.Path.{_≡_}
 
 module _ {text work : List ℕ} {head top : ℕ} {all : List ℕ} {link : ℕ} {c : Cursor} (i : Leads head work top (head + 1) all link (letters·left text c)) {l : Letter} (t : Letter·told text c l) where
   pub reach-whole : l .code ≡ 257 → {n : ℕ} → ((h : ℕ) (r : List ℕ) → Leads h work top link (l .code ∷ r) n r) → Leads head work top (head + 1) all n []

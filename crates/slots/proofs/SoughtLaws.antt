@@ -6,8 +6,8 @@ use Rattle.slots.proofs.SeekingLaws.{First}
 use Rattle.slots.specs.Entering.{Entered·from}
 use Rattle.slots.specs.Seeking.{Nearer}
 use Rattle.slots.specs.Trie.{Led}
-use borrow.Author.Tests.{eqb-true, eqb-false, ltb-true, ltb-false}
-use lib.Dec.{eqb, ltb}
+use borrow.Author.Tests.{ltb-true, ltb-false}
+use lib.Dec.{ltb}
 use lib.ListN.{getD}
 use mathlib.Core.Bool.{Bool, true}
 use mathlib.Core.List.{List}

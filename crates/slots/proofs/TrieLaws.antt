@@ -62,7 +62,7 @@ module _ (head : ℕ) (work : List ℕ) (top : ℕ) where
         on = λ h later high g v p. a .on h later high g v (b .on (omega (arith, a .ahead)) later high g v p);
       }
 
-  pub leads-down : {link x : ℕ} (r : List ℕ) → Node work top link x → Leads head work top link (x ∷ r) (getD work link 0 + 1) r
+  leads-down : {link x : ℕ} (r : List ℕ) → Node work top link x → Leads head work top link (x ∷ r) (getD work link 0 + 1) r
   leads-down r n =
       record {
         ahead = omega (arith, n .ahead);
@@ -71,7 +71,7 @@ module _ (head : ℕ) (work : List ℕ) (top : ℕ) where
         on = λ h later high g v p. down {v = v} {r = r} (node-grown g h n) (rw (link-grown g h n) p);
       }
 
-  pub leads-beside : {link x y : ℕ} (r : List ℕ) → Node work top link y → (y ≡ x → ⊥) → Leads head work top link (x ∷ r) (getD work link 0 + 2) (x ∷ r)
+  leads-beside : {link x y : ℕ} (r : List ℕ) → Node work top link y → (y ≡ x → ⊥) → Leads head work top link (x ∷ r) (getD work link 0 + 2) (x ∷ r)
   leads-beside {y = y} r n o =
       record {
         ahead = omega (arith, n .ahead);

@@ -13,7 +13,7 @@ use mathlib.Core.Path.{_≡_}
 
 -- Where the window from a slot on ends, in a table with this end.
 unfoldable pub window·end : ℕ → ℕ → ℕ
-window·end end from = pick (ltb 64 (end - from)) (from + 64) end
+window·end end from = pick (ltb 16 (end - from)) (from + 16) end
 
 -- A number is entered from a slot on: it stands at the first slot that is free, or before it, or, where none is free up to the end of the window, in the
 -- trie.

@@ -141,10 +141,10 @@ pub fn window_end(table: Table, from: usize) -> usize
     if end <= from {
         return end;
     }
-    if end - from <= 64 {
+    if end - from <= 16 {
         return end;
     }
-    from + 64
+    from + 16
 }
 
 // A number is entered for the name of a word: at the first free slot of its window or, where none is free, in the trie.

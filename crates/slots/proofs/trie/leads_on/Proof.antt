@@ -4,9 +4,7 @@ use Rattle.slots.proofs.trie.leads_on.Statement.{statement}
 use Rattle.slots.proofs.trie.leads_on.Tie as tie
 use borrow.Author.Needs.{needs}
 use borrow.Author.Tests.{lt-ltb, le-ltb}
-use lib.Dec.{ltb}
-use mathlib.Core.Bool.{false, _&&_, and-false}
-use mathlib.Core.Path.{_≡_, refl, sym}
+use mathlib.Core.Path.{refl}
 use native.Mathlib.Omega.{arith}
 
 returns : tie.Need-returns

@@ -1,12 +1,11 @@
 -- The function `name_reach` meets its contract: a turn passes one letter. The measure is what is left of the text. Assumes nothing.
 use Prim.Native.Nat.{_+_, _-_}
 use Rattle.lexer.proofs.NextBytes.{front-left}
-use Rattle.lexer.specs.Words.{spaced}
 use Rattle.slots.proofs.ReachLaws.{reach-whole, reach-more, reach-part}
 use Rattle.slots.proofs.TrieLaws.{leads-same}
 use Rattle.slots.proofs.trie.name_reach.Statement.{statement}
 use Rattle.slots.proofs.trie.name_reach.Tie as tie
-use Rattle.slots.specs.Trie.{Leads, letters, letters·left}
+use Rattle.slots.specs.Trie.{Leads, letters·left}
 use borrow.Author.Needs.{needs}
 use lib.ListN.{length}
 use native.Mathlib.Omega.{arith}

@@ -4,7 +4,6 @@ use Rattle.slots.proofs.trie.node_room.Tie as tie
 use borrow.Author.Needs.{needs}
 use borrow.Author.Tests.{leb-true}
 use mathlib.Core.Bool.{false≢true}
-use native.Mathlib.Omega.{arith}
 
 returns : tie.Need-returns
 returns c = λ e. absurd (false≢true e)
