@@ -177,17 +177,17 @@ module _ (text before : List ℕ) (lines rows from to at head : ℕ) (t : Table)
         rest-more same below = sym (joined (arranged head taken (names·of (words (range text before (i + 1) to))))) ∙ rw (split taken, row-here) at (a .rest taken same below)
 
       -- the number that is stored stands behind the rows and in front of the table
-      store-indexed : (j : ℕ) → at + to ≤ t .base → all·below at (stored before lines rows) → Indexed text (set work k j) lines rows t
-      store-indexed j front below =
-          indexed-kept text work (set work k j) lines t rows
+      store-indexed : (j : ℕ) → at + to ≤ t .base → t .base ≤ t .end → all·below at (stored before lines rows) → Indexed text (set work k j) lines rows t
+      store-indexed j front order below =
+          indexed-kept text work (set work k j) lines t order rows
           (λ m l. name-same text work (set work k j) at lines m (take-set-le at work k j (omega (arith, a .count))) (omega (arith, room .1, l)) (stored-below at work lines rows (rw (stored-kept work before at lines rows (a .kept) (room .1)) below) m l (omega (arith, room .1, room .2, a .size))))
           (λ q m. getD-set-other work k q j 0 (λ e. omega (arith, a .count, a .few, front, h)))
           (a .indexed below)
 
       pub arranging-turn : (j : ℕ)
           → ((taken : List Taxon) → names taken ≡ names·stored text before (stored before lines rows) → all·below at (stored before lines rows) → place·of (name·of (word·of text before i)) (names taken) ≡ some j)
-          → at + to ≤ t .base → Arranging (set work k j) (i + 1) (k + 1)
-      arranging-turn j found front =
+          → at + to ≤ t .base → t .base ≤ t .end → Arranging (set work k j) (i + 1) (k + 1)
+      arranging-turn j found front order =
           let more : length (names·of (words (range text before from (i + 1)))) ≡ length (names·of (words (range text before from i))) + 1 = rw (names-more, length-append) refl in
           record {
             size = length-set work k j ∙ a .size;
@@ -196,7 +196,7 @@ module _ (text before : List ℕ) (lines rows from to at head : ℕ) (t : Table)
             within = λ l. omega arith;
             count = omega (arith, a .count);
             few = omega (arith, a .few);
-            indexed = λ below. store-indexed j front below;
+            indexed = λ below. store-indexed j front order below;
             rest = λ taken same below. rest-more taken j (found taken same below) same below;
           }
 
@@ -227,7 +227,7 @@ module _ {text before clear work : List ℕ} {lines rows to at : ℕ} {t : Table
       sym (take-take at (t .base) work l) ∙ ap (take at) (p .front) ∙ take-take at (t .base) clear l ∙ cleared-front before clear at (at + to) c (omega arith)
 
   pub filled-fits : Table·fits (at + to) (length work) t
-  filled-fits = record { begins = fits .begins; within = omega (arith, fits .within, filled-size); sound = fits .sound }
+  filled-fits = record { begins = fits .begins; ahead = fits .ahead; within = omega (arith, fits .within, filled-size); sound = fits .sound }
 
   pub filled-indexed : all·below at (stored work lines rows) → Indexed text work lines rows t
   filled-indexed below =

@@ -287,6 +287,7 @@ module _ {text codes before : List ℕ} {at from to taxa characters head : ℕ} 
   paging-put =
       record {
         front = omega (arith, j .place .few, j .below, j .fits .begins);
+        order = omega (arith, j .fits .begins, j .fits .ahead);
         space = paging-space (j .room) (j .place) (j .below);
         table = omega (arith, j .fits .within, j .place .size);
         sound = j .fits .sound;

@@ -141,6 +141,7 @@ module _ {text codes before : List ℕ} {at from to taxa n head : ℕ} {t : Tabl
   sequencing-put fits s d =
       record {
         front = omega (arith, k .few, j .below, fits .begins);
+        order = omega (arith, fits .begins, fits .ahead);
         space = sequencing-room (j .room) k (j .below);
         table = omega (arith, fits .within, k .size);
         sound = fits .sound;

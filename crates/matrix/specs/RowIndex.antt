@@ -3,8 +3,8 @@ use Prim.Native.Nat.{ℕ, _+_, _≤_, _<_}
 use Rattle.lexer.specs.Base.{alike}
 use Rattle.matrix.specs.Lines.{name·at, stored}
 use Rattle.matrix.specs.OrderHeld.{all·below}
-use Rattle.slots.specs.Filling.{Kept, Table·sound, slot·of}
-use Rattle.slots.specs.Hashes.{hash}
+use Rattle.slots.specs.Entering.{Entered}
+use Rattle.slots.specs.Filling.{Table·sound}
 use Rattle.slots.specs.declared.Table.{Table}
 use lib.ListN.{length, getD, take}
 use mathlib.Core.Bool.{Bool, true}
@@ -15,9 +15,9 @@ use mathlib.Core.Path.{_≡_}
 unfoldable pub row·alike : List ℕ → List ℕ → ℕ → ℕ → ℕ → Bool
 row·alike text work at i k = alike (name·at text work i) (name·at text work (getD work (at + k) 0))
 
--- The table has each of so many stored rows: its number, with 1 added, is kept from the slot of its name on.
+-- The table has each of so many stored rows: its number, with 1 added, is entered for its name.
 pub record Indexed (text work : List ℕ) (at rows : ℕ) (t : Table) : Type 0 where
-  pub each : (k : ℕ) → k < rows → Kept work (slot·of t (hash (name·at text work (getD work (at + k) 0)))) (t .end) (k + 1)
+  pub each : (k : ℕ) → k < rows → Entered work t (name·at text work (getD work (at + k) 0)) (k + 1)
 
 -- So many rows are stored, and a sound table has them.
 pub record Rows·tabled (text work : List ℕ) (at rows : ℕ) (t : Table) : Type 0 where
@@ -28,6 +28,7 @@ pub record Rows·tabled (text work : List ℕ) (at rows : ℕ) (t : Table) : Typ
 -- There is room for one row more, in front of the table.
 pub record Row·room (work : List ℕ) (at rows s : ℕ) (t : Table) : Type 0 where
   pub front : at + rows < t .base
+  pub order : t .base ≤ t .end
   pub space : at + rows < length work
   pub table : t .end ≤ length work
   pub sound : Table·sound t
@@ -44,6 +45,7 @@ pub record Row·put (text before after : List ℕ) (at rows s : ℕ) (t : Table)
 -- A sound table stands behind so many stored rows.
 pub record Rows·behind (work : List ℕ) (lines rows : ℕ) (t : Table) : Type 0 where
   pub front : lines + rows ≤ t .base
+  pub order : t .base ≤ t .end
   pub space : lines + rows ≤ length work
   pub table : t .end ≤ length work
   pub sound : Table·sound t

@@ -6,8 +6,8 @@ ghost use Rattle.lexer.specs.Base.{pick};
 ghost use Rattle.matrix.specs.Lines.{name·at, names·stored, stored};
 ghost use Rattle.matrix.specs.OrderHeld.{Index·below, place·of};
 ghost use Rattle.matrix.specs.RowIndex.{Indexed, Row·put, Row·room, Rows·behind, Rows·put, row·alike};
-ghost use Rattle.slots.specs.Filling.{Filled, Table·sound, slot·of};
-ghost use Rattle.slots.specs.Hashes.{hash};
+ghost use Rattle.slots.specs.Entering.{Name·entered};
+ghost use Rattle.slots.specs.Filling.{Table·sound};
 ghost use Rattle.slots.specs.Seeking.{Nearer};
 ghost use lib.Dec.{ltb};
 ghost use lib.ListN.{length};
@@ -19,9 +19,12 @@ use block::Index;
 use block::TaxonNumber;
 use block::alike;
 use lexer::start_of;
+use slots::Entry;
 use slots::Table;
-use slots::fill_slot;
+use slots::enter_name;
+use slots::name_entry;
 use slots::name_slot;
+use slots::window_end;
 
 // The row that a slot holds, with 1 added, if it is before the one that was found and its name is that of a word; else the one that was found.
 fn nearer(text: &[u8], work: &[u32], at: usize, i: usize, found: usize, value: usize) -> usize
@@ -48,17 +51,17 @@ fn row_index(found: usize, rows: usize) -> Index
     Index::None
 }
 
-// The first stored row, of so many from an index of work memory on, whose name is that of a word, by a table of their names. Where the search comes to
-// the end of the table, all rows are looked at.
+// The first stored row, of so many from an index of work memory on, whose name is that of a word, by a table of their names. Where no slot of its window is
+// free, it is in the trie behind the table; only where that was given up, all rows are looked at.
 pub fn row_found(text: &[u8], work: &[u32], at: usize, rows: usize, i: usize, table: Table) -> Index
     requires { ⌜ (at + rows ≤ length (now work)) × Table·sound table ⌝ }
     ensures { λ r. ⌜ (Indexed (now (text .entry)) (now (work .entry)) at rows table → index·of r ≡ place·of (name·at (now (text .entry)) (now (work .entry)) i) (names·stored (now (text .entry)) (now (work .entry)) (stored (now (work .entry)) at rows))) ⌝ }
     ensures { λ r. ⌜ Index·below rows r ⌝ }
 {
-    let end = table.end;
     let mut found = rows;
     let mut p = name_slot(text, work, i, table);
-    while p < end {
+    let stop = window_end(table, p);
+    while p < stop {
         let value = start_of(work, p);
         if value == 0 {
             return row_index(found, rows);
@@ -66,17 +69,19 @@ pub fn row_found(text: &[u8], work: &[u32], at: usize, rows: usize, i: usize, ta
         found = nearer(text, work, at, i, found, value);
         p += 1;
     }
-    row_of(text, work, at, rows, i)
+    match name_entry(text, work, i, table.end) {
+        Entry::Unknown => row_of(text, work, at, rows, i),
+        Entry::None => row_index(found, rows),
+        Entry::Value(value) => row_index(nearer(text, work, at, i, found, value), rows),
+    }
 }
 
 // The row of a number, whose name is a word, is put into the table.
 fn insert_row(text: &[u8], work: &mut [u32], row: usize, s: usize, table: Table)
-    requires { ⌜ Table·sound table × (table .end ≤ length (now work)) × (row ≤ 1048576) ⌝ }
-    ensures { λ r. ⌜ Filled (now (work .entry)) (now (work .exit)) (slot·of table (hash (name·at (now (text .entry)) (now (work .entry)) s))) (table .end) (row + 1) ⌝ }
+    requires { ⌜ Table·sound table × (table .base ≤ table .end) × (table .end ≤ length (now work)) × (row ≤ 1048576) ⌝ }
+    ensures { λ r. ⌜ Name·entered (now (work .entry)) (now (work .exit)) table (name·at (now (text .entry)) (now (work .entry)) s) (row + 1) ⌝ }
 {
-    let end = table.end;
-    let from = name_slot(text, work, s, table);
-    fill_slot(work, from, end, (row + 1) as u32);
+    enter_name(text, work, s, (row + 1) as u32, table);
 }
 
 // One row more, whose name is a word: it is stored behind the others, and where its name is to be new, put into the table of their names.

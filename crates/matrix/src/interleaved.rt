@@ -25,7 +25,7 @@ use block::newline;
 use lexer::Refusal;
 use lexer::start_of;
 use slots::Table;
-use slots::free_table;
+use slots::name_table;
 
 // A page so far, by its shape: is it the first; how many rows it has; how many cells each row has from earlier pages; and its width, 0 before its
 // first line.
@@ -305,7 +305,7 @@ pub fn interleaved(
     requires { ⌜ Rows·room (now text) (now work) at to ⌝ }
     ensures { λ r. ⌜ Pages·read (now (text .entry)) (now (codes .entry)) (now (work .entry)) (now (work .exit)) at from to taxa characters head r ⌝ }
 {
-    let table = free_table(work, at + to, at_most(taxa, to));
+    let table = name_table(work, at + to, at_most(taxa, to));
     interleaved_rows(
         text,
         work,

@@ -38,7 +38,7 @@ use lexer::word_bytes;
 use lexer::word_stop;
 use lexer::word_stop_by;
 use slots::Table;
-use slots::free_table;
+use slots::name_table;
 
 // What the symbols of a word come to: how many cells, and whether all are states; or one of them is no symbol.
 pub enum Cells {
@@ -604,7 +604,7 @@ pub fn sequential(
     requires { ⌜ Rows·room (now text) (now work) at to ⌝ }
     ensures { λ r. ⌜ Rows·read (now (text .entry)) (now (codes .entry)) (now (work .entry)) (now (work .exit)) at from to taxa characters head r ⌝ }
 {
-    let table = free_table(work, at + to, at_most(taxa, to));
+    let table = name_table(work, at + to, at_most(taxa, to));
     sequential_rows(
         text,
         work,

@@ -18,7 +18,7 @@ use block::newline;
 use lexer::Refusal;
 use lexer::start_of;
 use slots::Table;
-use slots::free_table;
+use slots::name_table;
 
 // The index of the name of a row by its number, counted from 1 on, where rows are stored from an index of work memory on.
 pub fn row_name(work: &[u32], at: usize, row: TaxonNumber) -> usize
@@ -95,7 +95,7 @@ pub fn arrange(
     requires { ⌜ (to ≤ lines) × (lines + rows ≤ at) × (at + to ≤ length (now work)) × (rows ≤ 1048576) ⌝ }
     ensures { λ r. ⌜ Arranged (now (text .entry)) (now (work .entry)) (now (work .exit)) lines rows from to at head r ⌝ }
 {
-    let table = free_table(work, at + to, rows);
+    let table = name_table(work, at + to, rows);
     index_rows(text, work, lines, rows, table);
     arrange_names(text, work, lines, rows, from, to, at, head, table)
 }

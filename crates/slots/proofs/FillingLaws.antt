@@ -4,10 +4,10 @@ use Rattle.lexer.proofs.Basics.{by-test}
 use Rattle.slots.specs.Filling.{Taken, Free, Kept, Cleared, Filled}
 use borrow.Author.Tests.{eqb-true, eqb-false, ltb-true, ltb-false}
 use lib.Dec.{eqb, ltb}
-use lib.ListN.{length, getD, set, length-set}
-use lib.Seq.{getD-set-same, getD-set-other, take-set-le}
+use lib.ListN.{length, getD, take, set, length-set}
+use lib.Seq.{getD-set-same, getD-set-other, take-set-le, take-take}
 use mathlib.Core.List.{List}
-use mathlib.Core.Path.{_≡_, refl, _∙_}
+use mathlib.Core.Path.{_≡_, refl, sym, ap, _∙_}
 use native.Mathlib.Omega.{arith}
 
 -- A slot more is taken.
@@ -80,3 +80,8 @@ kept-same work other base from end v l same k =
 -- A slot behind the front of a table is cleared.
 pub cleared-more : (before work : List ℕ) (base p v : ℕ) → Cleared before work base → base ≤ p → Cleared before (set work p v) base
 cleared-more before work base p v k h = record { size = length-set work p v ∙ k .size; front = take-set-le base work p v h ∙ k .front }
+
+-- What stands behind the front of a table is cleared next.
+pub cleared-then : (before work after : List ℕ) (base head : ℕ) → Cleared before work base → base ≤ head → Cleared work after head → Cleared before after base
+cleared-then before work after base head k h m =
+    record { size = m .size ∙ k .size; front = sym (take-take base head after h) ∙ ap (take base) (m .front) ∙ take-take base head work h ∙ k .front }

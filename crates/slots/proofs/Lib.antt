@@ -2,3 +2,10 @@
 pub mod HashLaws
 pub mod FillingLaws
 pub mod SeekingLaws
+pub mod LetterLaws
+pub mod TrieLaws
+pub mod ReachLaws
+pub mod GrowthLaws
+pub mod PathLaws
+pub mod EnteringLaws
+pub mod SoughtLaws

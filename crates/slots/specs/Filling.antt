@@ -18,6 +18,7 @@ pub record Table·sound (t : Table) : Type 0 where
 -- A table that begins at an index and fits into so many numbers.
 pub record Table·fits (base size : ℕ) (t : Table) : Type 0 where
   pub begins : t .base ≡ base
+  pub ahead : base ≤ t .end
   pub within : t .end ≤ size
   pub sound : Table·sound t
 
@@ -28,6 +29,7 @@ Taken work from to = (q : ℕ) → from ≤ q → q < to → 0 < getD work q 0
 -- The first free slot from one on, or the end of the table.
 pub record Free (work : List ℕ) (from end p : ℕ) : Type 0 where
   pub ahead : from ≤ p
+  pub within : from < p → p ≤ end
   pub taken : Taken work from p
   pub stop : p < end → getD work p 0 ≡ 0
 

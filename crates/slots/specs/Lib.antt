@@ -2,3 +2,5 @@
 pub mod Hashes
 pub mod Filling
 pub mod Seeking
+pub mod Trie
+pub mod Entering

@@ -3,17 +3,19 @@
 ghost use Prim.Native.Nat.{_^_, _≤_, _<_};
 ghost use Rattle.lexer.specs.Stored.{word·of};
 ghost use Rattle.lexer.specs.Words.{spaced};
+ghost use Rattle.slots.specs.Entering.{Name·entered, window·end};
 ghost use Rattle.slots.specs.Filling.{Cleared, Filled, Free, Table·fits, Table·sound, slot·of};
 ghost use Rattle.slots.specs.Hashes.{hash};
 ghost use lib.ListN.{length};
 ghost use mathlib.Core.Path.{_≡_};
 use super::Table;
 use super::hashes::hash_at;
+use super::trie::put_path;
 use lexer::start_of;
 
 // A table for so many names, from an index of work memory on, as far as there is room: four slots for each, and some behind them.
 fn table_for(base: usize, count: usize, length: usize) -> Table
-    requires { ⌜ (base ≤ 2 ^ 62) × (count ≤ 1048576) ⌝ }
+    requires { ⌜ (base ≤ length) × (length ≤ 2 ^ 62) × (count ≤ 1048576) ⌝ }
     ensures { λ r. ⌜ Table·fits base length r ⌝ }
 {
     let size = count * 4 + 1;
@@ -91,4 +93,72 @@ pub fn fill_slot(work: &mut [u32], from: usize, end: usize, value: u32)
     if p < end {
         work[p] = value;
     }
+}
+
+// The lesser of two numbers.
+fn lesser(a: usize, b: usize) -> usize
+    ensures { λ r. ⌜ (r ≤ a) × (r ≤ b) ⌝ }
+{
+    if a < b {
+        return a;
+    }
+    b
+}
+
+// A trie with this head has no names, if there is room for it.
+fn begin_trie(work: &mut [u32], head: usize)
+    ensures { λ r. ⌜ Cleared (now (work .entry)) (now (work .exit)) head ⌝ }
+{
+    if work.len() <= head {
+        return;
+    }
+    if work.len() - head < 2 {
+        return;
+    }
+    if head < 4294967294 {
+        work[head] = (head + 2) as u32;
+        work[head + 1] = 0;
+    }
+}
+
+// A table for so many names with a trie behind it, both without names. The table takes at most about a quarter of the room, so that the trie has enough
+// for all names of a text.
+pub fn name_table(work: &mut [u32], base: usize, count: usize) -> Table
+    requires { ⌜ (base ≤ length (now work)) × (count ≤ 1048576) ⌝ }
+    ensures { λ r. ⌜ Cleared (now (work .entry)) (now (work .exit)) base × Table·fits base (length (now (work .entry))) r ⌝ }
+{
+    let room = (work.len() - base) / 16;
+    let table = free_table(work, base, lesser(count, room));
+    begin_trie(work, table.end);
+    table
+}
+
+// Where the window ends that begins at a slot.
+pub fn window_end(table: Table, from: usize) -> usize
+    ensures { λ r. ⌜ r ≡ window·end (table .end) from ⌝ }
+{
+    let end = table.end;
+    if end <= from {
+        return end;
+    }
+    if end - from <= 16 {
+        return end;
+    }
+    from + 16
+}
+
+// A number is entered for the name of a word: at the first free slot of its window or, where none is free, in the trie.
+pub fn enter_name(text: &[u8], work: &mut [u32], i: usize, value: u32, table: Table)
+    requires { ⌜ Table·sound table × (table .base ≤ table .end) × (table .end ≤ length (now work)) × (0 < value) ⌝ }
+    ensures { λ r. ⌜ Name·entered (now (work .entry)) (now (work .exit)) table (spaced (word·of (now (text .entry)) (now (work .entry)) i .token .text)) value ⌝ }
+{
+    let from = name_slot(text, work, i, table);
+    let stop = window_end(table, from);
+    let p = free_slot(work, from, stop);
+    if p < stop {
+        work[p] = value;
+        return;
+    }
+    let start = start_of(work, i);
+    put_path(text, start, work, table.end, value);
 }

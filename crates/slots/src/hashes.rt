@@ -16,7 +16,7 @@ use lexer::text_start;
 use lexer::word_stop;
 
 // A byte of a name: `_` is a blank.
-fn blank_for(b: u8) -> u8
+pub fn blank_for(b: u8) -> u8
     ensures { λ r. ⌜ r ≡ pick (eqb b 95) 32 b ⌝ }
 {
     if b == 95 {

@@ -3,14 +3,26 @@
 
 pub mod filling;
 pub mod hashes;
+pub mod trie;
 
+pub use filling::enter_name;
 pub use filling::fill_slot;
 pub use filling::free_table;
 pub use filling::name_slot;
+pub use filling::name_table;
+pub use filling::window_end;
+pub use trie::name_entry;
 
 // A table: where it begins, at how many slots a search can begin, and where it ends.
 pub struct Table {
     pub base: usize,
     pub size: usize,
     pub end: usize,
+}
+
+// What a trie has for a name: a value, none, or nothing that is known.
+pub enum Entry {
+    Unknown,
+    None,
+    Value(usize),
 }

@@ -26,7 +26,7 @@ insert-row-requires : tie.Need-insert-row-requires Inv-loop μ-loop
 insert-row-requires c κs =
     let l = c .before .before .before .before in
     let p = l .before .before .before .pre in
-    (p .sound, omega (arith, p .table, l .loop .inv .size), omega (arith, p .few, l .loop .inv .few))
+    (p .sound, p .order, omega (arith, p .table, l .loop .inv .size), omega (arith, p .few, l .loop .inv .few))
 
 add-k : tie.Need-add-k Inv-loop μ-loop
 add-k c = search needs

@@ -4,32 +4,22 @@ use Rattle.matrix.proofs.index.insert_row.Tie as tie
 use Rattle.matrix.specs.Lines.{name·at}
 use borrow.Author.Needs.{needs}
 
-name-slot-requires : tie.Need-name-slot-requires
-name-slot-requires c κs = search needs
+add-enter-name : tie.Need-add-enter-name
+add-enter-name c = search needs
 
-add-fill-slot : tie.Need-add-fill-slot
-add-fill-slot c = search needs
+cast-enter-name : tie.Need-cast-enter-name
+cast-enter-name c = search needs
 
-cast-fill-slot : tie.Need-cast-fill-slot
-cast-fill-slot c = search needs
-
-fill-slot-requires : tie.Need-fill-slot-requires
-fill-slot-requires c κs = search needs
+enter-name-requires : tie.Need-enter-name-requires
+enter-name-requires c κs = search needs
 
 same-length : tie.Need-same-length
 same-length c = search needs
 
 returns : tie.Need-returns
 unfolding name·at
-returns c = rw (← c .before .before .before .before .name-slot .ensures) (c .before .before .fill-slot .ensures)
+returns c = c .before .before .enter-name .ensures
 
 pub insert-row-spec : {M : Type 1} → statement M
 insert-row-spec =
-    tie.close
-    (tie.spec
-    name-slot-requires
-    add-fill-slot
-    cast-fill-slot
-    fill-slot-requires
-    same-length
-    returns)
+    tie.close (tie.spec add-enter-name cast-enter-name enter-name-requires same-length returns)

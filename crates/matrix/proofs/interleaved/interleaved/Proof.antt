@@ -4,14 +4,14 @@ use Rattle.matrix.proofs.interleaved.interleaved.Statement.{statement}
 use Rattle.matrix.proofs.interleaved.interleaved.Tie as tie
 use borrow.Author.Needs.{needs}
 
-add-free-table : tie.Need-add-free-table
-add-free-table c = search needs
+add-name-table : tie.Need-add-name-table
+add-name-table c = search needs
 
 at-most-requires : tie.Need-at-most-requires
 at-most-requires c κs = search needs
 
-free-table-requires : tie.Need-free-table-requires
-free-table-requires c κs = search needs
+name-table-requires : tie.Need-name-table-requires
+name-table-requires c κs = search needs
 
 interleaved-rows-requires : tie.Need-interleaved-rows-requires
 interleaved-rows-requires c κs = search needs
@@ -20,15 +20,15 @@ same-length : tie.Need-same-length
 same-length c = search needs
 
 returns : tie.Need-returns
-returns c = let f = c .before .before .before .before .before .before in read-cleared (f .before .before .before .before .before .pre) (f .free-table .ensures .0) (c .before .before .interleaved-rows .ensures)
+returns c = let f = c .before .before .before .before .before .before in read-cleared (f .before .before .before .before .before .pre) (f .name-table .ensures .0) (c .before .before .interleaved-rows .ensures)
 
 pub interleaved-spec : {M : Type 1} → statement M
 interleaved-spec =
     tie.close
     (tie.spec
-    add-free-table
+    add-name-table
     at-most-requires
-    free-table-requires
+    name-table-requires
     interleaved-rows-requires
     same-length
     returns)

@@ -5,11 +5,11 @@ use Rattle.matrix.proofs.order.arrange.Tie as tie
 use borrow.Author.Needs.{needs}
 use native.Mathlib.Omega.{arith}
 
-add-free-table : tie.Need-add-free-table
-add-free-table c = search needs
+add-name-table : tie.Need-add-name-table
+add-name-table c = search needs
 
-free-table-requires : tie.Need-free-table-requires
-free-table-requires c κs = search needs
+name-table-requires : tie.Need-name-table-requires
+name-table-requires c κs = search needs
 
 index-rows-requires : tie.Need-index-rows-requires
 index-rows-requires c κs = search needs
@@ -19,7 +19,7 @@ arrange-names-requires c κs =
     let i = c .before .before .before in
     let f = i .before .before .before .before in
     let room = f .before .before .before .before .pre in
-    let e = f .free-table .ensures in
+    let e = f .name-table .ensures in
     let p = i .index-rows .ensures in
     ((room .0, room .1, omega (arith, room .2, filled-size room (e .0) (e .1) p), room .3), filled-fits room (e .0) (e .1) p, filled-indexed room (e .0) (e .1) p)
 
@@ -30,14 +30,14 @@ returns : tie.Need-returns
 returns c =
     let i = c .before .before .before .before .before .before in
     let f = i .before .before .before .before in
-    arranged-filled (f .before .before .before .before .pre) (f .free-table .ensures .0) (f .free-table .ensures .1) (i .index-rows .ensures) (c .before .before .arrange-names .ensures)
+    arranged-filled (f .before .before .before .before .pre) (f .name-table .ensures .0) (f .name-table .ensures .1) (i .index-rows .ensures) (c .before .before .arrange-names .ensures)
 
 pub arrange-spec : {M : Type 1} → statement M
 arrange-spec =
     tie.close
     (tie.spec
-    add-free-table
-    free-table-requires
+    add-name-table
+    name-table-requires
     index-rows-requires
     arrange-names-requires
     same-length

@@ -81,7 +81,7 @@ loop-again-2 c =
     let s = l .before .before .before .before in
     let w = word-here _ _ _ _ _ _ _ _ _ (s .pre .0) _ _ _ (l .before .loop .inv) (l .loop-test .taken) in
     arranging-turn _ _ _ _ _ _ _ _ _ (s .pre .0) _ _ _ (l .before .loop .inv) (l .loop-test .taken) (rw (← w) (sym (n .before .newline .ensures) ∙ n .if1 .left)) _
-    (found-place _ _ _ _ _ _ _ _ _ (s .pre .0) _ _ _ (l .before .loop .inv) _ (l .loop-test .taken) (rw (c .before .j .given .1) at (r .row-found .ensures .0))) (omega (arith, s .pre .1 .begins))
+    (found-place _ _ _ _ _ _ _ _ _ (s .pre .0) _ _ _ (l .before .loop .inv) _ (l .loop-test .taken) (rw (c .before .j .given .1) at (r .row-found .ensures .0))) (omega (arith, s .pre .1 .begins)) (omega (arith, s .pre .1 .begins, s .pre .1 .ahead))
 
 enum-told : tie.Need-enum-told Inv-loop μ-loop
 enum-told c = search needs
