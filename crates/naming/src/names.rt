@@ -1,5 +1,6 @@
 // The names of rows, whether no two are alike, ASCII case ignored. Some thousand are entered into a table at a time and all later ones are looked up in
-// it. A name is looked for from its slot on up to a free one; where the table ends first, all names that were entered are looked at.
+// it; of more names only suspects are entered (filter.rt), where these are few. A name is looked for from its slot on up to a free one; where the table
+// ends first, all names that were entered are looked at.
 
 ghost use Prim.Native.Nat.{_≤_, _<_};
 ghost use Rattle.block.specs.Names.{known};
@@ -296,7 +297,7 @@ fn many_differ(source: &[u8], at: usize, taxa: TaxonNumber, characters: Characte
     ensures { λ r. ⌜ Names·judged (now (source .entry)) at (taxa .0) (characters .0) r ⌝ }
 {
     let mut slots = [0u32; 16384];
-    let mut places = [0usize; 8000];
+    let mut places = [0usize; 5200];
     differ_by(source, at, taxa, characters, &mut slots, &mut places)
 }
 
@@ -312,7 +313,7 @@ pub fn names_differ(
     if taxa.0 <= 200 {
         return few_differ(source, at, taxa, characters);
     }
-    if taxa.0 <= 8000 {
+    if taxa.0 <= 5200 {
         return many_differ(source, at, taxa, characters);
     }
     match compare_names(source, at, taxa, characters) {
