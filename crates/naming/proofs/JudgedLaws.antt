@@ -65,7 +65,7 @@ none-start (n ∷ ns) = none-start ns
 pub none-one : (n : List ℕ) (ns : List (List ℕ)) → none·known (n ∷ []) ns ≡ not (known n ns)
 none-one n ns = none-last [] n ns ∙ rw (none-start ns)
 
-pub new-start : (ns : List (List ℕ)) → new·differ [] ns ≡ names·differ ns
+new-start : (ns : List (List ℕ)) → new·differ [] ns ≡ names·differ ns
 unfolding new·differ
 new-start ns = rw (none-start ns)
 

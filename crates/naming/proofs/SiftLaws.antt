@@ -6,7 +6,7 @@ use Rattle.lexer.proofs.Basics.{by-test, and-false, and-true, alike-sym, alike-
 use Rattle.lexer.specs.Base.{pick, alike, lower}
 use Rattle.naming.proofs.JudgedLaws.{known-last, moved, few-none, none-one}
 use Rattle.naming.specs.Entries.{known·count, few·known}
-use Rattle.naming.specs.Sifting.{bits·of, Marked, Marks}
+use Rattle.naming.specs.Sifting.{bits·of, other·of, Set, Bits·set, Marks}
 use borrow.Author.Tests.{eqb-true, eqb-false, leb-true, leb-false, le-leb, lt-leb}
 use lib.Arith.{bin-ind}
 use lib.Bits.{bitOr, or-step, or-comm, or-self}
@@ -40,41 +40,54 @@ or-kept w m g h = or-assoc w m g ∙ ap (bitOr w) (or-comm m g) ∙ sym (or-asso
 or-new : (w m : ℕ) → bitOr (bitOr w m) m ≡ bitOr w m
 or-new w m = or-assoc w m m ∙ ap (bitOr w) (or-self m)
 
--- The bits of a number are set in its word, or there is no such word, or they were set before.
-pub marks-outside : (words : List ℕ) (h : ℕ) → length words ≤ h % 16384 → Marks words words h false
-marks-outside words h out =
-    record { size = refl; new = record { held = λ l. absurd (omega arith) }; old = λ g m. m; told = λ t. absurd (false≢true t) }
+-- Bits are set in a word; or there is no such word, or they were set before.
+module _ (words : List ℕ) (i bits : ℕ) where
+  pub bits-outside : length words ≤ i → Bits·set words words i bits false
+  bits-outside out = record { size = refl; new = λ l. absurd (omega arith); old = λ j more s. s; told = λ t. absurd (false≢true t) }
 
-module _ (words : List ℕ) (h : ℕ) {bits : ℕ} (are : bits ≡ bits·of h) where
-  pub marks-held : bitOr (getD words (h % 16384) 0) bits ≡ getD words (h % 16384) 0 → Marks words words h false
-  marks-held is = record { size = refl; new = record { held = λ _. rw (← are) is }; old = λ g m. m; told = λ t. absurd (false≢true t) }
+  pub bits-held : bitOr (getD words i 0) bits ≡ getD words i 0 → Bits·set words words i bits false
+  bits-held is = record { size = refl; new = λ _. is; old = λ j more s. s; told = λ t. absurd (false≢true t) }
 
-  module _ (inside : h % 16384 < length words) (other : bitOr (getD words (h % 16384) 0) bits ≡ getD words (h % 16384) 0 → ⊥) where
+  module _ (inside : i < length words) (other : bitOr (getD words i 0) bits ≡ getD words i 0 → ⊥) where
     abbrev new-word : ℕ
-    new-word = bitOr (getD words (h % 16384) 0) bits
+    new-word = bitOr (getD words i 0) bits
 
-    set-marked : (g : ℕ) → Marked words g → Marked (set words (h % 16384) new-word) g
-    set-marked g m =
+    still-set : (j more : ℕ) → Set words j more → Set (set words i new-word) j more
+    still-set j more s l =
+        let before : bitOr (getD words j 0) more ≡ getD words j 0 = s (omega (arith, length-set words i new-word)) in
+        by-test (eqb j i)
+        (λ e.
+        let same : j ≡ i = eqb-true j i e in
+        let now : getD (set words i new-word) j 0 ≡ new-word = ap (λ k. getD (set words i new-word) k 0) same ∙ getD-set-same words i new-word 0 inside in
+        rw now (or-kept (getD words i 0) bits more (rw same at before)))
+        (λ e. rw (getD-set-other words i j new-word 0 (eqb-false j i e)) before)
+
+    pub bits-new : Bits·set words (set words i (bitOr (getD words i 0) bits)) i bits true
+    bits-new =
         record {
-          held = λ l.
-              let before : bitOr (getD words (g % 16384) 0) (bits·of g) ≡ getD words (g % 16384) 0 = m .held (omega (arith, length-set words (h % 16384) new-word)) in
-              by-test (eqb (g % 16384) (h % 16384))
-              (λ e.
-              let same : g % 16384 ≡ h % 16384 = eqb-true (g % 16384) (h % 16384) e in
-              let now : getD (set words (h % 16384) new-word) (g % 16384) 0 ≡ new-word =
-              ap (λ i. getD (set words (h % 16384) new-word) i 0) same ∙ getD-set-same words (h % 16384) new-word 0 inside in
-              rw now (or-kept (getD words (h % 16384) 0) bits (bits·of g) (rw same at before)))
-              (λ e. rw (getD-set-other words (h % 16384) (g % 16384) new-word 0 (eqb-false (g % 16384) (h % 16384) e)) before);
+          size = length-set words i new-word;
+          new = λ _. rw (getD-set-same words i new-word 0 inside) (or-new (getD words i 0) bits);
+          old = still-set;
+          told = λ _ s. other (s inside);
         }
 
-    pub marks-set : Marks words (set words (h % 16384) (bitOr (getD words (h % 16384) 0) bits)) h true
-    marks-set =
-        record {
-          size = length-set words (h % 16384) new-word;
-          new = record { held = λ _. rw (getD-set-same words (h % 16384) new-word 0 inside, ← are) (or-new (getD words (h % 16384) 0) bits) };
-          old = set-marked;
-          told = λ _ m. other (rw are (m .held inside));
-        }
+-- The bits of a number and of the other are set one after the other.
+pub marks-both : (words between after : List ℕ) (h : ℕ) {bits more : ℕ} → bits ≡ bits·of h → more ≡ bits·of (other·of h) → {r s : Bool}
+    → Bits·set words between (h / 262144) bits r → Bits·set between after (other·of h / 262144) more s → Marks words after h (r || s)
+marks-both words between after h is are {r} {s} first second =
+    record {
+      size = second .size ∙ first .size;
+      new = record { first = second .old (h / 262144) (bits·of h) (rw (← is) (first .new)); second = rw (← are) (second .new) };
+      old = λ g m.
+          record {
+            first = second .old (g / 262144) (bits·of g) (first .old (g / 262144) (bits·of g) (m .first));
+            second = second .old (other·of g / 262144) (bits·of (other·of g)) (first .old (other·of g / 262144) (bits·of (other·of g)) (m .second));
+          };
+      told = λ y m.
+          by-test r
+          (λ t. first .told t (rw is (m .first)))
+          (λ f. second .told (rw f at y) (rw are (first .old (other·of h / 262144) (bits·of (other·of h)) (m .second))));
+    }
 
 -- A name is known exactly where a name like it is.
 known-like : (m n : List ℕ) (es : List (List ℕ)) → alike m n ≡ true → known m es ≡ true → known n es ≡ true

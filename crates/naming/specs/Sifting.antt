@@ -1,5 +1,5 @@
 -- Names that are sifted: the bits of each name's number are set, and a name whose bits were all set before is entered.
-use Prim.Native.Nat.{ℕ, _^_, _/_, _%_, _≤_, _<_}
+use Prim.Native.Nat.{ℕ, _*_, _^_, _/_, _%_, _≤_, _<_}
 use Rattle.block.specs.Names.{known}
 use Rattle.block.specs.Sound.{names·differ}
 use Rattle.block.specs.declared.data.TaxonNumber.{TaxonNumber}
@@ -16,15 +16,30 @@ use mathlib.Core.Bool.{Bool, true, false}
 use mathlib.Core.List.{List, [], _∷_, _++_}
 use mathlib.Core.Path.{_≡_}
 
--- The bits of a number.
+-- The bits of a number, and the other number that it tells.
 unfoldable pub bits·of : ℕ → ℕ
-bits·of h = bitOr (bitOr (2 ^ (h / 16384 % 64)) (2 ^ (h / 1048576 % 64))) (2 ^ (h / 67108864 % 64))
+bits·of h = bitOr (2 ^ (h / 4096 % 64)) (2 ^ (h / 64 % 64))
 
--- The bits of a number are set in its word, where there is such a word.
+unfoldable pub other·of : ℕ → ℕ
+other·of h = h % 4294967296 * 2654435761 % 4294967296
+
+-- Bits are set in the word at an index, where there is such a word.
+abbrev pub Set : List ℕ → ℕ → ℕ → Type 0
+Set words i bits = i < length words → bitOr (getD words i 0) bits ≡ getD words i 0
+
+-- Bits were set in a word, besides all that were; the answer is whether one of them was not before, as far as it is true.
+pub record Bits·set (words after : List ℕ) (i bits : ℕ) (r : Bool) : Type 0 where
+  pub size : length after ≡ length words
+  pub new : Set after i bits
+  pub old : (j more : ℕ) → Set words j more → Set after j more
+  pub told : r ≡ true → Set words i bits → ⊥
+
+-- The bits of a number and of the other are set, each in its own word.
 pub record Marked (words : List ℕ) (h : ℕ) : Type 0 where
-  pub held : h % 16384 < length words → bitOr (getD words (h % 16384) 0) (bits·of h) ≡ getD words (h % 16384) 0
+  pub first : Set words (h / 262144) (bits·of h)
+  pub second : Set words (other·of h / 262144) (bits·of (other·of h))
 
--- The bits of a number were set, besides all that were; the answer is whether one of them was not before, as far as it is true.
+-- The same of the bits of a number and of the other.
 pub record Marks (words marked : List ℕ) (h : ℕ) (r : Bool) : Type 0 where
   pub size : length marked ≡ length words
   pub new : Marked marked h

@@ -4,7 +4,7 @@
 
 ghost use Prim.Native.Nat.{_^_, _<_, _≤_};
 ghost use Rattle.naming.specs.Entries.{Lines·kept, Room·of};
-ghost use Rattle.naming.specs.Sifting.{Line·sifted, Marks, Names·compared, Names·sifted, bits·of};
+ghost use Rattle.naming.specs.Sifting.{Bits·set, Line·sifted, Marks, Names·compared, Names·sifted, bits·of};
 ghost use lib.ListN.{length, take};
 ghost use mathlib.Core.Path.{_≡_};
 use super::names::enter_line;
@@ -39,28 +39,37 @@ fn bit(k: u64) -> u64
     1 << k
 }
 
-// The bits of a number: three, or fewer where some are the same.
+// The bits of a number: two of a word, or one.
 fn bits_of(h: u64) -> u64
     ensures { λ r. ⌜ r ≡ bits·of h ⌝ }
 {
-    bit(h / 16384 % 64) | bit(h / 1048576 % 64) | bit(h / 67108864 % 64)
+    bit(h / 4096 % 64) | bit(h / 64 % 64)
 }
 
-// The bits of a number are set in its word. Was one of them not set before?
-fn set_bits(words: &mut [u64], h: u64) -> bool
-    ensures { λ r. ⌜ Marks (now (words .entry)) (now (words .exit)) h r ⌝ }
+// Bits are set in the word at an index. Was one of them not set before?
+fn set_bits(words: &mut [u64], at: usize, bits: u64) -> bool
+    ensures { λ r. ⌜ Bits·set (now (words .entry)) (now (words .exit)) at bits r ⌝ }
 {
-    let at = (h % 16384) as usize;
     if words.len() <= at {
         return false;
     }
     let old = words[at];
-    let new = old | bits_of(h);
+    let new = old | bits;
     if new == old {
         return false;
     }
     words[at] = new;
     true
+}
+
+// The bits of a number and of another that it tells are set, each in its own word. Was one of them not set before?
+fn mark(words: &mut [u64], h: u64) -> bool
+    ensures { λ r. ⌜ Marks (now (words .entry)) (now (words .exit)) h r ⌝ }
+{
+    let g = h % 4294967296 * 2654435761 % 4294967296;
+    let first = set_bits(words, (h / 262144) as usize, bits_of(h));
+    let second = set_bits(words, (g / 262144) as usize, bits_of(g));
+    first | second
 }
 
 // The line at a place is sifted: its bits are set, and it is entered where it is a suspect.
@@ -76,7 +85,7 @@ fn sift_line(
     requires { ⌜ Room·of (now slots) (now places) (length (now places)) table × (count .0 ≤ length (now places)) × Lines·kept (now source) (now slots) (take (count .0) (now places)) table ⌝ }
     ensures { λ r. ⌜ Line·sifted (now (source .entry)) at (now (words .entry)) (now (words .exit)) (now (slots .entry)) (now (slots .exit)) (now (places .entry)) (now (places .exit)) (count .0) table r ⌝ }
 {
-    if set_bits(words, line_hash(source, at)) {
+    if mark(words, line_hash(source, at)) {
         return Sifted::Suspects(count);
     }
     let last = count.0;
@@ -146,7 +155,7 @@ fn compare_by(
     requires { ⌜ length (now places) ≤ 1048576 ⌝ }
     ensures { λ r. ⌜ Names·compared (now (source .entry)) at (taxa .0) (characters .0) r ⌝ }
 {
-    let table = free_table(slots, 0, places.len() / 2);
+    let table = free_table(slots, 0, places.len());
     match sift_names(source, at, taxa, characters, words, slots, places, table) {
         Sifted::Suspects(count) => {
             if few_known(
@@ -183,8 +192,8 @@ pub fn compare_names(
     ensures { λ r. ⌜ Names·compared (now (source .entry)) at (taxa .0) (characters .0) r ⌝ }
 {
     let mut words = [0u64; 16384];
-    let mut slots = [0u32; 8192];
-    let mut places = [0usize; 4000];
+    let mut slots = [0u32; 10496];
+    let mut places = [0usize; 2600];
     compare_by(
         source,
         at,

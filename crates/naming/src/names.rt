@@ -2,7 +2,7 @@
 // to a free one; where the table ends first, all names that were entered are looked at. More names are sifted (filter.rt), and those that this cannot
 // tell are kept in order (ordered.rt).
 
-ghost use Prim.Native.Nat.{_≤_, _<_};
+ghost use Prim.Native.Nat.{_≤_};
 ghost use Rattle.block.specs.Names.{known};
 ghost use Rattle.naming.specs.Entries.{Line·entered, Line·sought, Lines·kept, Names·entered, Room·for, Room·of, Rows·judged, Slot·like, few·known, lines·at};
 ghost use Rattle.naming.specs.Lines.{line·at};
@@ -230,11 +230,11 @@ fn few_differ(source: &[u8], at: usize, taxa: TaxonNumber, characters: Character
 
 // The same with room for some thousand names.
 fn many_differ(source: &[u8], at: usize, taxa: TaxonNumber, characters: CharacterNumber) -> bool
-    requires { ⌜ taxa .0 ≤ 8000 ⌝ }
+    requires { ⌜ taxa .0 ≤ 5200 ⌝ }
     ensures { λ r. ⌜ Names·judged (now (source .entry)) at (taxa .0) (characters .0) r ⌝ }
 {
     let mut slots = [0u32; 16384];
-    let mut places = [0usize; 8000];
+    let mut places = [0usize; 5200];
     entered_differ(source, at, taxa, characters, &mut slots, &mut places)
 }
 
@@ -250,7 +250,7 @@ pub fn names_differ(
     if taxa.0 <= 200 {
         return few_differ(source, at, taxa, characters);
     }
-    if taxa.0 <= 8000 {
+    if taxa.0 <= 5200 {
         return many_differ(source, at, taxa, characters);
     }
     match compare_names(source, at, taxa, characters) {

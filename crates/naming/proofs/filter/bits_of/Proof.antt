@@ -10,12 +10,9 @@ bit-requires c κs = search needs
 bit-requires-2 : tie.Need-bit-requires-2
 bit-requires-2 c κs = search needs
 
-bit-requires-3 : tie.Need-bit-requires-3
-bit-requires-3 c κs = search needs
-
 returns : tie.Need-returns
 unfolding bits·of
-returns c = rw (c .before .before .bit .ensures, c .before .bit2 .ensures, c .bit3 .ensures)
+returns c = rw (c .before .bit .ensures, c .bit2 .ensures)
 
 pub bits-of-spec : {M : Type 1} → statement M
-bits-of-spec = tie.close (tie.spec bit-requires bit-requires-2 bit-requires-3 returns)
+bits-of-spec = tie.close (tie.spec bit-requires bit-requires-2 returns)

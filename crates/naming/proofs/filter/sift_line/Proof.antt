@@ -8,8 +8,8 @@ use mathlib.Core.Path.{refl}
 line-hash-requires : tie.Need-line-hash-requires
 line-hash-requires c κs = search needs
 
-set-bits-requires : tie.Need-set-bits-requires
-set-bits-requires c κs = search needs
+mark-requires : tie.Need-mark-requires
+mark-requires c κs = search needs
 
 same-length : tie.Need-same-length
 same-length c = search needs
@@ -19,13 +19,13 @@ returns c =
     let m = c .before .before .before in
     let l = m .before in
     let p = l .before .before .before .before .before .before .pre in
-    sift-new _ _ _ _ _ _ _ _ (l .line-hash .ensures) (m .set-bits .ensures) (c .if1 .taken) (p .1) (p .2)
+    sift-new _ _ _ _ _ _ _ _ (l .line-hash .ensures) (m .mark .ensures) (c .if1 .taken) (p .1) (p .2)
 
 same-length-2 : tie.Need-same-length-2
 same-length-2 c = search needs
 
 returns-2 : tie.Need-returns-2
-returns-2 c = let m = c .before .before .before .before in sift-crowded _ _ _ _ _ _ _ _ (m .before .line-hash .ensures) (m .set-bits .ensures)
+returns-2 c = let m = c .before .before .before .before in sift-crowded _ _ _ _ _ _ _ _ (m .before .line-hash .ensures) (m .mark .ensures)
 
 enter-line-requires : tie.Need-enter-line-requires
 enter-line-requires c κs = search needs
@@ -43,7 +43,7 @@ returns-3 : tie.Need-returns-3
 returns-3 c =
     let e = c .before .before .before .before .before in
     let m = e .before .before .before .before .before .before .before in
-    sift-twice _ _ _ _ _ _ _ _ (m .before .line-hash .ensures) (m .set-bits .ensures) _ _ (e .enter-line .ensures) (c .if3 .taken)
+    sift-twice _ _ _ _ _ _ _ _ (m .before .line-hash .ensures) (m .mark .ensures) _ _ (e .enter-line .ensures) (c .if3 .taken)
 
 add-t13 : tie.Need-add-t13
 add-t13 c = search needs
@@ -62,14 +62,14 @@ returns-4 c =
     let e = c .before .before .before .before .before in
     let i = e .before .before .before in
     let m = i .before .before .before .before in
-    sift-entered _ _ _ _ _ _ _ _ (m .before .line-hash .ensures) (m .set-bits .ensures) _ _ (e .enter-line .ensures) (c .if3 .left) (i .if2 .left) _ refl
+    sift-entered _ _ _ _ _ _ _ _ (m .before .line-hash .ensures) (m .mark .ensures) _ _ (e .enter-line .ensures) (c .if3 .left) (i .if2 .left) _ refl
 
 pub sift-line-spec : {M : Type 1} → statement M
 sift-line-spec =
     tie.close
     (tie.spec
     line-hash-requires
-    set-bits-requires
+    mark-requires
     same-length
     returns
     same-length-2
