@@ -2,14 +2,15 @@
 use Prim.Native.Nat.{ℕ, zero, suc, _+_, _≤_, _<_}
 use Rattle.block.proofs.OutcomeLaws.{all-one}
 use Rattle.lexer.proofs.Basics.{by-test, not-both}
+use Rattle.lexer.proofs.KeptWords.{start-kept, word-kept}
 use Rattle.lexer.specs.Base.{pick}
 use Rattle.matrix.proofs.BelowLaws.{below-each, each-below, stored-below}
 use Rattle.matrix.proofs.PlaceWalk.{Placing, placing-start, placing-turn, placing-found, placing-end}
-use Rattle.matrix.proofs.StoredRows.{stored-more, stored-kept, word-kept, start-kept}
+use Rattle.matrix.proofs.StoredRows.{stored-more, stored-kept}
 use Rattle.matrix.specs.Lines.{name·at, stored, names·stored}
 use Rattle.matrix.specs.OrderHeld.{all·below, place·of}
 use Rattle.matrix.specs.RowIndex.{row·alike, Indexed, Row·room, Row·put, Rows·behind, Rows·put}
-use Rattle.slots.proofs.FillingLaws.{kept-same}
+use Rattle.slots.proofs.FillingLaws.{filled-front, kept-same, slot-behind}
 use Rattle.slots.proofs.HashLaws.{alike-hash}
 use Rattle.slots.proofs.SeekingLaws.{First, Seeking, seeking-start, seeking-turn, seeking-end}
 use Rattle.slots.specs.Filling.{Kept, Filled, slot·of}
@@ -26,16 +27,6 @@ use mathlib.Core.Option.{none, some}
 use mathlib.Core.Path.{_≡_, refl, sym, ap, _∙_}
 use native.Mathlib.Numerals.{add-one}
 use native.Mathlib.Omega.{arith}
-
--- A slot stands in the table or behind it.
-slot-behind : (t : Table) (h : ℕ) → t .base ≤ slot·of t h
-unfolding slot·of
-slot-behind t h = omega arith
-
--- In front of a table that was filled all was kept.
-filled-front : (before after : List ℕ) (t : Table) (h v : ℕ) → Filled before after (slot·of t h) (t .end) v → take (t .base) after ≡ take (t .base) before
-filled-front before after t h v f =
-    sym (take-take (t .base) (slot·of t h) after (slot-behind t h)) ∙ ap (take (t .base)) (f .front) ∙ take-take (t .base) (slot·of t h) before (slot-behind t h)
 
 module _ (text work : List ℕ) (at rows i : ℕ) where
   -- The rows that have the name of a word are kept from the slot of that name on.

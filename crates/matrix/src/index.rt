@@ -6,8 +6,7 @@ ghost use Rattle.lexer.specs.Base.{pick};
 ghost use Rattle.matrix.specs.Lines.{name·at, names·stored, stored};
 ghost use Rattle.matrix.specs.OrderHeld.{Index·below, place·of};
 ghost use Rattle.matrix.specs.RowIndex.{Indexed, Row·put, Row·room, Rows·behind, Rows·put, row·alike};
-ghost use Rattle.slots.specs.Filling.{Filled, Table·sound, slot·of};
-ghost use Rattle.slots.specs.Hashes.{hash};
+ghost use Rattle.slots.specs.Filling.{Table·sound};
 ghost use Rattle.slots.specs.Seeking.{Nearer};
 ghost use lib.Dec.{ltb};
 ghost use lib.ListN.{length};
@@ -20,8 +19,8 @@ use block::TaxonNumber;
 use block::alike;
 use lexer::start_of;
 use slots::Table;
-use slots::fill_slot;
 use slots::name_slot;
+use slots::put_name;
 
 // The row that a slot holds, with 1 added, if it is before the one that was found and its name is that of a word; else the one that was found.
 fn nearer(text: &[u8], work: &[u32], at: usize, i: usize, found: usize, value: usize) -> usize
@@ -69,16 +68,6 @@ pub fn row_found(text: &[u8], work: &[u32], at: usize, rows: usize, i: usize, ta
     row_of(text, work, at, rows, i)
 }
 
-// The row of a number, whose name is a word, is put into the table.
-fn insert_row(text: &[u8], work: &mut [u32], row: usize, s: usize, table: Table)
-    requires { ⌜ Table·sound table × (table .end ≤ length (now work)) × (row ≤ 1048576) ⌝ }
-    ensures { λ r. ⌜ Filled (now (work .entry)) (now (work .exit)) (slot·of table (hash (name·at (now (text .entry)) (now (work .entry)) s))) (table .end) (row + 1) ⌝ }
-{
-    let end = table.end;
-    let from = name_slot(text, work, s, table);
-    fill_slot(work, from, end, (row + 1) as u32);
-}
-
 // One row more, whose name is a word: it is stored behind the others, and where its name is to be new, put into the table of their names.
 pub fn put_row(
     text: &[u8],
@@ -95,7 +84,7 @@ pub fn put_row(
     let end = at + rows;
     work[end] = s as u32;
     if new {
-        insert_row(text, work, rows, s, table);
+        put_name(text, work, s, table, (rows + 1) as u32);
     }
 }
 
@@ -107,7 +96,7 @@ pub fn index_rows(text: &[u8], work: &mut [u32], lines: usize, rows: usize, tabl
     let mut k = 0;
     while k < rows {
         let s = row_name(work, lines, TaxonNumber(k + 1));
-        insert_row(text, work, k, s, table);
+        put_name(text, work, s, table, (k + 1) as u32);
         k += 1;
     }
 }

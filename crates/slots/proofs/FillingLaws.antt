@@ -1,13 +1,14 @@
 -- Numbers that are kept in a table, and what a search passes. Assumes nothing.
 use Prim.Native.Nat.{ℕ, _+_, _≤_, _<_}
 use Rattle.lexer.proofs.Basics.{by-test}
-use Rattle.slots.specs.Filling.{Taken, Free, Kept, Cleared, Filled}
+use Rattle.slots.specs.Filling.{Taken, Free, Kept, Cleared, Filled, slot·of}
+use Rattle.slots.specs.declared.Table.{Table}
 use borrow.Author.Tests.{eqb-true, eqb-false, ltb-true, ltb-false}
 use lib.Dec.{eqb, ltb}
-use lib.ListN.{length, getD, set, length-set}
-use lib.Seq.{getD-set-same, getD-set-other, take-set-le}
+use lib.ListN.{length, getD, set, take, length-set}
+use lib.Seq.{getD-set-same, getD-set-other, take-set-le, take-take}
 use mathlib.Core.List.{List}
-use mathlib.Core.Path.{_≡_, refl, _∙_}
+use mathlib.Core.Path.{_≡_, refl, sym, ap, _∙_}
 use native.Mathlib.Omega.{arith}
 
 -- A slot more is taken.
@@ -76,6 +77,16 @@ kept-same work other base from end v l same k =
       taken = λ q a b. rw (same q (omega arith)) (k .taken q a b);
       holds = λ a. same (k .place) (omega (arith, k .ahead)) ∙ k .holds a;
     }
+
+-- A slot stands in the table or behind it.
+pub slot-behind : (t : Table) (h : ℕ) → t .base ≤ slot·of t h
+unfolding slot·of
+slot-behind t h = omega arith
+
+-- In front of a table that was filled all was kept.
+pub filled-front : (before after : List ℕ) (t : Table) (h v : ℕ) → Filled before after (slot·of t h) (t .end) v → take (t .base) after ≡ take (t .base) before
+filled-front before after t h v f =
+    sym (take-take (t .base) (slot·of t h) after (slot-behind t h)) ∙ ap (take (t .base)) (f .front) ∙ take-take (t .base) (slot·of t h) before (slot-behind t h)
 
 -- A slot behind the front of a table is cleared.
 pub cleared-more : (before work : List ℕ) (base p v : ℕ) → Cleared before work base → base ≤ p → Cleared before (set work p v) base

@@ -92,3 +92,13 @@ pub fn fill_slot(work: &mut [u32], from: usize, end: usize, value: u32)
         work[p] = value;
     }
 }
+
+// A number is put into a table by the name of a word: at the first free slot from that of the name on, if there is one.
+pub fn put_name(text: &[u8], work: &mut [u32], i: usize, table: Table, value: u32)
+    requires { ⌜ Table·sound table × (table .end ≤ length (now work)) × (0 < value) ⌝ }
+    ensures { λ r. ⌜ Filled (now (work .entry)) (now (work .exit)) (slot·of table (hash (spaced (word·of (now (text .entry)) (now (work .entry)) i .token .text)))) (table .end) value ⌝ }
+{
+    let end = table.end;
+    let from = name_slot(text, work, i, table);
+    fill_slot(work, from, end, value);
+}

@@ -7,6 +7,7 @@ pub mod hashes;
 pub use filling::fill_slot;
 pub use filling::free_table;
 pub use filling::name_slot;
+pub use filling::put_name;
 
 // A table: where it begins, at how many slots a search can begin, and where it ends.
 pub struct Table {

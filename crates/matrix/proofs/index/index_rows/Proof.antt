@@ -3,6 +3,7 @@ use Prim.Native.Nat.{_-_}
 use Rattle.matrix.proofs.IndexLaws.{Indexing, indexing-start, indexing-turn, indexing-end}
 use Rattle.matrix.proofs.index.index_rows.Statement.{statement}
 use Rattle.matrix.proofs.index.index_rows.Tie as tie
+use Rattle.matrix.specs.Lines.{name·at}
 use borrow.Author.Needs.{needs}
 use mathlib.Core.Path.{refl}
 use native.Mathlib.Omega.{arith}
@@ -16,17 +17,23 @@ abbrev μ-loop : tie.MeasureT-loop
 loop-holds : tie.Need-loop-holds Inv-loop μ-loop
 loop-holds c = indexing-start _ _ _ _ _
 
-add-t11 : tie.Need-add-t11 Inv-loop μ-loop
-add-t11 c = search needs
+add-put-name : tie.Need-add-put-name Inv-loop μ-loop
+add-put-name c = search needs
 
 row-name-requires : tie.Need-row-name-requires Inv-loop μ-loop
 row-name-requires c κs = (omega arith, omega (arith, c .before .before .loop .inv .size, c .before .before .before .before .before .pre .space))
 
-insert-row-requires : tie.Need-insert-row-requires Inv-loop μ-loop
-insert-row-requires c κs =
+add-put-name-2 : tie.Need-add-put-name-2 Inv-loop μ-loop
+add-put-name-2 c = search needs
+
+cast-put-name : tie.Need-cast-put-name Inv-loop μ-loop
+cast-put-name c = omega (arith, c .before .before .before .before .before .before .before .pre .few)
+
+put-name-requires : tie.Need-put-name-requires Inv-loop μ-loop
+put-name-requires c κs =
     let l = c .before .before .before .before in
     let p = l .before .before .before .pre in
-    (p .sound, omega (arith, p .table, l .loop .inv .size), omega (arith, p .few, l .loop .inv .few))
+    (p .sound, omega (arith, p .table, l .loop .inv .size), omega arith)
 
 add-k : tie.Need-add-k Inv-loop μ-loop
 add-k c = search needs
@@ -35,10 +42,11 @@ loop-less : tie.Need-loop-less Inv-loop μ-loop
 loop-less c = search needs
 
 loop-again : tie.Need-loop-again Inv-loop μ-loop
+unfolding name·at
 loop-again c =
     let t = c .before .before .before .before .before .before in
     let l = t .before in
-    indexing-turn _ _ _ _ _ (l .before .before .before .pre) (l .loop .inv) (t .loop-test .taken) (c .before .before .before .before .row-name .ensures (l .loop .k) refl) (c .before .before .insert-row .ensures)
+    indexing-turn _ _ _ _ _ (l .before .before .before .pre) (l .loop .inv) (t .loop-test .taken) (c .before .before .before .before .row-name .ensures (l .loop .k) refl) (c .before .before .put-name .ensures)
 
 same-length : tie.Need-same-length Inv-loop μ-loop
 same-length c = c .before .loop .inv .size
@@ -53,9 +61,11 @@ index-rows-spec =
     Inv-loop
     μ-loop
     loop-holds
-    add-t11
+    add-put-name
     row-name-requires
-    insert-row-requires
+    add-put-name-2
+    cast-put-name
+    put-name-requires
     add-k
     loop-less
     loop-again

@@ -2,8 +2,11 @@
 use Rattle.matrix.proofs.IndexLaws.{row-put, row-stored}
 use Rattle.matrix.proofs.index.put_row.Statement.{statement}
 use Rattle.matrix.proofs.index.put_row.Tie as tie
+use Rattle.matrix.specs.Lines.{name·at}
 use borrow.Author.Needs.{needs}
+use lib.ListN.{length-set}
 use mathlib.Core.Bool.{true}
+use native.Mathlib.Omega.{arith}
 
 add-end : tie.Need-add-end
 add-end c = search needs
@@ -17,14 +20,22 @@ mul-work c = search needs
 slice-write-work : tie.Need-slice-write-work
 slice-write-work c = search needs
 
-insert-row-requires : tie.Need-insert-row-requires
-insert-row-requires c κs = search needs
+add-put-name : tie.Need-add-put-name
+add-put-name c = search needs
+
+cast-put-name : tie.Need-cast-put-name
+cast-put-name c = search needs
+
+put-name-requires : tie.Need-put-name-requires
+put-name-requires c κs = let p = c .before .before .before .before .pre in (p .sound, rw length-set (p .table), omega arith)
 
 same-length : tie.Need-same-length
-same-length c = row-put _ _ _ _ _ _ (c .before .before .before .before .before .before .before .pre) _ (c .before .before .insert-row .ensures) true .size
+unfolding name·at
+same-length c = row-put _ _ _ _ _ _ (c .before .before .before .before .before .before .before .pre) _ (c .before .before .put-name .ensures) true .size
 
 returns : tie.Need-returns
-returns c = row-put _ _ _ _ _ _ (c .before .before .before .before .before .before .before .pre) _ (c .before .before .insert-row .ensures) _
+unfolding name·at
+returns c = row-put _ _ _ _ _ _ (c .before .before .before .before .before .before .before .pre) _ (c .before .before .put-name .ensures) _
 
 same-length-2 : tie.Need-same-length-2
 same-length-2 c = search needs
@@ -40,7 +51,9 @@ put-row-spec =
     cast-work
     mul-work
     slice-write-work
-    insert-row-requires
+    add-put-name
+    cast-put-name
+    put-name-requires
     same-length
     returns
     same-length-2
