@@ -2,12 +2,11 @@
 
 ghost use Prim.Native.Nat.{_+_, _≤_, _<_};
 ghost use Rattle.block.specs.Commands.{words};
-ghost use Rattle.block.specs.Judged.{judged};
-ghost use Rattle.block.specs.Names.{known, unique·names};
+ghost use Rattle.block.specs.Names.{known};
 ghost use Rattle.block.specs.NamesHeld.{name·of, names·of};
-ghost use Rattle.block.specs.NamesKept.{Name·put, Names·kept, Slot·alike};
+ghost use Rattle.block.specs.NamesKept.{Name·put, Names·judged, Names·kept, Names·room, Slot·alike};
 ghost use Rattle.lexer.specs.Stored.{word·of, range};
-ghost use Rattle.slots.specs.Filling.{Table·sound};
+ghost use Rattle.slots.specs.Filling.{Cleared, Table·fits, Table·sound};
 ghost use lib.ListN.{length};
 ghost use mathlib.Core.Path.{_≡_};
 use super::Judged;
@@ -17,8 +16,9 @@ use super::words::newline;
 use lexer::Refusal;
 use lexer::start_of;
 use slots::Table;
-use slots::fill_slot;
+use slots::free_table;
 use slots::name_slot;
+use slots::put_name;
 
 // Is the name of a word among those of the words from an index up to another?
 fn known_name(text: &[u8], work: &[u32], from: usize, to: usize, i: usize) -> bool
@@ -53,14 +53,14 @@ fn slot_alike(text: &[u8], work: &[u32], from: usize, i: usize, value: usize) ->
 
 // Is the name of a word among those of the words from an index up to it, which a table has? Where the search comes to the end of the table, all are
 // looked at.
-fn found_name(text: &[u8], work: &[u32], from: usize, i: usize, slots: &[u32], table: Table) -> bool
-    requires { ⌜ Table·sound table × Names·kept (now text) (now work) (now slots) from i table ⌝ }
+fn found_name(text: &[u8], work: &[u32], from: usize, i: usize, table: Table) -> bool
+    requires { ⌜ Table·sound table × Names·kept (now text) (now work) from i table ⌝ }
     ensures { λ r. ⌜ r ≡ known (name·of (word·of (now (text .entry)) (now (work .entry)) i)) (names·of (words (range (now (text .entry)) (now (work .entry)) from i))) ⌝ }
 {
     let end = table.end;
     let mut p = name_slot(text, work, i, table);
     while p < end {
-        let value = start_of(slots, p);
+        let value = start_of(work, p);
         if value == 0 {
             return false;
         }
@@ -83,26 +83,17 @@ fn slot_value(i: usize) -> u32
 }
 
 // A word is put into the table by its name.
-fn keep_name(text: &[u8], work: &[u32], i: usize, slots: &mut [u32], table: Table)
-    requires { ⌜ Table·sound table × (table .end ≤ length (now slots)) ⌝ }
-    ensures { λ r. ⌜ Name·put (now (text .entry)) (now (work .entry)) (now (slots .entry)) (now (slots .exit)) i table ⌝ }
+fn keep_name(text: &[u8], work: &mut [u32], i: usize, table: Table)
+    requires { ⌜ Table·sound table × (table .end ≤ length (now work)) ⌝ }
+    ensures { λ r. ⌜ Name·put (now (text .entry)) (now (work .entry)) (now (work .exit)) i table ⌝ }
 {
-    let end = table.end;
-    let from = name_slot(text, work, i, table);
-    fill_slot(slots, from, end, slot_value(i));
+    put_name(text, work, i, table, slot_value(i));
 }
 
-// Are the words of TAXLABELS names, no two of them alike? A table has those that were judged.
-fn unique_by(
-    text: &[u8],
-    work: &[u32],
-    from: usize,
-    to: usize,
-    slots: &mut [u32],
-    table: Table,
-) -> Judged
-    requires { ⌜ Table·sound table × (table .end ≤ length (now slots)) × (0 < table .end → to ≤ 4294967295) ⌝ }
-    ensures { λ r. ⌜ judged (names·of (words (range (now (text .entry)) (now (work .entry)) from to))) r ≡ unique·names (words (range (now (text .entry)) (now (work .entry)) from to)) ⌝ }
+// Are the words of TAXLABELS names, no two of them alike? A table behind them has those that were judged.
+fn unique_by(text: &[u8], work: &mut [u32], from: usize, to: usize, table: Table) -> Judged
+    requires { ⌜ Names·room (now work) to table ⌝ }
+    ensures { λ r. ⌜ Names·judged (now (text .entry)) (now (work .entry)) (now (work .exit)) from to (table .base) r ⌝ }
 {
     let mut i = from;
     while i < to {
@@ -113,65 +104,36 @@ fn unique_by(
         if !named(text, work, i) {
             return Judged::Refused(Refusal::NotName, i);
         }
-        if found_name(text, work, from, i, slots, table) {
+        if found_name(text, work, from, i, table) {
             return Judged::Refused(Refusal::TaxonTwice, i);
         }
-        keep_name(text, work, i, slots, table);
+        keep_name(text, work, i, table);
         i += 1;
     }
     Judged::Good
 }
 
-// The same, with a table for some thousand names.
-fn unique_few(text: &[u8], work: &[u32], from: usize, to: usize) -> Judged
-    requires { ⌜ to ≤ 8192 ⌝ }
-    ensures { λ r. ⌜ judged (names·of (words (range (now (text .entry)) (now (work .entry)) from to))) r ≡ unique·names (words (range (now (text .entry)) (now (work .entry)) from to)) ⌝ }
+// A table for the names of the words from an index up to another, behind which it begins; one without slots where there are more words than the
+// longest text has.
+fn names_table(work: &mut [u32], from: usize, to: usize, base: usize) -> Table
+    requires { ⌜ (from ≤ to) × (base ≤ length (now work)) ⌝ }
+    ensures { λ r. ⌜ Cleared (now (work .entry)) (now (work .exit)) base × Table·fits base (length (now (work .entry))) r × (base < r .end → to ≤ 1048576) ⌝ }
 {
-    let mut slots = [0u32; 16384];
-    let table = Table {
-        base: 0,
-        size: 16320,
-        end: 16384,
-    };
-    unique_by(text, work, from, to, &mut slots, table)
-}
-
-// The same, with a table for many names.
-fn unique_many(text: &[u8], work: &[u32], from: usize, to: usize) -> Judged
-    requires { ⌜ to ≤ 4294967295 ⌝ }
-    ensures { λ r. ⌜ judged (names·of (words (range (now (text .entry)) (now (work .entry)) from to))) r ≡ unique·names (words (range (now (text .entry)) (now (work .entry)) from to)) ⌝ }
-{
-    let mut slots = [0u32; 32768];
-    let table = Table {
-        base: 0,
-        size: 32704,
-        end: 32768,
-    };
-    unique_by(text, work, from, to, &mut slots, table)
-}
-
-// The same, without a table.
-fn unique_plain(text: &[u8], work: &[u32], from: usize, to: usize) -> Judged
-    ensures { λ r. ⌜ judged (names·of (words (range (now (text .entry)) (now (work .entry)) from to))) r ≡ unique·names (words (range (now (text .entry)) (now (work .entry)) from to)) ⌝ }
-{
-    let mut slots = [0u32; 1];
-    let table = Table {
-        base: 0,
-        size: 1,
-        end: 0,
-    };
-    unique_by(text, work, from, to, &mut slots, table)
-}
-
-// Are the words of TAXLABELS names, no two of them alike?
-pub fn unique_names(text: &[u8], work: &[u32], from: usize, to: usize) -> Judged
-    ensures { λ r. ⌜ judged (names·of (words (range (now (text .entry)) (now (work .entry)) from to))) r ≡ unique·names (words (range (now (text .entry)) (now (work .entry)) from to)) ⌝ }
-{
-    if to <= 8192 {
-        return unique_few(text, work, from, to);
+    if 1048576 < to {
+        return Table {
+            base,
+            size: 1,
+            end: base,
+        };
     }
-    if to <= 4294967295 {
-        return unique_many(text, work, from, to);
-    }
-    unique_plain(text, work, from, to)
+    free_table(work, base, to - from)
+}
+
+// Are the words of TAXLABELS names, no two of them alike? Work memory is free from an index behind them on.
+pub fn unique_names(text: &[u8], work: &mut [u32], from: usize, to: usize, base: usize) -> Judged
+    requires { ⌜ (from ≤ to) × (to ≤ base) × (base ≤ length (now work)) ⌝ }
+    ensures { λ r. ⌜ Names·judged (now (text .entry)) (now (work .entry)) (now (work .exit)) from to base r ⌝ }
+{
+    let table = names_table(work, from, to, base);
+    unique_by(text, work, from, to, table)
 }

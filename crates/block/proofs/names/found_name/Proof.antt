@@ -8,16 +8,16 @@ use borrow.Author.Needs.{needs}
 use mathlib.Core.Path.{refl}
 
 abbrev Inv-loop : tie.InvT-loop
-Inv-loop text work from i slots end p₀ p = Passing text work slots from i end p₀ p
+Inv-loop text work from i end p₀ p = Passing text work from i end p₀ p
 
 abbrev μ-loop : tie.MeasureT-loop
-μ-loop text work from i slots end p₀ p = end - p
+μ-loop text work from i end p₀ p = end - p
 
 name-slot-requires : tie.Need-name-slot-requires Inv-loop μ-loop
 name-slot-requires c κs = search needs
 
 loop-holds : tie.Need-loop-holds Inv-loop μ-loop
-loop-holds c = passing-start _ _ _ _ _ _ _
+loop-holds c = passing-start _ _ _ _ _ _
 
 start-of-requires : tie.Need-start-of-requires Inv-loop μ-loop
 start-of-requires c κs = search needs
@@ -26,7 +26,7 @@ returns : tie.Need-returns Inv-loop μ-loop
 unfolding name·of
 returns c =
     let l = c .before .before .before in
-    passing-none _ _ _ _ _ _ _ (l .loop .inv) (c .before .before .loop-test .taken) (c .before .start-of .ensures) _ (l .before .name-slot .ensures) refl (l .before .before .before .before .before .pre .1) (c .if1 .taken)
+    passing-none _ _ _ _ _ _ (l .loop .inv) (c .before .before .loop-test .taken) (c .before .start-of .ensures) _ (l .before .name-slot .ensures) refl (l .before .before .before .before .pre .1) (c .if1 .taken)
 
 slot-alike-requires : tie.Need-slot-alike-requires Inv-loop μ-loop
 slot-alike-requires c κs = search needs
@@ -34,7 +34,7 @@ slot-alike-requires c κs = search needs
 returns-2 : tie.Need-returns-2 Inv-loop μ-loop
 returns-2 c =
     let s = c .before .before .before in
-    passing-found _ _ _ _ _ _ _ (s .before .before .loop .inv) (s .before .loop-test .taken) (s .start-of .ensures) (c .before .slot-alike .ensures) (c .if2 .taken) (c .before .before .if1 .left)
+    passing-found _ _ _ _ _ _ (s .before .before .loop .inv) (s .before .loop-test .taken) (s .start-of .ensures) (c .before .slot-alike .ensures) (c .if2 .taken) (c .before .before .if1 .left)
 
 add-p : tie.Need-add-p Inv-loop μ-loop
 add-p c = search needs
@@ -45,7 +45,7 @@ loop-less c = search needs
 loop-again : tie.Need-loop-again Inv-loop μ-loop
 loop-again c =
     let s = c .before .before .before in
-    passing-turn _ _ _ _ _ _ _ (s .before .before .loop .inv) (s .before .loop-test .taken) (s .start-of .ensures) (c .before .slot-alike .ensures) (c .if2 .left)
+    passing-turn _ _ _ _ _ _ (s .before .before .loop .inv) (s .before .loop-test .taken) (s .start-of .ensures) (c .before .slot-alike .ensures) (c .if2 .left)
 
 known-name-requires : tie.Need-known-name-requires Inv-loop μ-loop
 known-name-requires c κs = search needs
