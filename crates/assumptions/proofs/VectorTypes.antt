@@ -1,7 +1,7 @@
 -- A VECTOR: its words are counted, and each is a type. Assumes nothing.
 use Prim.Native.Nat.{ℕ, zero, suc, _+_, _≤_, _<_}
 use Rattle.assumptions.proofs.TypesHeldLaws.{type-of-number, held-set-next}
-use Rattle.assumptions.proofs.TypesetWalks.{next-front, word-front, at-end, at-done}
+use Rattle.assumptions.proofs.TypesetWalks.{next-front, at-end, at-done}
 use Rattle.assumptions.specs.NextWord.{Next}
 use Rattle.assumptions.specs.TypesHeld.{type·number, types·held}
 use Rattle.assumptions.specs.TypesetWalk.{typeset·from, typeset·at, set·of}
@@ -9,6 +9,7 @@ use Rattle.block.specs.Commands.{words}
 use Rattle.block.specs.Outcome.{done, refused, then, fold}
 use Rattle.block.specs.Typeset.{Types, types, ordering, vector·word, vector·end, typeset·turn, typeset·end}
 use Rattle.block.specs.declared.model.CharacterOrdering.{CharacterOrdering}
+use Rattle.lexer.proofs.KeptWords.{word-kept}
 use Rattle.lexer.specs.Base.{pick}
 use Rattle.lexer.specs.Stored.{word·of, range}
 use Rattle.lexer.specs.Words.{Numbered}
@@ -93,7 +94,7 @@ module _ (text : List ℕ) (head from to at n : ℕ) (before : List ℕ) where
     vectoring-room h = let more : length (words (range text before i to)) ≡ suc (length (words (range text before (j + 1) to))) = ap length (next .here h) in omega (arith, v .count)
 
     word : j < to → word·of text work j ≡ word·of text before j
-    word h = word-front text work before at (v .front) j (omega arith)
+    word h = word-kept text work before at (v .front) j (omega arith)
 
     pub vectoring-turn : (o : CharacterOrdering) → j < to → at + n ≤ length before → ordering (word·of text work j) ≡ some o → Vectoring text head from to at n before (set work (at + k) (type·number o)) (j + 1) (k + 1)
     unfolding typeset·turn vector·word

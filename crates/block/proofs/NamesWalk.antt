@@ -6,6 +6,7 @@ use Rattle.block.specs.Names.{known, add·name, name·turn, unique·name
 use Rattle.block.specs.NamesHeld.{name·of, names·of}
 use Rattle.block.specs.Outcome.{done, refused, then, need}
 use Rattle.lexer.proofs.Basics.{by-test}
+use Rattle.lexer.proofs.KeptWords.{range-kept}
 use Rattle.lexer.proofs.LabelLaws.{label-some, label-none}
 use Rattle.lexer.specs.Base.{pick, alike, given}
 use Rattle.lexer.specs.Stored.{word·of, range}
@@ -13,6 +14,7 @@ use Rattle.lexer.specs.Words.{Numbered, label}
 use Rattle.lexer.specs.declared.refusal.Refusal.{Refusal}
 use borrow.Author.Tests.{ltb-true, ltb-false}
 use lib.Dec.{ltb}
+use lib.ListN.{take}
 use mathlib.Core.Bool.{true, false}
 use mathlib.Core.List.{List, [], _∷_, _++_, map-append}
 use mathlib.Core.Path.{_≡_, sym, ap, _∙_}
@@ -71,6 +73,15 @@ module _ (text work : List ℕ) (from to i : ℕ) (k : Naming text work from to 
         within = λ l. omega arith;
         walk = rw (words-last text work from i (k .since) e, map-append) (walking-turn text work to i (k .walk) _ h e (name-new (names·of (words (range text work from i))) (word·of text work i) g d));
       }
+
+-- The same where the words were kept.
+pub naming-kept : (text work before : List ℕ) (at : ℕ) → take at work ≡ take at before → (from to i : ℕ) → i ≤ to → to ≤ at → Naming text before from to i → Naming text work from to i
+naming-kept text work before at kept from to i h l k =
+    record {
+      since = k .since;
+      within = k .within;
+      walk = record { rest = rw (range-kept text work before at kept from to l, range-kept text work before at kept from i (omega arith), range-kept text work before at kept i to l) (k .walk .rest) };
+    }
 
 pub naming-start : (text work : List ℕ) (from to : ℕ) → Naming text work from to from
 unfolding unique·names names·of

@@ -2,10 +2,9 @@
 
 ghost use Prim.Native.Nat.{_+_, _≤_, _<_};
 ghost use Rattle.block.specs.Commands.{words};
-ghost use Rattle.block.specs.Judged.{judged};
-ghost use Rattle.block.specs.Names.{known, unique·names};
+ghost use Rattle.block.specs.Names.{known};
 ghost use Rattle.block.specs.NamesHeld.{name·of, names·of};
-ghost use Rattle.block.specs.NamesKept.{Name·put, Names·kept, Slot·alike};
+ghost use Rattle.block.specs.NamesKept.{Name·put, Names·judged, Names·kept, Names·room, Slot·alike};
 ghost use Rattle.lexer.specs.Stored.{word·of, range};
 ghost use Rattle.slots.specs.Filling.{Table·sound};
 ghost use lib.ListN.{length};
@@ -16,9 +15,13 @@ use super::words::named;
 use super::words::newline;
 use lexer::Refusal;
 use lexer::start_of;
+use slots::Entry;
 use slots::Table;
-use slots::fill_slot;
+use slots::enter_name;
+use slots::name_entry;
 use slots::name_slot;
+use slots::name_table;
+use slots::window_end;
 
 // Is the name of a word among those of the words from an index up to another?
 fn known_name(text: &[u8], work: &[u32], from: usize, to: usize, i: usize) -> bool
@@ -51,16 +54,16 @@ fn slot_alike(text: &[u8], work: &[u32], from: usize, i: usize, value: usize) ->
     alike(text, work, i, value - 1)
 }
 
-// Is the name of a word among those of the words from an index up to it, which a table has? Where the search comes to the end of the table, all are
-// looked at.
-fn found_name(text: &[u8], work: &[u32], from: usize, i: usize, slots: &[u32], table: Table) -> bool
-    requires { ⌜ Table·sound table × Names·kept (now text) (now work) (now slots) from i table ⌝ }
+// Is the name of a word among those of the words from an index up to it, which a table has? The slots of its window are looked at, then the trie; where
+// that was given up, all words are.
+fn found_name(text: &[u8], work: &[u32], from: usize, i: usize, table: Table) -> bool
+    requires { ⌜ Table·sound table × Names·kept (now text) (now work) from i table ⌝ }
     ensures { λ r. ⌜ r ≡ known (name·of (word·of (now (text .entry)) (now (work .entry)) i)) (names·of (words (range (now (text .entry)) (now (work .entry)) from i))) ⌝ }
 {
-    let end = table.end;
     let mut p = name_slot(text, work, i, table);
-    while p < end {
-        let value = start_of(slots, p);
+    let stop = window_end(table, p);
+    while p < stop {
+        let value = start_of(work, p);
         if value == 0 {
             return false;
         }
@@ -69,7 +72,11 @@ fn found_name(text: &[u8], work: &[u32], from: usize, i: usize, slots: &[u32], t
         }
         p += 1;
     }
-    known_name(text, work, from, i, i)
+    match name_entry(text, work, i, table.end) {
+        Entry::Unknown => known_name(text, work, from, i, i),
+        Entry::None => false,
+        Entry::Value(value) => slot_alike(text, work, from, i, value),
+    }
 }
 
 // An index with 1 added, where that has 32 bits.
@@ -83,26 +90,17 @@ fn slot_value(i: usize) -> u32
 }
 
 // A word is put into the table by its name.
-fn keep_name(text: &[u8], work: &[u32], i: usize, slots: &mut [u32], table: Table)
-    requires { ⌜ Table·sound table × (table .end ≤ length (now slots)) ⌝ }
-    ensures { λ r. ⌜ Name·put (now (text .entry)) (now (work .entry)) (now (slots .entry)) (now (slots .exit)) i table ⌝ }
+fn keep_name(text: &[u8], work: &mut [u32], i: usize, table: Table)
+    requires { ⌜ Table·sound table × (table .base ≤ table .end) × (table .end ≤ length (now work)) ⌝ }
+    ensures { λ r. ⌜ Name·put (now (text .entry)) (now (work .entry)) (now (work .exit)) i table ⌝ }
 {
-    let end = table.end;
-    let from = name_slot(text, work, i, table);
-    fill_slot(slots, from, end, slot_value(i));
+    enter_name(text, work, i, slot_value(i), table);
 }
 
-// Are the words of TAXLABELS names, no two of them alike? A table has those that were judged.
-fn unique_by(
-    text: &[u8],
-    work: &[u32],
-    from: usize,
-    to: usize,
-    slots: &mut [u32],
-    table: Table,
-) -> Judged
-    requires { ⌜ Table·sound table × (table .end ≤ length (now slots)) × (0 < table .end → to ≤ 4294967295) ⌝ }
-    ensures { λ r. ⌜ judged (names·of (words (range (now (text .entry)) (now (work .entry)) from to))) r ≡ unique·names (words (range (now (text .entry)) (now (work .entry)) from to)) ⌝ }
+// Are the words of TAXLABELS names, no two of them alike? A table behind them has those that were judged.
+fn unique_by(text: &[u8], work: &mut [u32], from: usize, to: usize, table: Table) -> Judged
+    requires { ⌜ Names·room (now work) to table ⌝ }
+    ensures { λ r. ⌜ Names·judged (now (text .entry)) (now (work .entry)) (now (work .exit)) from to (table .base) r ⌝ }
 {
     let mut i = from;
     while i < to {
@@ -113,65 +111,44 @@ fn unique_by(
         if !named(text, work, i) {
             return Judged::Refused(Refusal::NotName, i);
         }
-        if found_name(text, work, from, i, slots, table) {
+        if found_name(text, work, from, i, table) {
             return Judged::Refused(Refusal::TaxonTwice, i);
         }
-        keep_name(text, work, i, slots, table);
+        keep_name(text, work, i, table);
         i += 1;
     }
     Judged::Good
 }
 
-// The same, with a table for some thousand names.
-fn unique_few(text: &[u8], work: &[u32], from: usize, to: usize) -> Judged
-    requires { ⌜ to ≤ 8192 ⌝ }
-    ensures { λ r. ⌜ judged (names·of (words (range (now (text .entry)) (now (work .entry)) from to))) r ≡ unique·names (words (range (now (text .entry)) (now (work .entry)) from to)) ⌝ }
+// Where a table for the names of words up to an index begins: at an index behind them, or, where there are more words than the longest text has, at the
+// end of work memory, so that it has no room.
+fn table_place(to: usize, base: usize, size: usize) -> usize
+    requires { ⌜ base ≤ size ⌝ }
+    ensures { λ r. ⌜ (base ≤ r) × (r ≤ size) × (r < size → to ≤ 1048576) ⌝ }
 {
-    let mut slots = [0u32; 16384];
-    let table = Table {
-        base: 0,
-        size: 16320,
-        end: 16384,
-    };
-    unique_by(text, work, from, to, &mut slots, table)
-}
-
-// The same, with a table for many names.
-fn unique_many(text: &[u8], work: &[u32], from: usize, to: usize) -> Judged
-    requires { ⌜ to ≤ 4294967295 ⌝ }
-    ensures { λ r. ⌜ judged (names·of (words (range (now (text .entry)) (now (work .entry)) from to))) r ≡ unique·names (words (range (now (text .entry)) (now (work .entry)) from to)) ⌝ }
-{
-    let mut slots = [0u32; 32768];
-    let table = Table {
-        base: 0,
-        size: 32704,
-        end: 32768,
-    };
-    unique_by(text, work, from, to, &mut slots, table)
-}
-
-// The same, without a table.
-fn unique_plain(text: &[u8], work: &[u32], from: usize, to: usize) -> Judged
-    ensures { λ r. ⌜ judged (names·of (words (range (now (text .entry)) (now (work .entry)) from to))) r ≡ unique·names (words (range (now (text .entry)) (now (work .entry)) from to)) ⌝ }
-{
-    let mut slots = [0u32; 1];
-    let table = Table {
-        base: 0,
-        size: 1,
-        end: 0,
-    };
-    unique_by(text, work, from, to, &mut slots, table)
-}
-
-// Are the words of TAXLABELS names, no two of them alike?
-pub fn unique_names(text: &[u8], work: &[u32], from: usize, to: usize) -> Judged
-    ensures { λ r. ⌜ judged (names·of (words (range (now (text .entry)) (now (work .entry)) from to))) r ≡ unique·names (words (range (now (text .entry)) (now (work .entry)) from to)) ⌝ }
-{
-    if to <= 8192 {
-        return unique_few(text, work, from, to);
+    if 1048576 < to {
+        return size;
     }
-    if to <= 4294967295 {
-        return unique_many(text, work, from, to);
+    base
+}
+
+// How many names a table is made for: as many as there are words from an index up to another, and no more than the longest text has.
+fn names_count(from: usize, to: usize) -> usize
+    requires { ⌜ from ≤ to ⌝ }
+    ensures { λ r. ⌜ r ≤ 1048576 ⌝ }
+{
+    if 1048576 < to - from {
+        return 1048576;
     }
-    unique_plain(text, work, from, to)
+    to - from
+}
+
+// Are the words of TAXLABELS names, no two of them alike? Work memory is free from an index behind them on.
+pub fn unique_names(text: &[u8], work: &mut [u32], from: usize, to: usize, base: usize) -> Judged
+    requires { ⌜ (from ≤ to) × (to ≤ base) × (base ≤ length (now work)) ⌝ }
+    ensures { λ r. ⌜ Names·judged (now (text .entry)) (now (work .entry)) (now (work .exit)) from to base r ⌝ }
+{
+    let place = table_place(to, base, work.len());
+    let table = name_table(work, place, names_count(from, to));
+    unique_by(text, work, from, to, table)
 }

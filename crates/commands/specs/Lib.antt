@@ -6,3 +6,4 @@ pub mod LabelKinds
 pub mod StatePlaced
 pub mod DataHeld
 pub mod Stepping
+pub mod TaxaJudged

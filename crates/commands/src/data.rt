@@ -12,6 +12,7 @@ ghost use Rattle.commands.specs.LabelKinds.{One·more, label·number, la
 ghost use Rattle.commands.specs.StateHeld.{Reader, data·of, matrix·of, names·in, sizes·of, state·of, stepped, style·of};
 ghost use Rattle.commands.specs.StatePlaced.{Command·placed, Commands·placed, Data·placed, State·placed, Stepped·placed};
 ghost use Rattle.commands.specs.Stepping.{Answers};
+ghost use Rattle.commands.specs.TaxaJudged.{Judges, Taxa·judged};
 ghost use Rattle.commands.specs.declared.state.Matrix.{Matrix};
 ghost use Rattle.labels.specs.LabelLists.{commands·held};
 ghost use Rattle.lexer.specs.Base.{bytes, given, pick};
@@ -39,7 +40,6 @@ use block::Sized;
 use block::dimensions::dimensions;
 use block::format;
 use block::is;
-use block::unique_names;
 use labels::LabelCommand;
 use labels::LabelCommands;
 use lexer::Refusal;
@@ -144,11 +144,11 @@ fn declare_style(text: &[u8], starts: &[u32], d: Data, head: usize, to: usize) -
     }
 }
 
-// TAXLABELS, once, and not where a TAXA block declared names.
-fn declare_names(text: &[u8], starts: &[u32], d: Data, head: usize, to: usize) -> Declared
+// TAXLABELS, once, and not where a TAXA block declared names. Its words were judged.
+fn declare_names(d: Data, head: usize, to: usize, judgement: Judged) -> Declared
     requires { ⌜ head < to ⌝ }
-    ensures step { λ r. ⌜ ((m : Reader) → declared m (now (text .entry)) (now (starts .entry)) r ≡ pick (given (names·in (now (text .entry)) (now (starts .entry)) (d .names))) (refused Refusal.Command head) (then (unique·names (words (range (now (text .entry)) (now (starts .entry)) (head + 1) to))) (λ x. done (with·taxa (data·of m (now (text .entry)) (now (starts .entry)) d) x)))) ⌝ }
-    ensures placed { λ r. ⌜ ((size : ℕ) → Command·placed (now (starts .entry)) head to → Data·placed (now (text .entry)) (now (starts .entry)) size d → Declared·placed (now (text .entry)) (now (starts .entry)) size r) ⌝ }
+    ensures step { λ r. ⌜ ((m : Reader) (text starts : List ℕ) → Judges text starts head to judgement → declared m text starts r ≡ pick (given (names·in text starts (d .names))) (refused Refusal.Command head) (then (unique·names (words (range text starts (head + 1) to))) (λ x. done (with·taxa (data·of m text starts d) x)))) ⌝ }
+    ensures placed { λ r. ⌜ ((text front : List ℕ) (size : ℕ) → Command·placed front head to → Data·placed text front size d → Declared·placed text front size r) ⌝ }
 {
     let sizes = d.sizes;
     let style = d.style;
@@ -158,7 +158,7 @@ fn declare_names(text: &[u8], starts: &[u32], d: Data, head: usize, to: usize) -
     if names_given(names) {
         return Declared::Refused(Refusal::Command, head);
     }
-    match unique_names(text, starts, head + 1, to) {
+    match judgement {
         Judged::Good => Declared::Data(Data {
             sizes,
             style,
@@ -293,9 +293,16 @@ fn declare_other(text: &[u8], starts: &[u32], d: Data, head: usize, to: usize) -
     }
 }
 
-// A command that is not MATRIX.
-fn data_command(text: &[u8], starts: &[u32], d: Data, head: usize, to: usize) -> Declared
-    requires { ⌜ head < to ⌝ }
+// A command that is not MATRIX. The words of TAXLABELS were judged.
+fn data_command(
+    text: &[u8],
+    starts: &[u32],
+    d: Data,
+    head: usize,
+    to: usize,
+    judgement: Judged,
+) -> Declared
+    requires { ⌜ (head < to) × Taxa·judged (now text) (now starts) head to judgement ⌝ }
     ensures step { λ r. ⌜ ((m : Reader) (size : ℕ) → is (bytes "MATRIX") (word·of (now (text .entry)) (now (starts .entry)) head) ≡ false → Answers (Commands·placed (now (text .entry)) (now (starts .entry)) size (d .labels)) (declared m (now (text .entry)) (now (starts .entry)) r) (data·command (data·of m (now (text .entry)) (now (starts .entry)) d) (word·of (now (text .entry)) (now (starts .entry)) head) (range (now (text .entry)) (now (starts .entry)) (head + 1) to))) ⌝ }
     ensures placed { λ r. ⌜ ((size : ℕ) → Command·placed (now (starts .entry)) head to → Data·placed (now (text .entry)) (now (starts .entry)) size d → Declared·placed (now (text .entry)) (now (starts .entry)) size r) ⌝ }
 {
@@ -306,14 +313,22 @@ fn data_command(text: &[u8], starts: &[u32], d: Data, head: usize, to: usize) ->
         return declare_style(text, starts, d, head, to);
     }
     if is(text, starts, head, b"TAXLABELS") {
-        return declare_names(text, starts, d, head, to);
+        return declare_names(d, head, to, judgement);
     }
     declare_other(text, starts, d, head, to)
 }
 
 // The step that a command other than MATRIX makes; behind the matrix there is none.
-pub fn data_step(text: &[u8], starts: &[u32], s: State, b: usize, head: usize, to: usize) -> Stepped
-    requires { ⌜ head < to ⌝ }
+pub fn data_step(
+    text: &[u8],
+    starts: &[u32],
+    s: State,
+    b: usize,
+    head: usize,
+    to: usize,
+    judgement: Judged,
+) -> Stepped
+    requires { ⌜ (head < to) × Taxa·judged (now text) (now starts) head to judgement ⌝ }
     ensures step { λ r. ⌜ ((m : Reader) (size : ℕ) → is (bytes "MATRIX") (word·of (now (text .entry)) (now (starts .entry)) head) ≡ false → Answers (Data·placed (now (text .entry)) (now (starts .entry)) size (s .«data»)) (stepped m (now (text .entry)) (now (starts .entry)) r) (then (data·step (word·of (now (text .entry)) (now (starts .entry)) head) (range (now (text .entry)) (now (starts .entry)) (head + 1) to) b (data·of m (now (text .entry)) (now (starts .entry)) (s .«data»))) (λ p. done (in·phase p (state·of m (now (text .entry)) (now (starts .entry)) s))))) ⌝ }
     ensures placed { λ r. ⌜ ((size : ℕ) → Command·placed (now (starts .entry)) head to → State·placed (now (text .entry)) (now (starts .entry)) size s → Data·placed (now (text .entry)) (now (starts .entry)) size (s .«data») → s .matrix ≡ Matrix.None → Stepped·placed (now (text .entry)) (now (starts .entry)) size r) ⌝ }
 {
@@ -322,7 +337,7 @@ pub fn data_step(text: &[u8], starts: &[u32], s: State, b: usize, head: usize, t
     if matrix_given(matrix) {
         return Stepped::Refused(Refusal::Command, head);
     }
-    match data_command(text, starts, data, head, to) {
+    match data_command(text, starts, data, head, to, judgement) {
         Declared::Data(d) => Stepped::State(in_data(s, b, d)),
         Declared::Refused(n, i) => Stepped::Refused(n, i),
     }

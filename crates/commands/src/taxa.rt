@@ -8,6 +8,7 @@ ghost use Rattle.block.specs.Names.{unique·names};
 ghost use Rattle.block.specs.Outcome.{done, then};
 ghost use Rattle.commands.specs.StateHeld.{Reader, names·in, state·of, stepped};
 ghost use Rattle.commands.specs.StatePlaced.{Command·placed, Names·placed, State·placed, Stepped·placed};
+ghost use Rattle.commands.specs.TaxaJudged.{Judges, Taxa·judged};
 ghost use Rattle.lexer.specs.Stored.{range, word·of};
 ghost use mathlib.Core.List.{List};
 ghost use mathlib.Core.Option.{some};
@@ -24,7 +25,6 @@ use block::Sized;
 use block::count_words;
 use block::dimensions::dimensions;
 use block::is;
-use block::unique_names;
 use lexer::Refusal;
 
 // What DIMENSIONS declares in TAXA is NTAX alone.
@@ -60,21 +60,13 @@ fn taxa_dimensions(
     }
 }
 
-// TAXLABELS, where so many taxa were declared: the names are kept by their tokens.
-fn taxa_labels(
-    text: &[u8],
-    starts: &[u32],
-    s: State,
-    b: usize,
-    count: u64,
-    head: usize,
-    to: usize,
-) -> Stepped
+// TAXLABELS, where so many taxa were declared: the names that were judged are kept by their tokens.
+fn taxa_labels(s: State, b: usize, count: u64, head: usize, to: usize, judgement: Judged) -> Stepped
     requires { ⌜ head < to ⌝ }
-    ensures step { λ r. ⌜ ((m : Reader) → stepped m (now (text .entry)) (now (starts .entry)) r ≡ then (then (unique·names (words (range (now (text .entry)) (now (starts .entry)) (head + 1) to))) (λ names. done (in·taxa b count (some names)))) (λ p. done (in·phase p (state·of m (now (text .entry)) (now (starts .entry)) s)))) ⌝ }
-    ensures placed { λ r. ⌜ ((size : ℕ) → Command·placed (now (starts .entry)) head to → State·placed (now (text .entry)) (now (starts .entry)) size s → Stepped·placed (now (text .entry)) (now (starts .entry)) size r) ⌝ }
+    ensures step { λ r. ⌜ ((m : Reader) (text starts : List ℕ) → Judges text starts head to judgement → stepped m text starts r ≡ then (then (unique·names (words (range text starts (head + 1) to))) (λ names. done (in·taxa b count (some names)))) (λ p. done (in·phase p (state·of m text starts s)))) ⌝ }
+    ensures placed { λ r. ⌜ ((text front : List ℕ) (size : ℕ) → Command·placed front head to → State·placed text front size s → Stepped·placed text front size r) ⌝ }
 {
-    match unique_names(text, starts, head + 1, to) {
+    match judgement {
         Judged::Good => Stepped::State(in_phase(
             Phase::Taxa(b, count, Names::Words(head + 1, to)),
             s,
@@ -83,7 +75,7 @@ fn taxa_labels(
     }
 }
 
-// A command of TAXA, where so many taxa were declared, or none so far, and these names.
+// A command of TAXA, where so many taxa were declared, or none so far, and these names. The words of TAXLABELS were judged.
 pub fn taxa_step(
     text: &[u8],
     starts: &[u32],
@@ -93,8 +85,9 @@ pub fn taxa_step(
     names: Names,
     head: usize,
     to: usize,
+    judgement: Judged,
 ) -> Stepped
-    requires { ⌜ head < to ⌝ }
+    requires { ⌜ (head < to) × Taxa·judged (now text) (now starts) head to judgement ⌝ }
     ensures step { λ r. ⌜ ((m : Reader) → stepped m (now (text .entry)) (now (starts .entry)) r ≡ then (taxa·step (word·of (now (text .entry)) (now (starts .entry)) head) (words (range (now (text .entry)) (now (starts .entry)) (head + 1) to)) b count (names·in (now (text .entry)) (now (starts .entry)) names)) (λ p. done (in·phase p (state·of m (now (text .entry)) (now (starts .entry)) s)))) ⌝ }
     ensures placed { λ r. ⌜ ((size : ℕ) → Command·placed (now (starts .entry)) head to → State·placed (now (text .entry)) (now (starts .entry)) size s → Stepped·placed (now (text .entry)) (now (starts .entry)) size r) ⌝ }
 {
@@ -105,7 +98,7 @@ pub fn taxa_step(
         return taxa_dimensions(text, starts, s, b, head, to);
     }
     if (count != 0) & is(text, starts, head, b"TAXLABELS") {
-        return taxa_labels(text, starts, s, b, count, head, to);
+        return taxa_labels(s, b, count, head, to, judgement);
     }
     Stepped::Refused(Refusal::Command, head)
 }

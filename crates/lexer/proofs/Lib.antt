@@ -1,5 +1,6 @@
 -- What other crates may cite: laws of tests, lists and tables, and of what a text's tokens are.
 pub mod Basics
+pub mod KeptWords
 pub mod KindTags
 pub mod LabelLaws
 pub mod LexedAnswers

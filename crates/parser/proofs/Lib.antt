@@ -24,4 +24,5 @@ pub mod ShapeLaws
 pub mod StartsLaws
 pub mod StepLaws
 pub mod StorableLaws
+pub mod TaxaTold
 pub mod TurnLaws

@@ -10,9 +10,9 @@ use Rattle.commands.specs.StateHeld.{names·in}
 use Rattle.commands.specs.WorkMap.{map·fits, order·place}
 use Rattle.commands.specs.declared.state.Names.{Names}
 use Rattle.lexer.proofs.Basics.{and-left}
+use Rattle.lexer.proofs.KeptWords.{range-kept}
 use Rattle.lexer.specs.Stored.{range}
 use Rattle.lexer.specs.Words.{largest}
-use Rattle.matrix.proofs.StoredRows.{range-kept}
 use Rattle.matrix.specs.OrderHeld.{Arranged, all·below}
 use Rattle.parser.proofs.MapFits.{fitting}
 use Rattle.parser.specs.Storing.{Order·made, names·within}

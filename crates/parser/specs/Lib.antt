@@ -3,4 +3,5 @@ pub mod Storing
 pub mod TypesRoom
 pub mod ParsedHeld
 pub mod Steps
+pub mod TaxaTold
 pub mod Turning

@@ -2,17 +2,18 @@
 
 ghost use Prim.Native.Nat.{ℕ, _+_, _<_, _≤_};
 ghost use Rattle.block.specs.Blocks as B;
-ghost use Rattle.block.specs.Blocks.{block·step, data·step, end·block, in·phase, inner·step, outside?};
-ghost use Rattle.block.specs.Commands.{command};
+ghost use Rattle.block.specs.Blocks.{block·step, data·step, end·block, in·phase, inner·step, outside?, taxa·step};
+ghost use Rattle.block.specs.Commands.{command, words};
 ghost use Rattle.block.specs.Outcome.{done, then};
 ghost use Rattle.commands.specs.MatrixHeld.{held};
-ghost use Rattle.commands.specs.StateHeld.{Reader, Retypes, data·of, phase·of, state·of, stepped};
+ghost use Rattle.commands.specs.StateHeld.{Reader, Retypes, data·of, names·in, phase·of, state·of, stepped};
 ghost use Rattle.commands.specs.StatePlaced.{State·placed, Stepped·placed};
 ghost use Rattle.commands.specs.Stepping.{Made, state·held};
 ghost use Rattle.commands.specs.declared.state.Data.{Data};
 ghost use Rattle.commands.specs.declared.state.Matrix.{Matrix};
 ghost use Rattle.lexer.specs.Stored.{range, word·of};
 ghost use Rattle.parser.specs.Steps.{Step·made};
+ghost use Rattle.parser.specs.TaxaTold.{Free·from, Taxa·told};
 ghost use lib.ListN.{length, take};
 ghost use mathlib.Core.List.{List};
 ghost use mathlib.Core.Path.{_≡_};
@@ -21,7 +22,10 @@ use super::types::assumption_step;
 use super::types::end_assumptions;
 use assumptions::assumptions::next_word;
 use block::Cut;
+use block::Judged;
 use block::is;
+use block::unique_names;
+use commands::Names;
 use commands::Phase;
 use commands::State;
 use commands::Stepped;
@@ -49,7 +53,62 @@ fn end_block(text: &[u8], starts: &[u32], s: State) -> Stepped
     }
 }
 
-// A command of a data block: MATRIX, once, and any other in front of it.
+// Where a table of names may begin, in work memory of so many numbers: behind the tokens, where no matrix is held; else at its end.
+fn free_from(size: usize, count: usize, s: State) -> usize
+    requires { ⌜ count ≤ size ⌝ }
+    ensures { λ r. ⌜ Free·from size count s r ⌝ }
+{
+    let data = s.data;
+    let matrix = s.matrix;
+    let read = data.matrix;
+    if matrix_given(matrix) {
+        return size;
+    }
+    if matrix_given(read) {
+        return size;
+    }
+    count
+}
+
+// Are the words of TAXLABELS names, no two of them alike? Of any other command nothing is judged.
+fn judge_taxa(
+    text: &[u8],
+    work: &mut [u32],
+    count: usize,
+    s: State,
+    head: usize,
+    to: usize,
+) -> Judged
+    requires { ⌜ (count ≤ length (now work)) × (head < to) × (to ≤ count) ⌝ }
+    ensures { λ r. ⌜ Taxa·told (now (text .entry)) (now (work .entry)) (now (work .exit)) count head to s r ⌝ }
+{
+    if !is(text, work, head, b"TAXLABELS") {
+        return Judged::Good;
+    }
+    let base = free_from(work.len(), count, s);
+    unique_names(text, work, head + 1, to, base)
+}
+
+// A command of TAXA, where so many taxa were declared, or none so far, and these names; the words of TAXLABELS are judged first.
+fn taxa_inner(
+    text: &[u8],
+    work: &mut [u32],
+    count: usize,
+    s: State,
+    b: usize,
+    n: u64,
+    names: Names,
+    head: usize,
+    to: usize,
+) -> Stepped
+    requires { ⌜ (count ≤ length (now work)) × (head < to) × (to ≤ count) ⌝ }
+    ensures { λ r. ⌜ Made (now (text .entry)) (now (work .entry)) (now (work .exit)) count head to s r (then (taxa·step (word·of (now (text .entry)) (take count (now (work .entry))) head) (words (range (now (text .entry)) (take count (now (work .entry))) (head + 1) to)) b n (names·in (now (text .entry)) (take count (now (work .entry))) names)) (λ p. done (in·phase p (state·held (now (text .entry)) (now (work .entry)) count s)))) ⌝ }
+{
+    let judgement = judge_taxa(text, work, count, s, head, to);
+    taxa_step(text, &work[..count], s, b, n, names, head, to, judgement)
+}
+
+// A command of a data block: MATRIX, once, and any other in front of it; the words of TAXLABELS are judged first.
 fn data_inner(
     text: &[u8],
     work: &mut [u32],
@@ -62,15 +121,16 @@ fn data_inner(
     requires { ⌜ (count ≤ length (now work)) × (head < to) × (to ≤ count) ⌝ }
     ensures { λ r. ⌜ (s .phase ≡ Phase.Data b → Made (now (text .entry)) (now (work .entry)) (now (work .exit)) count head to s r (then (data·step (word·of (now (text .entry)) (take count (now (work .entry))) head) (range (now (text .entry)) (take count (now (work .entry))) (head + 1) to) b (data·of (held (now (text .entry)) (now (work .entry)) count) (now (text .entry)) (take count (now (work .entry))) (s .«data»))) (λ p. done (in·phase p (state·held (now (text .entry)) (now (work .entry)) count s))))) ⌝ }
 {
-    if !is(text, work, head, b"MATRIX") {
-        return data_step(text, &work[..count], s, b, head, to);
-    }
     let data = s.data;
     let read = data.matrix;
     if matrix_given(read) {
         return Stepped::Refused(Refusal::Command, head);
     }
-    matrix(text, work, count, s, b, head, to)
+    if is(text, work, head, b"MATRIX") {
+        return matrix(text, work, count, s, b, head, to);
+    }
+    let judgement = judge_taxa(text, work, count, s, head, to);
+    data_step(text, &work[..count], s, b, head, to, judgement)
 }
 
 // A command inside the open block that does not end it. In TREES every command is passed over.
@@ -88,7 +148,7 @@ fn inner_step(
     let phase = s.phase;
     match phase {
         Phase::Outside => Stepped::State(in_phase(Phase::Outside, s)),
-        Phase::Taxa(b, n, names) => { taxa_step(text, &work[..count], s, b, n, names, head, to) }
+        Phase::Taxa(b, n, names) => taxa_inner(text, work, count, s, b, n, names, head, to),
         Phase::Data(b) => data_inner(text, work, count, s, b, head, to),
         Phase::Assumptions(b, default, typed) => {
             assumption_step(text, work, count, s, b, default, typed, head, to)

@@ -15,7 +15,7 @@ use mathlib.Core.Path.{_≡_, sym, _∙_}
 use native.Mathlib.Omega.{arith}
 
 -- What is entered from a slot on that is taken by another number is entered from the next on.
-entered-next : {work : List ℕ} {p stop head v : ℕ} {ls : List ℕ} → p < stop → (getD work p 0 ≡ v → ⊥) → Entered·from work p stop head ls v → Entered·from work (p + 1) stop head ls v
+pub entered-next : {work : List ℕ} {p stop head v : ℕ} {ls : List ℕ} → p < stop → (getD work p 0 ≡ v → ⊥) → Entered·from work p stop head ls v → Entered·from work (p + 1) stop head ls v
 entered-next {p = p} h other e =
     record {
       place = e .place;
@@ -30,6 +30,11 @@ entered-next {p = p} h other e =
     past =
         by-test (ltb p (e .place)) (λ t. let l = ltb-true p (e .place) t in omega arith)
         (λ f. let l = ltb-false p (e .place) f in let same : e .place ≡ p = omega (arith, e .ahead) in absurd (other (rw same at (e .holds (omega arith)))))
+
+-- Nothing is entered from a slot on that is free.
+pub none-entered : {work : List ℕ} {p stop head v : ℕ} {ls : List ℕ} → p < stop → getD work p 0 ≡ 0 → 0 < v → Entered·from work p stop head ls v → ⊥
+none-entered {work} {p} {stop} {v = v} h free some e =
+    none-kept work p stop v h free some (record { place = e .place; ahead = e .ahead; taken = e .taken; holds = e .holds })
 
 module _ (work : List ℕ) (stop head : ℕ) (ls : List ℕ) (test : ℕ → Bool) (count : ℕ) where
   -- Of what was found so far the test holds, and whatever is before it and has the test hold is entered from here on.
@@ -62,7 +67,7 @@ module _ (work : List ℕ) (stop head : ℕ) (ls : List ℕ) (test : ℕ → Boo
           record {
             few = s .few;
             hit = s .hit;
-            miss = λ k l. by-test (test k) (λ t. let e = s .rest k l t in absurd (none-kept work p stop (k + 1) h (sym is ∙ z) (omega arith) (record { place = e .place; ahead = e .ahead; taken = e .taken; holds = e .holds }))) (λ f. f);
+            miss = λ k l. by-test (test k) (λ t. absurd (none-entered h (sym is ∙ z) (omega arith) (s .rest k l t))) (λ f. f);
           }
 
     -- Behind the window what is left is in the trie.

@@ -5,23 +5,21 @@ use Rattle.block.proofs.names.keep_name.Tie as tie
 use Rattle.block.specs.NamesHeld.{name·of}
 use borrow.Author.Needs.{needs}
 
-name-slot-requires : tie.Need-name-slot-requires
-name-slot-requires c κs = search needs
-
 slot-value-requires : tie.Need-slot-value-requires
 slot-value-requires c κs = search needs
 
-fill-slot-requires : tie.Need-fill-slot-requires
-fill-slot-requires c κs = search needs
+enter-name-requires : tie.Need-enter-name-requires
+enter-name-requires c κs = search needs
 
 same-length : tie.Need-same-length
 same-length c = search needs
 
 returns : tie.Need-returns
 unfolding name·of
-returns c = name-put _ _ _ _ _ _ _ (c .before .before .before .slot-value .ensures) (rw (c .before .before .before .before .before .name-slot .ensures) at (c .before .before .fill-slot .ensures))
+returns c =
+    let s = c .before .before .before in
+    let p = s .before .before .before .before .pre in
+    name-put _ _ _ _ _ _ (s .slot-value .ensures) (p .1) (p .2) (c .before .before .enter-name .ensures)
 
 pub keep-name-spec : {M : Type 1} → statement M
-keep-name-spec =
-    tie.close
-    (tie.spec name-slot-requires slot-value-requires fill-slot-requires same-length returns)
+keep-name-spec = tie.close (tie.spec slot-value-requires enter-name-requires same-length returns)

@@ -7,6 +7,7 @@ use Rattle.commands.specs.Stepping.{answered}
 use Rattle.lexer.specs.Base.{bytes, pick}
 use Rattle.lexer.specs.Stored.{word·of}
 use borrow.Author.Needs.{needs}
+use mathlib.Core.Path.{sym, _∙_}
 
 slice-aggregate-is : tie.Need-slice-aggregate-is
 slice-aggregate-is c = search needs
@@ -52,7 +53,9 @@ returns-3 c =
     let three = c .before in
     let two = three .before .before .before in
     let one = two .before .before .before in
-    ((λ m size other. answered (rw (← one .before .is .ensures, one .if1 .left, ← two .before .is2 .ensures, two .if2 .left, ← three .before .is3 .ensures, three .if3 .taken) (c .declare-names .ensures .0 m))), (λ size at p. c .declare-names .ensures .1 size at p))
+    let start = one .before .before .before .before .before in
+    let told = start .pre .1 .right (sym (three .before .is3 .ensures) ∙ three .if3 .taken) in
+    ((λ m size other. answered (rw (← one .before .is .ensures, one .if1 .left, ← two .before .is2 .ensures, two .if2 .left, ← three .before .is3 .ensures, three .if3 .taken) (c .declare-names .ensures .0 m _ _ told))), (λ size at p. c .declare-names .ensures .1 _ _ size at p))
 
 declare-other-requires : tie.Need-declare-other-requires
 declare-other-requires c κs = search needs

@@ -15,34 +15,26 @@ names-given-requires c κs = search needs
 
 returns : tie.Need-returns
 unfolding declared pick
-returns c = ((λ m. rw (← c .before .names-given .ensures _ _, c .if1 .taken)), (λ size at p. tt))
-
-add-unique-names : tie.Need-add-unique-names
-add-unique-names c = search needs
-
-unique-names-requires : tie.Need-unique-names-requires
-unique-names-requires c κs = search needs
+returns c = ((λ m text starts e. rw (← c .before .names-given .ensures text starts, c .if1 .taken)), (λ text front size at p. tt))
 
 enum-told : tie.Need-enum-told
 enum-told c = search needs
 
-add-t18 : tie.Need-add-t18
-add-t18 c = search needs
+add-t15 : tie.Need-add-t15
+add-t15 c = search needs
 
-enum-known-n : tie.Need-enum-known-n
-enum-known-n c = search needs
+enum-known-judgement : tie.Need-enum-known-judgement
+enum-known-judgement c = search needs
 
 returns-2 : tie.Need-returns-2
 unfolding declared pick then judged with·taxa data·of names·in
 returns-2 c =
-    let known = sym (c .before .before .unique-names .ensures) ∙ ap (judged _) (c .enum-told .given .1) in
-    ((λ m. rw (← c .before .before .before .before .names-given .ensures _ _, c .before .before .before .if1 .left, known)), (λ size at p. record { style = p .style; names = at .within; labels = p .labels; matrix = p .matrix; untyped = p .untyped }))
+    ((λ m text starts e. rw (← c .before .before .before .names-given .ensures text starts, c .before .before .if1 .left, sym e ∙ ap (judged _) (c .enum-told .given .1))), (λ text front size at p. record { style = p .style; names = at .within; labels = p .labels; matrix = p .matrix; untyped = p .untyped }))
 
 returns-3 : tie.Need-returns-3
 unfolding declared pick then judged
 returns-3 c =
-    let known = sym (c .before .before .before .unique-names .ensures) ∙ ap (judged _) (c .before .n .given .1) in
-    ((λ m. rw (← c .before .before .before .before .before .names-given .ensures _ _, c .before .before .before .before .if1 .left, known)), (λ size at p. tt))
+    ((λ m text starts e. rw (← c .before .before .before .before .names-given .ensures text starts, c .before .before .before .if1 .left, sym e ∙ ap (judged _) (c .before .judgement .given .1))), (λ text front size at p. tt))
 
 pub declare-names-spec : {M : Type 1} → statement M
 declare-names-spec =
@@ -50,10 +42,8 @@ declare-names-spec =
     (tie.spec
     names-given-requires
     returns
-    add-unique-names
-    unique-names-requires
     enum-told
-    add-t18
-    enum-known-n
+    add-t15
+    enum-known-judgement
     returns-2
     returns-3)

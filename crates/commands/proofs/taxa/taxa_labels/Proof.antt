@@ -7,45 +7,33 @@ use Rattle.commands.specs.StateHeld.{names·in, phase·of, stepped}
 use borrow.Author.Needs.{needs}
 use mathlib.Core.Path.{ap}
 
-add-unique-names : tie.Need-add-unique-names
-add-unique-names c = search needs
-
-unique-names-requires : tie.Need-unique-names-requires
-unique-names-requires c κs = search needs
-
 enum-told : tie.Need-enum-told
 enum-told c = search needs
 
-add-t14 : tie.Need-add-t14
-add-t14 c = search needs
+add-t11 : tie.Need-add-t11
+add-t11 c = search needs
 
 in-phase-requires : tie.Need-in-phase-requires
 in-phase-requires c κs = search needs
 
-enum-known-n : tie.Need-enum-known-n
-enum-known-n c = search needs
+enum-known-judgement : tie.Need-enum-known-judgement
+enum-known-judgement c = search needs
 
 returns : tie.Need-returns
 unfolding then judged stepped phase·of names·in
-returns c =
-    let told = c .before in (
-      λ m. rw (← told .before .before .unique-names .ensures, told .enum-told .given .1) (ap done (c .in-phase .ensures .0 m _ _)),
-      λ size k h. c .in-phase .ensures .1 _ _ size h (k .within),
-    )
+returns c = (λ m text starts e. rw (← e, c .before .enum-told .given .1) (ap done (c .in-phase .ensures .0 m text starts)), λ text front size k h. c .in-phase .ensures .1 text front size h (k .within))
 
 returns-2 : tie.Need-returns-2
 unfolding then judged stepped
-returns-2 c = (λ m. rw (← c .before .before .before .unique-names .ensures, c .before .n .given .1), λ size k h. tt)
+returns-2 c = (λ m text starts e. rw (← e, c .before .judgement .given .1), λ text front size k h. tt)
 
 pub taxa-labels-spec : {M : Type 1} → statement M
 taxa-labels-spec =
     tie.close
     (tie.spec
-    add-unique-names
-    unique-names-requires
     enum-told
-    add-t14
+    add-t11
     in-phase-requires
-    enum-known-n
+    enum-known-judgement
     returns
     returns-2)

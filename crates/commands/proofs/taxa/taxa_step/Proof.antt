@@ -3,9 +3,13 @@ use Rattle.commands.proofs.TaxaLaws.{step-named, step-dimensions, step-
 use Rattle.commands.proofs.taxa.taxa_step.Statement.{statement}
 use Rattle.commands.proofs.taxa.taxa_step.Tie as tie
 use Rattle.commands.specs.StateHeld.{stepped}
+use Rattle.lexer.proofs.Basics.{and-right}
 use Rattle.lexer.specs.Base.{bytes}
 use Rattle.lexer.specs.Stored.{word·of}
 use borrow.Author.Needs.{needs}
+use lib.Dec.{eqb}
+use mathlib.Core.Bool.{not}
+use mathlib.Core.Path.{sym, _∙_}
 
 names-given-requires : tie.Need-names-given-requires
 names-given-requires c κs = search needs
@@ -46,7 +50,8 @@ unfolding bytes
 returns-3 c =
     let three = c .before in
     let one = three .before .before .before .before .before .before in
-    (λ m. step-labels _ _ _ _ _ _ _ _ _ (one .before .names-given .ensures _ _) (one .if1 .left) (three .before .is2 .ensures) (three .if3 .taken) (c .taxa-labels .ensures .0 m), c .taxa-labels .ensures .1)
+    let start = one .before .before .before .before in
+    (λ m. step-labels _ _ _ _ _ _ _ _ _ (one .before .names-given .ensures _ _) (one .if1 .left) (three .before .is2 .ensures) (three .if3 .taken) (c .taxa-labels .ensures .0 m _ _ (start .pre .1 .right (sym (three .before .is2 .ensures) ∙ and-right (not (eqb (start .args .count) 0)) _ (three .if3 .taken)))), c .taxa-labels .ensures .1 _ _)
 
 returns-4 : tie.Need-returns-4
 unfolding stepped word·of bytes

@@ -10,8 +10,7 @@ use Rattle.parser.proofs.step.inner_step.Tie as tie
 use borrow.Author.Needs.{needs}
 use denote.Ref.{now}
 use lib.ListN.{length, take}
-use lib.Seq.{length-take-le}
-use mathlib.Core.Path.{sym, ap, _∙_}
+use mathlib.Core.Path.{ap, _∙_}
 
 enum-told : tie.Need-enum-told
 enum-told c = search needs
@@ -22,14 +21,8 @@ in-phase-requires c κs = search needs
 enum-known-phase : tie.Need-enum-known-phase
 enum-known-phase c = search needs
 
-slice-reshare-prefix-taxa-step : tie.Need-slice-reshare-prefix-taxa-step
-slice-reshare-prefix-taxa-step c = search needs
-
-slice-aggregate-taxa-step : tie.Need-slice-aggregate-taxa-step
-slice-aggregate-taxa-step c = let start = c .before .before .before .before .before .before in sym (length-take-le _ _ (start .pre .0))
-
-taxa-step-requires : tie.Need-taxa-step-requires
-taxa-step-requires c κs = search needs
+taxa-inner-requires : tie.Need-taxa-inner-requires
+taxa-inner-requires c κs = search needs
 
 enum-known-phase-2 : tie.Need-enum-known-phase-2
 enum-known-phase-2 c = search needs
@@ -64,15 +57,12 @@ same-length : tie.Need-same-length
 same-length c = search needs
 
 returns-2 : tie.Need-returns-2
-unfolding step·held state·held
 returns-2 c =
-    let args = c .before .before .before .before .before .before .before .args in
+    let told = c .before .before .before .before .before .phase .given .1 in
+    let args = c .before .before .before .before .before .before .before .before .before .args in
     let text = now (args .text) in
     let work = now (args .work) in
-    let front = take (args .count) work in
-    kept-made text work (args .count) _ _ (args .s) _
-    (c .taxa-step .ensures .0 (held text work (args .count)) ∙ inner-taxa (held text work (args .count)) text front _ _ _ _ _ _ _ _ _ (c .before .before .before .phase .given .1))
-    (c .taxa-step .ensures .1 (length work))
+    made-as text work _ (args .count) _ _ (args .s) _ (inner-taxa (held text work (args .count)) text (take (args .count) work) _ _ _ _ _ _ _ _ _ told) (c .before .before .taxa-inner .ensures)
 
 same-length-2 : tie.Need-same-length-2
 same-length-2 c = search needs
@@ -114,9 +104,7 @@ inner-step-spec =
     enum-told
     in-phase-requires
     enum-known-phase
-    slice-reshare-prefix-taxa-step
-    slice-aggregate-taxa-step
-    taxa-step-requires
+    taxa-inner-requires
     enum-known-phase-2
     data-inner-requires
     enum-known-phase-3
