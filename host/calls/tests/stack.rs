@@ -1,5 +1,5 @@
 //! The calls on a thread with a small stack. They have no memory but what is lent and fixed local
-//! tables, of which the longest is one of 127 KiB for many names.
+//! tables, of which the longest take 189 KiB together, for many names.
 
 use nexus::{lookup, read_into, work_needed, write_into};
 
