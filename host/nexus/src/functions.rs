@@ -1,4 +1,5 @@
-//! The archive's functions, with slices for pointers and lengths. This file has all that is unsafe.
+//! The archive's functions, with slices for pointers and lengths, and one of the system. This file
+//! has all that is unsafe.
 
 mod archive {
     // SAFETY: crates/nexus_c exports these functions, with the types that include/nexus.h has.
@@ -74,4 +75,31 @@ pub fn nexus_lookup(record: &[u8], name: &[u8], number: &mut u32, start: &mut us
     let (name, size) = (name.as_ptr(), name.len());
     // SAFETY: as for `nexus_read`; the record and the name may overlap, since both are only read.
     unsafe { archive::nexus_lookup(record, length, name, size, number, start) }
+}
+
+mod system {
+    // SAFETY: Linux has this function, with these types, on 64 bits.
+    unsafe extern "C" {
+        pub fn madvise(memory: *mut u8, length: usize, advice: i32) -> i32;
+    }
+}
+
+/// The page of the system.
+const PAGE: usize = 4096;
+
+/// Memory is long from this length on.
+const LONG: usize = 8 << 20;
+
+/// Asks for large pages where the memory is long, so that it is handed out by two mebibytes as it is
+/// first written to. What it holds is as it was; a system without such pages does nothing.
+pub fn large_pages(memory: &mut [u8]) {
+    const LARGE_PAGES: i32 = 14;
+    if memory.len() < LONG {
+        return;
+    }
+    let start = memory.as_ptr().align_offset(PAGE);
+    let pages = &mut memory[start..];
+    let length = pages.len() / PAGE * PAGE;
+    // SAFETY: the pages lie within the slice, and the advice leaves what they hold as it is.
+    unsafe { system::madvise(pages.as_mut_ptr(), length, LARGE_PAGES) };
 }
