@@ -25,4 +25,4 @@ pub fn nexus_lookup(_record: &[u8], _name: &[u8], _number: &mut u32, _start: &mu
 }
 
 /// Does nothing: no memory is lent.
-pub fn large_pages(_memory: &mut [u8]) {}
+pub fn large_pages<T>(_memory: &mut [T]) {}

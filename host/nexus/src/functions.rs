@@ -84,22 +84,16 @@ mod system {
     }
 }
 
-/// The page of the system.
-const PAGE: usize = 4096;
-
-/// Memory is long from this length on.
-const LONG: usize = 8 << 20;
-
-/// Asks for large pages where the memory is long, so that it is handed out by two mebibytes as it is
-/// first written to. What it holds is as it was; a system without such pages does nothing.
-pub fn large_pages(memory: &mut [u8]) {
+/// Asks for large pages, so that memory is handed out by two mebibytes as it is first written to, and
+/// not by four kibibytes. What it holds is as it was; a system without such pages does nothing.
+pub fn large_pages<T>(memory: &mut [T]) {
+    const PAGE: usize = 4096;
     const LARGE_PAGES: i32 = 14;
-    if memory.len() < LONG {
-        return;
-    }
     let start = memory.as_ptr().align_offset(PAGE);
-    let pages = &mut memory[start..];
-    let length = pages.len() / PAGE * PAGE;
+    let Some(pages) = memory.get_mut(start..) else {
+        return;
+    };
+    let length = size_of_val(pages) / PAGE * PAGE;
     // SAFETY: the pages lie within the slice, and the advice leaves what they hold as it is.
-    unsafe { system::madvise(pages.as_mut_ptr(), length, LARGE_PAGES) };
+    unsafe { system::madvise(pages.as_mut_ptr().cast(), length, LARGE_PAGES) };
 }
