@@ -104,6 +104,7 @@ fn line(shape: &Shape, steep: &mut Vec<String>) {
     let whole = largest(shape);
     let size = within_time(*text, whole);
     let (mut less, mut more) = (Input::of(text(size / 2)), Input::of(text(size)));
+    assert!(more.text.len() <= MEGABYTE, "{name}");
     print!("{size:9} {:9}", more.text.len());
     let (mut left, mut above) = (Vec::new(), Vec::new());
     for call in CALLS {

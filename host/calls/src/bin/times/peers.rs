@@ -13,7 +13,7 @@ use crate::process::{installed, run, silent};
 use crate::{SHAPES, begin, reading};
 
 /// The most runs of a program on one file. It has fewer once they take longer than `ENOUGH`.
-const RUNS: usize = 12;
+const RUNS: usize = 20;
 
 /// Seconds.
 const ENOUGH: f64 = 4.0;
@@ -99,7 +99,7 @@ pub fn print(nexus: &Path) {
         .iter()
         .partition::<Vec<_>, _>(|peer| installed(peer.program));
     print!(
-        "{:36} {:>9} {:>11}",
+        "{:36} {:>9} {:>13}",
         "processes and calls", "bytes", "nexus read  "
     );
     for peer in &peers {
@@ -127,7 +127,7 @@ pub fn print(nexus: &Path) {
     }
     match ahead.is_empty() {
         true => println!("nexus read is ahead of each of them on every file"),
-        false => println!("ahead of nexus read: {}", ahead.join("; ")),
+        false => println!("ahead of nexus read:\n    {}", ahead.join("\n    ")),
     }
 }
 
@@ -153,14 +153,14 @@ fn line(
     let mut commands: Vec<Command> = peers.iter().map(|peer| peer.command(&file)).collect();
     commands.insert(0, own);
     take_turns(&mut commands, &mut outcomes);
+    let own = outcomes[0].seconds().unwrap_or(f64::INFINITY);
     print!("{:9} {:>13}", text.len(), outcomes[0].shown());
     for (peer, outcome) in peers.iter().zip(&outcomes[1..]) {
         print!(" {:>16}", outcome.shown());
-        if outcome.seconds() < outcomes[0].seconds() && outcome.seconds().is_some() {
-            let mark = if matches!(outcome, Outcome::Otherwise(_)) {
-                " !"
-            } else {
-                ""
+        if outcome.seconds().is_some_and(|seconds| seconds < own) {
+            let mark = match outcome {
+                Outcome::Otherwise(_) => " !",
+                _ => "",
             };
             ahead.push(format!("{}{mark} on {name}", peer.program));
         }
@@ -183,9 +183,12 @@ fn take_turns(commands: &mut [Command], outcomes: &mut [Outcome]) {
                 continue;
             };
             if sums[at] < ENOUGH {
-                let (seconds, _) = run(command, LIMIT);
+                let (seconds, ended) = run(command, LIMIT);
                 sums[at] += seconds;
                 *best = best.min(seconds);
+                if ended.is_none() {
+                    outcomes[at] = Outcome::Beyond;
+                }
             }
         }
     }
