@@ -5,6 +5,7 @@
 pub mod cases;
 pub mod check;
 mod fewer;
+mod folder;
 pub mod lent;
 pub mod question;
 pub mod records;
@@ -14,6 +15,7 @@ mod traps;
 mod valgrind;
 
 pub use check::{Checker, Difference, Met};
+pub use folder::Folder;
 pub use question::Question;
 pub use smallest::explained;
 pub use valgrind::running as under_valgrind;

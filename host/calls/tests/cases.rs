@@ -6,16 +6,16 @@ mod common;
 use std::fs;
 use std::process::Command;
 
-use calls::Question;
 use calls::cases::{self, LONGEST, file, fits, printed};
 use calls::question::KINDS;
+use calls::{Folder, Question};
 use oracle::frames::write_frame;
 
 /// What the program writes to standard output and to standard error on a file.
 #[track_caller]
 fn run(name: &str, file: &[u8]) -> (Vec<u8>, String) {
-    let folder = common::Folder::new(name);
-    fs::write(folder.0.join("questions"), file).expect("the questions");
+    let folder = Folder::new(name);
+    folder.file("questions", file);
     let mut program = Command::new(common::repository().join("target/bin/cases"));
     let output = common::run(program.current_dir(&folder.0), [].into_iter());
     assert!(output.status.success(), "{}", output.status);

@@ -5,7 +5,8 @@ mod common;
 use std::path::Path;
 use std::process::Command;
 
-use common::{Folder, repository};
+use calls::Folder;
+use common::repository;
 use inputs::example;
 use oracle::answer::{self, ENOUGH};
 

@@ -47,7 +47,12 @@ impl Source {
         bytes.clear();
         match self {
             Self::Input => io::stdin().lock().take(most).read_to_end(bytes)?,
-            Self::File(path) => File::open(path)?.take(most).read_to_end(bytes)?,
+            Self::File(path) => {
+                let file = File::open(path)?;
+                let length = file.metadata()?.len().min(most);
+                bytes.reserve(length as usize + 1);
+                file.take(most).read_to_end(bytes)?
+            }
         };
         Ok(())
     }

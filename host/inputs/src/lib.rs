@@ -3,6 +3,9 @@
 
 pub mod clock;
 pub mod example;
+pub mod taxa;
+
+use taxa::Declared;
 
 /// The longest text that is read.
 pub const MEGABYTE: usize = 1_048_576;
@@ -86,36 +89,18 @@ pub fn standard(taxa: usize, characters: usize, sets: bool) -> Vec<u8> {
 /// STANDARD data of one taxon, with the cells 0 and 1 by turns.
 fn one_row(characters: usize, commands: &str) -> Vec<u8> {
     let cells = b"01".iter().cycle().take(characters);
-    let row: Vec<u8> = b"a ".iter().chain(cells).copied().collect();
+    let row: Vec<u8> = b"a ".iter().chain(cells).chain(b"\n").copied().collect();
     data(1, characters, commands, &row)
-}
-
-/// A name of four letters.
-fn short_name(mut taxon: usize) -> String {
-    let mut name = String::new();
-    for _ in 0..4 {
-        name.push(char::from(b'a' + (taxon % 26) as u8));
-        taxon /= 26;
-    }
-    name
 }
 
 /// So many taxa with short names, at most 456,976, and five characters; the names may be declared
 /// too, in the order of the rows.
 pub fn names(taxa: usize, declared: bool) -> Vec<u8> {
-    let mut labels = String::new();
-    let mut rows = String::new();
-    for taxon in 0..taxa {
-        let name = short_name(taxon);
-        rows.push_str(&format!("{name} {:05b}\n", taxon % 32));
-        labels.push_str(&name);
-        labels.push('\n');
-    }
-    let commands = match declared {
-        true => format!("TAXLABELS\n{labels};"),
-        false => String::new(),
+    let declared = match declared {
+        true => Declared::InOrder,
+        false => Declared::No,
     };
-    data(taxa, 5, &commands, rows.as_bytes())
+    taxa::text(&taxa::names(taxa, taxa::four_letters), 5, declared)
 }
 
 /// One taxon whose characters all have a label and labels for two states.
@@ -125,6 +110,24 @@ pub fn labels(characters: usize) -> Vec<u8> {
         .collect();
     let labels = format!("CHARSTATELABELS\n{};", entries.join(",\n"));
     one_row(characters, &labels)
+}
+
+/// One taxon whose characters all have a label, in one list.
+pub fn label_list(characters: usize) -> Vec<u8> {
+    let labels: Vec<String> = (1..=characters).map(|n| format!("character_{n}")).collect();
+    one_row(characters, &format!("CHARLABELS\n{};", labels.join("\n")))
+}
+
+/// One taxon whose characters all have labels for two states, the last character first.
+pub fn state_labels(characters: usize) -> Vec<u8> {
+    let entries: Vec<String> = (1..=characters)
+        .rev()
+        .map(|character| format!("{character} absent present"))
+        .collect();
+    one_row(
+        characters,
+        &format!("STATELABELS\n{};", entries.join(",\n")),
+    )
 }
 
 /// One taxon and one label of so many bytes for its character.
@@ -156,6 +159,46 @@ pub fn vector(characters: usize) -> Vec<u8> {
     typed(
         characters,
         &format!("* t (VECTOR) = {}", "ORD ".repeat(characters)),
+    )
+}
+
+/// So many characters, three of four in ranges of two with a stride, all in one list.
+pub fn ranges(characters: usize) -> Vec<u8> {
+    let ranges: Vec<String> = (1..characters - 3)
+        .step_by(4)
+        .map(|first| format!("{first}-{}\\2 {}", first + 2, first + 1))
+        .collect();
+    typed(characters, &format!("* t = ORD: {}", ranges.join(" ")))
+}
+
+/// So many characters, each in a set of its own.
+pub fn sets(characters: usize) -> Vec<u8> {
+    let sets: Vec<String> = (1..=characters)
+        .rev()
+        .map(|n| format!("{}: {n}", ["ORD", "UNORD"][n % 2]))
+        .collect();
+    typed(characters, &format!("* t = {}", sets.join(", ")))
+}
+
+// Comments.
+
+/// One row of so many characters, with a comment behind each of them.
+pub fn comments(characters: usize) -> Vec<u8> {
+    let mut row = b"a ".to_vec();
+    for character in 0..characters {
+        row.push(base(0, character));
+        row.extend(b"[a note]");
+    }
+    data(1, characters, DNA, &row)
+}
+
+/// Taxa with a comment that is so many comments deep in front of the rows.
+pub fn deep_comment(depth: usize) -> Vec<u8> {
+    data(
+        2,
+        2,
+        "",
+        &[&nested(2 * depth), b"\na 01\nb 10\n" as &[u8]].concat(),
     )
 }
 

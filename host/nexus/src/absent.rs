@@ -23,3 +23,6 @@ pub fn nexus_write(_record: &[u8], _buffer: &mut [u8], _number: &mut u32) -> usi
 pub fn nexus_lookup(_record: &[u8], _name: &[u8], _number: &mut u32, _start: &mut usize) -> usize {
     panic!("{NOT_LINKED}")
 }
+
+/// Does nothing: no memory is lent.
+pub fn large_pages<T>(_memory: &mut [T]) {}

@@ -1,4 +1,5 @@
-//! The archive's functions, with slices for pointers and lengths. This file has all that is unsafe.
+//! The archive's functions, with slices for pointers and lengths, and one of the system. This file
+//! has all that is unsafe.
 
 mod archive {
     // SAFETY: crates/nexus_c exports these functions, with the types that include/nexus.h has.
@@ -74,4 +75,25 @@ pub fn nexus_lookup(record: &[u8], name: &[u8], number: &mut u32, start: &mut us
     let (name, size) = (name.as_ptr(), name.len());
     // SAFETY: as for `nexus_read`; the record and the name may overlap, since both are only read.
     unsafe { archive::nexus_lookup(record, length, name, size, number, start) }
+}
+
+mod system {
+    // SAFETY: Linux has this function, with these types, on 64 bits.
+    unsafe extern "C" {
+        pub fn madvise(memory: *mut u8, length: usize, advice: i32) -> i32;
+    }
+}
+
+/// Asks for large pages, so that memory is handed out by two mebibytes as it is first written to, and
+/// not by four kibibytes. What it holds is as it was; a system without such pages does nothing.
+pub fn large_pages<T>(memory: &mut [T]) {
+    const PAGE: usize = 4096;
+    const LARGE_PAGES: i32 = 14;
+    let start = memory.as_ptr().align_offset(PAGE);
+    let Some(pages) = memory.get_mut(start..) else {
+        return;
+    };
+    let length = size_of_val(pages) / PAGE * PAGE;
+    // SAFETY: the pages lie within the slice, and the advice leaves what they hold as it is.
+    unsafe { system::madvise(pages.as_mut_ptr().cast(), length, LARGE_PAGES) };
 }

@@ -57,11 +57,13 @@ mod functions;
 mod functions;
 
 pub mod archive;
+mod reader;
 mod record;
 mod refusal;
 pub mod refusals;
 mod view;
 
+pub use reader::Reader;
 pub use record::Record;
 pub use refusal::Refusal;
 pub use view::{
@@ -109,7 +111,7 @@ pub fn read_into(text: &[u8], work: &mut [u32], buffer: &mut [u8]) -> Result<usi
     }
 }
 
-/// Reads a text into a record of its own.
+/// Reads a text into a record of its own; see [`Reader`] for many.
 ///
 #[doc = example!()]
 /// # use inputs::example::TEXT;
@@ -121,29 +123,56 @@ pub fn read(text: &[u8]) -> Result<Record, Refusal> {
     // A text that is too long is refused for that, whatever it is lent.
     let read = if text.len() > TEXT_LIMIT { &[] } else { text };
     let mut work = vec![0; work_needed(read)];
-    let mut buffer = vec![0; 4 * read.len() + 256];
-    let most = longest_record(read);
-    // Only 30 asks for another turn, and only while the buffer is shorter than `most`. Each turn has
-    // a buffer four times as long, so the third has `most` bytes, and is the last.
+    let most = longest_record(read.len());
+    let mut room = usual_record(read);
+    // Only 30 asks for another turn, and only while the buffer is shorter than `most`.
     loop {
+        let mut buffer = vec![0; room];
+        if room > LONG {
+            functions::large_pages(&mut buffer);
+        }
         match read_into(text, &mut work, &mut buffer) {
             Ok(length) => {
                 buffer.truncate(length);
                 return Ok(Record { bytes: buffer });
             }
-            Err(refusal) if refusal.number == Refusal::NO_ROOM && buffer.len() < most => {
-                buffer = vec![0; most.min(4 * buffer.len())];
-            }
+            Err(refusal) if refusal.number == Refusal::NO_ROOM && room < most => room = most,
             Err(refusal) => return Err(refusal),
         }
     }
 }
 
-/// No record of a text is longer. A byte of a row gives at most 9 (an `N` of DNA is `u0.1.2.3` and
+/// Records for which a buffer in large pages is lent are longer.
+const LONG: usize = 8 << 20;
+
+/// No record of a text of so many bytes is longer. A byte of a row gives at most 9 (an `N` of DNA is `u0.1.2.3` and
 /// a blank); each character, which has such a byte in each row, 46 in its own lines; a byte of a
 /// name or label, with its share of that line, 9; and what is left is shorter than 256.
-fn longest_record(text: &[u8]) -> usize {
-    64 * text.len() + 256
+fn longest_record(length: usize) -> usize {
+    64 * length + 256
+}
+
+/// Most records of a text are no longer, if it has as many characters as it seems to.
+fn usual_record(text: &[u8]) -> usize {
+    4 * text.len() + 46 * characters_guessed(text) + 256
+}
+
+/// How many characters a text seems to have: the number behind the first `NCHAR`, which is looked
+/// for near its beginning.
+fn characters_guessed(text: &[u8]) -> usize {
+    const NEAR: usize = 1 << 16;
+    let mut words = text[..text.len().min(NEAR)].windows(5);
+    let Some(at) = words.position(|word| word.eq_ignore_ascii_case(b"NCHAR")) else {
+        return 0;
+    };
+    let number = text[at + 5..]
+        .iter()
+        .skip_while(|byte| b" =".contains(byte));
+    let digits = number
+        .take(7)
+        .map_while(|byte| char::from(*byte).to_digit(10));
+    let guessed = digits.fold(0, |number, digit| 10 * number + digit as usize);
+    guessed.min(text.len())
 }
 
 /// Writes the form of a record into lent memory: its length; it then begins the buffer. The rest of

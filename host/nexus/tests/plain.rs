@@ -1,7 +1,9 @@
 //! The plain calls.
 
 use inputs::example::{FORM, RECORD, TEXT};
-use nexus::{Record, Refusal, TEXT_LIMIT, lookup, read, read_into, work_needed, write_into};
+use nexus::{
+    Reader, Record, Refusal, TEXT_LIMIT, lookup, read, read_into, work_needed, write_into,
+};
 
 fn refusal(number: u32, line: usize, column: usize) -> Refusal {
     Refusal {
@@ -144,4 +146,34 @@ fn a_form_may_be_longer_than_its_record() {
     let name = "'".repeat(TEXT_LIMIT / 2);
     let long = record(&RECORD.replace("name=C", &format!("name={name}")));
     assert_eq!(long.write(), Err(refusal(32, 0, 0)));
+}
+
+#[test]
+#[cfg_attr(not(archive), ignore = "no archive; tools/test-calls makes it")]
+fn a_reader_reads_one_text_after_another() {
+    // An `N` is a set of four bases, so that the record is longer than most; and nothing says how
+    // many characters there are where many names are declared first.
+    let unknown = String::from_utf8(inputs::rows(10, 20_000)).expect("ASCII");
+    let unknown = unknown.replace('A', "N").into_bytes();
+    let declared = String::from_utf8(inputs::names(20_000, true)).expect("ASCII");
+    let texts = [
+        TEXT.as_bytes().to_vec(),
+        inputs::row(TEXT_LIMIT),
+        vec![b' '; TEXT_LIMIT + 1],
+        unknown,
+        b"#NEXUS".to_vec(),
+        declared.replace("NCHAR=5;", "NCHAR=99999999;").into_bytes(),
+        inputs::standard(100, 5_000, true),
+        TEXT.as_bytes().to_vec(),
+    ];
+    let mut reader = Reader::new();
+    for text in texts {
+        let (mut work, mut buffer) = (vec![0; work_needed(&text)], vec![0; 64 * text.len()]);
+        let lent = read_into(&text, &mut work, &mut buffer);
+        let lent = lent.map(|length| &buffer[..length]);
+        let given = reader.read(&text);
+        assert!(given.map(|record| record.as_bytes()) == lent);
+        let record = read(&text);
+        assert!(record.as_ref().map(Record::as_bytes) == lent.as_ref().map(|record| *record));
+    }
 }

@@ -3,7 +3,7 @@
 use std::io::Write;
 use std::path::PathBuf;
 
-use nexus::Record;
+use nexus::{Reader, View};
 
 use super::{FORMAT, Flag, Verb};
 use crate::args::{Asked, Format};
@@ -54,40 +54,54 @@ fn run(asked: &Asked, session: &mut Session) -> Result<(), Stop> {
     let mut folder = folder
         .map(|path| Folder::open(path, ending, &sources))
         .transpose()?;
+    let mut lent = Lent::default();
     for source in &sources {
         let target = folder.as_mut().map(|folder| folder.claim(source));
         match target.transpose() {
-            Ok(target) => read_one(source, target, session)?,
+            Ok(target) => lent.read_one(source, target, session)?,
             Err(message) => session.failed(&message)?,
         }
     }
     Ok(())
 }
 
-/// Reads one file, and writes its record to a file or to standard output.
-fn read_one(source: &Source, target: Option<PathBuf>, session: &mut Session) -> Result<(), Stop> {
-    let mut text = Vec::new();
-    if let Err(error) = source.load_text(&mut text) {
-        return session.unreadable(source, &error);
-    }
-    let record = match nexus::read(&text) {
-        Ok(record) => record,
-        Err(refusal) => return session.refuse(source, &text, refusal),
-    };
-    let format = session.format;
-    let Some(target) = target else {
-        return put(&record, source, format, session.out()).map_err(unwritten);
-    };
-    let mut bytes = Vec::new();
-    put(&record, source, format, &mut bytes).map_err(unwritten)?;
-    match write_whole(&target, &bytes) {
-        Ok(()) => Ok(()),
-        Err(message) => session.failed(&message),
+/// The memory that is lent to one file after another.
+#[derive(Default)]
+struct Lent {
+    text: Vec<u8>,
+    reader: Reader,
+}
+
+impl Lent {
+    /// Reads one file, and writes its record to a file or to standard output.
+    fn read_one(
+        &mut self,
+        source: &Source,
+        target: Option<PathBuf>,
+        session: &mut Session,
+    ) -> Result<(), Stop> {
+        if let Err(error) = source.load_text(&mut self.text) {
+            return session.unreadable(source, &error);
+        }
+        let record = match self.reader.read(&self.text) {
+            Ok(record) => record,
+            Err(refusal) => return session.refuse(source, &self.text, refusal),
+        };
+        let format = session.format;
+        let Some(target) = target else {
+            return put(record, source, format, session.out()).map_err(unwritten);
+        };
+        let mut bytes = Vec::new();
+        put(record, source, format, &mut bytes).map_err(unwritten)?;
+        match write_whole(&target, &bytes) {
+            Ok(()) => Ok(()),
+            Err(message) => session.failed(&message),
+        }
     }
 }
 
 fn put(
-    record: &Record,
+    record: View<'_>,
     source: &Source,
     format: Format,
     out: &mut dyn Write,
@@ -98,7 +112,7 @@ fn put(
             out,
             "{{\"file\":{},\"status\":\"read\",\"record\":{}}}",
             Quoted(&source.operand()),
-            json::Record(record.view())
+            json::Record(record)
         ),
     }
 }

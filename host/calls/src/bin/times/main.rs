@@ -1,15 +1,23 @@
-//! Times the calls, and how they grow with their input: the read call against rove's `parse` on the
-//! same inputs, by turns; the calls that write and look up on the records of these; and how long it
-//! takes that many names differ. Run it by tools/bench.
+//! Times the calls: the read call against rove's `parse` on the same inputs, by turns; the calls that
+//! write and look up on the records of these; how long it takes that many names differ; and how all
+//! of them grow with their input. Other tables: whole processes, beside those of other readers, and
+//! instructions. Run it by tools/bench.
 
+mod growth;
+mod instructions;
 mod names;
+mod peers;
+mod process;
 mod reading;
 mod records;
 
 use std::io::Write;
+use std::path::Path;
+use std::process::ExitCode;
 
 use inputs::MEGABYTE;
 use inputs::clock::timed;
+use inputs::taxa::{self, Declared};
 use nexus::archive::{LINKED, NOT_LINKED};
 
 /// The most turns of a side on one input. It has fewer once they take longer than `ENOUGH`, and
@@ -38,6 +46,12 @@ const SHAPES: &[Shape] = &[
     ("60,000 declared taxa by 5", 60_000, |n| {
         inputs::names(n, true)
     }),
+    ("100,000 declared taxa by 1", 100_000, |n| {
+        taxa::text(&taxa::names(n, taxa::three_signs), 1, Declared::InOrder)
+    }),
+    ("40,000 quoted names by 5", 40_000, |n| {
+        taxa::text(&taxa::names(n, taxa::quoted), 5, Declared::No)
+    }),
     ("labels for 5,000 characters", 5_000, inputs::labels),
     ("TYPESET, a list of 140,000", 140_000, inputs::listed),
     (
@@ -46,35 +60,45 @@ const SHAPES: &[Shape] = &[
         inputs::listed_again,
     ),
     ("TYPESET, a vector of 200,000", 200_000, inputs::vector),
+    ("100,000 comments", 100_000, inputs::comments),
+    ("a comment 500,000 deep", 500_000, inputs::deep_comment),
 ];
 
-fn main() {
+fn main() -> ExitCode {
     if !LINKED {
         println!("{NOT_LINKED}");
-        return;
+        return ExitCode::FAILURE;
     }
+    let arguments: Vec<String> = std::env::args().skip(1).collect();
+    let arguments: Vec<&str> = arguments.iter().map(String::as_str).collect();
+    match arguments[..] {
+        [] => tables(),
+        ["--growth"] => growth::print(),
+        ["--peers", nexus] => peers::print(Path::new(nexus)),
+        ["--instructions"] => instructions::print(),
+        ["--call", call, file] => instructions::call(call, Path::new(file)),
+        _ => {
+            eprintln!("tools/bench says how this is used");
+            return ExitCode::FAILURE;
+        }
+    }
+    ExitCode::SUCCESS
+}
+
+fn tables() {
     reading::print();
     println!();
     records::print();
     println!();
     names::print();
+    println!();
+    growth::print();
 }
 
 /// Begins a line of a table, which is seen at once.
 fn begin(name: &str) {
     print!("{name:36} ");
     std::io::stdout().flush().expect("a line");
-}
-
-/// The inputs for a shape's growth: n and 2n, where 2n is no longer than a text may be, and else n/2
-/// and n.
-fn doubled(shape: &Shape) -> [Vec<u8>; 2] {
-    let (_, size, text) = shape;
-    let twice = text(2 * size);
-    match twice.len() <= MEGABYTE {
-        true => [text(*size), twice],
-        false => [text(size / 2), text(*size)],
-    }
 }
 
 /// The turns of a side so far.

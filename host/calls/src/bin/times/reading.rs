@@ -8,57 +8,41 @@ use oracle::data::Matrix;
 use oracle::nexus::{Error, parse};
 use oracle::record::spell;
 
-use crate::{ENOUGH, SHAPES, TURNS, Turns, begin, doubled};
+use crate::{ENOUGH, SHAPES, TURNS, Turns, begin};
 
 pub fn print() {
     println!(
-        "{:36} {:>9} {:>9} {:>9} {:>6}   {:>7} {:>7}",
-        "reading", "bytes", "proved", "Rust", "ratio", "growth", "Rust"
+        "{:36} {:>9} {:>9} {:>9} {:>9} {:>6}",
+        "reading", "bytes", "ms", "proved", "Rust", "ratio"
     );
-    for shape in SHAPES {
-        let (name, size, text) = shape;
+    for (name, size, text) in SHAPES {
         begin(name);
-        let here = text(*size);
-        let at = best(name, &here);
-        let [less, more] = doubled(shape);
-        let growth = match less.len() == here.len() {
-            true => best(name, &more).over(&at),
-            false => at.over(&best(name, &less)),
-        };
-        let a_byte = |seconds: f64| seconds * 1e9 / here.len() as f64;
+        let text = text(*size);
+        let best = best(name, &text);
+        let a_byte = |seconds: f64| seconds * 1e9 / text.len() as f64;
         println!(
-            "{:9} {:9.3} {:9.3} {:6.2}   {:7.2} {:7.2}",
-            here.len(),
-            a_byte(at.proved),
-            a_byte(at.rust),
-            at.rust / at.proved,
-            growth.proved,
-            growth.rust
+            "{:9} {:9.2} {:9.3} {:9.3} {:6.2}",
+            text.len(),
+            best.proved * 1e3,
+            a_byte(best.proved),
+            a_byte(best.rust),
+            best.rust / best.proved
         );
     }
     println!(
-        "proved, Rust: nanoseconds a byte, best of {TURNS} turns, or of those that {ENOUGH} s hold, \
-        but one at least;\nratio: Rust / proved; growth, and the Rust's: time for 2n / time for n"
+        "ms: the proved call, milliseconds; proved, Rust: nanoseconds a byte, best of {TURNS} turns, or of \
+        those that\n{ENOUGH} s hold, but one at least; ratio: Rust / proved"
     );
 }
 
-/// One number for each side.
-struct Both {
-    proved: f64,
-    rust: f64,
-}
-
-impl Both {
-    fn over(&self, other: &Self) -> Self {
-        Self {
-            proved: self.proved / other.proved,
-            rust: self.rust / other.rust,
-        }
-    }
+/// The best times of the two sides.
+pub struct Both {
+    pub proved: f64,
+    pub rust: f64,
 }
 
 /// The best times for a text, once both sides agree on it.
-fn best(name: &str, text: &[u8]) -> Both {
+pub fn best(name: &str, text: &[u8]) -> Both {
     assert!(text.len() <= MEGABYTE, "{name}: {} bytes", text.len());
     let (mut proved, mut rust) = (Turns::new(), Turns::new());
     let characters = std::str::from_utf8(text).expect("long inputs are ASCII");

@@ -6,53 +6,36 @@ use nexus::{Refusal, lookup, read, write_into};
 use oracle::answer::{self, Answer, ENOUGH};
 use oracle::record::unspell;
 
-use crate::{SHAPES, TURNS, Turns, begin, doubled};
+use crate::{SHAPES, TURNS, Turns, begin};
 
 /// A name that no taxon has.
 pub const ABSENT: &[u8] = b"no such taxon";
 
 pub fn print() {
     println!(
-        "{:36} {:>9} {:>9} {:>7}   {:>9} {:>9} {:>9} {:>7}",
-        "records", "bytes", "write", "growth", "first", "last", "absent", "growth"
+        "{:36} {:>9} {:>9} {:>9} {:>9} {:>9}",
+        "records", "bytes", "write", "first", "last", "absent"
     );
-    for shape in SHAPES {
-        let (name, size, text) = shape;
-        let here = text(*size);
-        let Ok(record) = read(&here) else {
+    for (name, size, text) in SHAPES {
+        let Ok(record) = read(&text(*size)) else {
             continue;
         };
         begin(name);
         let bytes = record.as_bytes();
-        let at = Times::best(name, bytes);
-        let [less, more] = doubled(shape);
-        let other = if less.len() == here.len() {
-            &more
-        } else {
-            &less
-        };
-        let other = read(other).expect("the same shape is read");
-        let other_at = Times::best(name, other.as_bytes());
-        let growth = |time: fn(&Times) -> f64| match less.len() == here.len() {
-            true => time(&other_at) / time(&at),
-            false => time(&at) / time(&other_at),
-        };
+        let best = Times::best(name, bytes);
         let a_byte = |seconds: f64| seconds * 1e9 / bytes.len() as f64;
         println!(
-            "{:9} {:9.3} {:7.2}   {:9.3} {:9.3} {:9.3} {:7.2}",
+            "{:9} {:9.3} {:9.3} {:9.3} {:9.3}",
             bytes.len(),
-            a_byte(at.write),
-            growth(|times| times.write),
-            a_byte(at.first),
-            a_byte(at.last),
-            a_byte(at.absent),
-            growth(|times| times.absent),
+            a_byte(best.write),
+            a_byte(best.first),
+            a_byte(best.last),
+            a_byte(best.absent),
         );
     }
     println!(
         "write; first, last, absent: looking up the first taxon's name, the last one's, and one that no \
-        taxon has;\nnanoseconds a byte of the record, best of turns as above; growth: of write and of \
-        absent, time for 2n / time for n"
+        taxon has;\nnanoseconds a byte of the record, best of turns as above"
     );
 }
 
