@@ -1,6 +1,6 @@
 -- The walk over the words of a list, up to a comma or the end of the command. Assumes nothing.
 use Prim.Native.Nat.{ℕ, _+_, _≤_, _<_}
-use Rattle.assumptions.proofs.TypesetWalks.{next-front, word-front, range-front, at-end, at-done, at-refused}
+use Rattle.assumptions.proofs.TypesetWalks.{next-front, at-end, at-done, at-refused}
 use Rattle.assumptions.specs.ListCode.{Follows}
 use Rattle.assumptions.specs.NextWord.{Next}
 use Rattle.assumptions.specs.TypesHeld.{unless·twice, types·held}
@@ -14,6 +14,7 @@ use Rattle.block.specs.declared.Judged.{Judged}
 use Rattle.block.specs.declared.kinds.Item.{Item}
 use Rattle.block.specs.declared.kinds.Range.{Range}
 use Rattle.block.specs.declared.model.CharacterOrdering.{CharacterOrdering}
+use Rattle.lexer.proofs.RangeLaws.{word-kept, range-kept}
 use Rattle.lexer.specs.Base.{pick}
 use Rattle.lexer.specs.Stored.{word·of}
 use Rattle.lexer.specs.Words.{Numbered, punct, word?}
@@ -37,7 +38,7 @@ list-turn-whole count l w h = rw h (then-done (part·turn count l (part w (w .to
 -- What is read does not depend on the numbers behind the front of work memory.
 pub at-front : (n h : ℕ) (text work before : List ℕ) (at : ℕ) → take at work ≡ take at before → (to : ℕ) → to ≤ at → (s : Typing) (i : ℕ) → typeset·at (set·of n h) text work to s i ≡ typeset·at (set·of n h) text before to s i
 unfolding typeset·at
-at-front n h text work before at e to l s i = rw (range-front text work before at e to l i)
+at-front n h text work before at e to l s i = rw (range-kept text work before at e i to l)
 
 -- A list so far stands for one of the definition with some ranges, which lead from here on to what the list comes to from its front.
 pub record Listing (text : List ℕ) (to at count : ℕ) (o : CharacterOrdering) (word from : ℕ) (before work : List ℕ) (m : Item) (twice : Bool) (i : ℕ) : Type 0 where
@@ -58,7 +59,7 @@ module _ (text : List ℕ) (to at count : ℕ) (o : CharacterOrdering) (word fro
     next = next-front text work before at (k .front) to below i j x
 
     same-word : j < to → word·of text work j ≡ word·of text before j
-    same-word h = word-front text work before at (k .front) j (omega arith)
+    same-word h = word-kept text work before at (k .front) j (omega arith)
 
     pub listing-end : to ≤ j → (us : Types) (v : Judged) → judged us v ≡ list·ends (types·held before at count) o word (listed (k .ranges) m) → (h : ℕ) → judged us v ≡ typeset·at (set·of count h) text before to (list (types·held before at count) o word (listed [] Item.Number)) from
     unfolding typeset·end

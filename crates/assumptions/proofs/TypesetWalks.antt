@@ -1,54 +1,35 @@
 -- TYPESET word by word, from a mode on. Assumes nothing.
-use Prim.Native.Nat.{ℕ, zero, suc, _+_, _-_, _≤_, _<_}
+use Prim.Native.Nat.{ℕ, _+_, _≤_, _<_}
 use Rattle.assumptions.specs.NextWord.{Next}
 use Rattle.assumptions.specs.TypesetWalk.{typeset·from, typeset·at, set·of, after·equals}
 use Rattle.block.specs.Commands.{words}
 use Rattle.block.specs.Outcome.{Outcome, done, refused, then, fold, need}
 use Rattle.block.specs.Typeset.{Typing, named, Typeset, name·word, equals·word, typeset·turn, typeset·end}
 use Rattle.block.specs.declared.kinds.Form.{Form}
+use Rattle.lexer.proofs.RangeLaws.{word-kept, range-kept}
 use Rattle.lexer.specs.Base.{pick, given, byte}
-use Rattle.lexer.specs.Stored.{word·of, words·of, range}
+use Rattle.lexer.specs.Stored.{word·of, range}
 use Rattle.lexer.specs.Words.{Numbered, label, punct}
 use Rattle.lexer.specs.declared.refusal.Refusal.{Refusal}
-use lib.ListN.{getD, take}
-use lib.Seq.{getD-take}
+use lib.ListN.{take}
 use mathlib.Core.Bool.{true, false, false≢true, true≢false}
 use mathlib.Core.List.{List, _∷_}
 use mathlib.Core.Option.{Option, none, some}
-use mathlib.Core.Path.{_≡_, refl, sym, ap, _∙_}
+use mathlib.Core.Path.{_≡_, refl, sym, _∙_}
 use native.Mathlib.Omega.{arith}
 
--- Words are named by the front of work memory alone.
-module _ (text work before : List ℕ) (at : ℕ) (front : take at work ≡ take at before) where
-  number-front : (i : ℕ) → i < at → getD work i 0 ≡ getD before i 0
-  number-front i h = sym (getD-take at work i 0 h) ∙ ap (λ (l : List ℕ). getD l i 0) front ∙ getD-take at before i 0 h
+-- The next word is the same where work memory was kept up to a place.
+module _ (text work before : List ℕ) (at : ℕ) (front : take at work ≡ take at before) (to : ℕ) (h : to ≤ at) where
+  same-range : (i : ℕ) → range text work i to ≡ range text before i to
+  same-range i = range-kept text work before at front i to h
 
-  pub word-front : (i : ℕ) → i < at → word·of text work i ≡ word·of text before i
-  unfolding word·of
-  word-front i h = rw (number-front i h)
-
-  words-of-front : (n i : ℕ) → i + n ≤ at → words·of text work i n ≡ words·of text before i n
-  unfolding words·of
-  words-of-front zero i h = refl
-  words-of-front (suc n) i h = rw (word-front i (omega arith), words-of-front n (suc i) (omega arith))
-
-  module _ (to : ℕ) (h : to ≤ at) where
-    pub range-front : (i : ℕ) → range text work i to ≡ range text before i to
-    unfolding range words·of
-    range-front zero = let all : to - 0 ≡ to = omega arith in rw all (words-of-front to 0 (omega arith))
-    range-front (suc i) = words-of-front-or-none (to - suc i) refl
-      where
-        words-of-front-or-none : (n : ℕ) → to - suc i ≡ n → words·of text work (suc i) n ≡ words·of text before (suc i) n
-        words-of-front-or-none zero e = refl
-        words-of-front-or-none (suc n) e = words-of-front (suc n) (suc i) (omega arith)
-
-    pub next-front : (i r : ℕ) → Next text work i to r → Next text before i to r
-    next-front i r n =
-        record {
-          onward = n .onward;
-          here = λ l. rw (range-front i, word-front r (omega arith), range-front (r + 1)) at (n .here l);
-          past = λ l. rw (range-front i) at (n .past l);
-        }
+  pub next-front : (i r : ℕ) → Next text work i to r → Next text before i to r
+  next-front i r n =
+      record {
+        onward = n .onward;
+        here = λ l. rw (same-range i, word-kept text work before at front r (omega arith), same-range (r + 1)) at (n .here l);
+        past = λ l. rw (same-range i) at (n .past l);
+      }
 
 then-then : {A B C : Type 0} (o : Outcome A) (f : A → Outcome B) (g : B → Outcome C) → then (then o f) g ≡ then o (λ a. then (f a) g)
 unfolding then

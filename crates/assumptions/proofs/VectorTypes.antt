@@ -1,7 +1,7 @@
 -- A VECTOR: its words are counted, and each is a type. Assumes nothing.
 use Prim.Native.Nat.{ℕ, zero, suc, _+_, _≤_, _<_}
 use Rattle.assumptions.proofs.TypesHeldLaws.{type-of-number, held-set-next}
-use Rattle.assumptions.proofs.TypesetWalks.{next-front, word-front, at-end, at-done}
+use Rattle.assumptions.proofs.TypesetWalks.{next-front, at-end, at-done}
 use Rattle.assumptions.specs.NextWord.{Next}
 use Rattle.assumptions.specs.TypesHeld.{type·number, types·held}
 use Rattle.assumptions.specs.TypesetWalk.{typeset·from, typeset·at, set·of}
@@ -9,6 +9,7 @@ use Rattle.block.specs.Commands.{words}
 use Rattle.block.specs.Outcome.{done, refused, then, fold}
 use Rattle.block.specs.Typeset.{Types, types, ordering, vector·word, vector·end, typeset·turn, typeset·end}
 use Rattle.block.specs.declared.model.CharacterOrdering.{CharacterOrdering}
+use Rattle.lexer.proofs.RangeLaws.{word-kept}
 use Rattle.lexer.specs.Base.{pick}
 use Rattle.lexer.specs.Stored.{word·of, range}
 use Rattle.lexer.specs.Words.{Numbered}
@@ -68,10 +69,11 @@ module _ (n h : ℕ) where
   vector-empty [] e = refl
   vector-empty (w ∷ ws) e = absurd (omega arith)
 
-held-length : (work : List ℕ) (at n : ℕ) → length (types·held work at n) ≡ n
+-- Each character has a type or none.
+pub types-length : (work : List ℕ) (at n : ℕ) → length (types·held work at n) ≡ n
 unfolding types·held
-held-length work at zero = refl
-held-length work at (suc n) = ap suc (held-length work (suc at) n)
+types-length work at zero = refl
+types-length work at (suc n) = ap suc (types-length work (suc at) n)
 
 -- So many words are types, and stored.
 pub record Vectoring (text : List ℕ) (head from to at n : ℕ) (before work : List ℕ) (i k : ℕ) : Type 0 where
@@ -93,7 +95,7 @@ module _ (text : List ℕ) (head from to at n : ℕ) (before : List ℕ) where
     vectoring-room h = let more : length (words (range text before i to)) ≡ suc (length (words (range text before (j + 1) to))) = ap length (next .here h) in omega (arith, v .count)
 
     word : j < to → word·of text work j ≡ word·of text before j
-    word h = word-front text work before at (v .front) j (omega arith)
+    word h = word-kept text work before at (v .front) j (omega arith)
 
     pub vectoring-turn : (o : CharacterOrdering) → j < to → at + n ≤ length before → ordering (word·of text work j) ≡ some o → Vectoring text head from to at n before (set work (at + k) (type·number o)) (j + 1) (k + 1)
     unfolding typeset·turn vector·word
@@ -115,7 +117,7 @@ module _ (text : List ℕ) (head from to at n : ℕ) (before : List ℕ) where
         let more : length (words (range text before i to)) ≡ suc (length (words (range text before (j + 1) to))) = ap length (next .here h) in
         let here : ordering (word·of text before j) ≡ none = rw (word h) at e in
         let held = types·held work at k in
-        let size : length (held ++ (none ∷ [])) + length (words (range text before (j + 1) to)) ≡ n = omega (arith, v .count, length-more held none, held-length work at k) in
+        let size : length (held ++ (none ∷ [])) + length (words (range text before (j + 1) to)) ≡ n = omega (arith, v .count, length-more held none, types-length work at k) in
         sym (vector-bad n head (held ++ (none ∷ [])) j (words (range text before (j + 1) to)) size l)
         ∙ at-done (set·of n head) text before to (types held none) next (types (held ++ (none ∷ [])) (some j)) h (rw here)
         ∙ v .rest
@@ -125,4 +127,4 @@ module _ (text : List ℕ) (head from to at n : ℕ) (before : List ℕ) where
     vectoring-end h l =
         let over : length (words (range text before i to)) ≡ 0 = ap length (next .past h) in
         let all : k ≡ n = omega (arith, v .count) in
-        sym (vector-end-good n head (types·held work at n) (held-length work at n) l) ∙ rw all at (at-end (set·of n head) text before to (types (types·held work at k) none) next h ∙ v .rest)
+        sym (vector-end-good n head (types·held work at n) (types-length work at n) l) ∙ rw all at (at-end (set·of n head) text before to (types (types·held work at k) none) next h ∙ v .rest)

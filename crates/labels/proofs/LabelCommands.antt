@@ -4,11 +4,11 @@ use Rattle.block.specs.Commands.{words}
 use Rattle.block.specs.Labels.{Labelled, LabelCommand, unlabelled, char·labels, label·entries, label·command, apply·labels}
 use Rattle.block.specs.Outcome.{done, refused, then, fold}
 use Rattle.block.specs.declared.kinds.Labelling.{Labelling}
-use Rattle.labels.proofs.LabelSlotLaws.{range-front}
 use Rattle.labels.specs.LabelLists.{command·held, commands·held, command·step, listed, Fits}
 use Rattle.labels.specs.LabelSlots.{labels·held}
 use Rattle.labels.specs.declared.labels.LabelCommand as code
 use Rattle.labels.specs.declared.labels.LabelCommands.{LabelCommands}
+use Rattle.lexer.proofs.RangeLaws.{range-front}
 use Rattle.lexer.specs.Stored.{range}
 use Rattle.lexer.specs.declared.refusal.Refusal.{Refusal}
 use lib.ListN.{length, getD, take, drop, replicate, length-take, drop-of-length-le, List·getD-map}

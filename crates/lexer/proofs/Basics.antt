@@ -102,6 +102,17 @@ module _ {X : Type 0} where
   picked-value true x y h = cc
   picked-value false x y h = cc
 
+-- Do two tests agree? Those that do are equal.
+unfoldable pub agree : Bool → Bool → Bool
+agree true b = b
+agree false b = not b
+
+pub agree-true : (a b : Bool) → agree a b ≡ true → a ≡ b
+unfolding agree
+agree-true true b h = sym h
+agree-true false true h = h
+agree-true false false h = refl
+
 -- Below both of two numbers, or not
 module _ (i m n : ℕ) where
   pub both-below : ltb i m && ltb i n ≡ true → (i < m) × (i < n)

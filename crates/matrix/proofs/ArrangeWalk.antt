@@ -10,12 +10,13 @@ use Rattle.block.specs.Reading.{Taxon}
 use Rattle.block.specs.Sequential.{names}
 use Rattle.block.specs.declared.Judged.{Judged}
 use Rattle.lexer.proofs.Basics.{by-test}
+use Rattle.lexer.proofs.RangeLaws.{word-kept, range-kept}
 use Rattle.lexer.specs.Base.{pick, alike}
 use Rattle.lexer.specs.Stored.{word·of, range}
 use Rattle.lexer.specs.declared.refusal.Refusal.{Refusal}
 use Rattle.matrix.proofs.BelowLaws.{below-each, below-further, stored-below}
 use Rattle.matrix.proofs.IndexLaws.{name-same, indexed-kept}
-use Rattle.matrix.proofs.StoredRows.{stored-kept, cleared-front, word-kept, range-kept, names-kept}
+use Rattle.matrix.proofs.StoredRows.{stored-kept, cleared-front, names-kept}
 use Rattle.matrix.specs.Lines.{name·at, names·stored, stored}
 use Rattle.matrix.specs.OrderHeld.{Arranged, place·from, place·of, cells·at, ordered, all·below}
 use Rattle.matrix.specs.RowIndex.{Indexed, Rows·put}

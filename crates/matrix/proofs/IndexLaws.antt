@@ -2,10 +2,11 @@
 use Prim.Native.Nat.{ℕ, zero, suc, _+_, _≤_, _<_}
 use Rattle.block.proofs.OutcomeLaws.{all-one}
 use Rattle.lexer.proofs.Basics.{by-test, not-both}
+use Rattle.lexer.proofs.RangeLaws.{word-kept, start-kept}
 use Rattle.lexer.specs.Base.{pick}
 use Rattle.matrix.proofs.BelowLaws.{below-each, each-below, stored-below}
 use Rattle.matrix.proofs.PlaceWalk.{Placing, placing-start, placing-turn, placing-found, placing-end}
-use Rattle.matrix.proofs.StoredRows.{stored-more, stored-kept, word-kept, start-kept}
+use Rattle.matrix.proofs.StoredRows.{stored-more, stored-kept}
 use Rattle.matrix.specs.Lines.{name·at, stored, names·stored}
 use Rattle.matrix.specs.OrderHeld.{all·below, place·of}
 use Rattle.matrix.specs.RowIndex.{row·alike, Indexed, Row·room, Row·put, Rows·behind, Rows·put}

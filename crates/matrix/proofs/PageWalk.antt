@@ -10,6 +10,7 @@ use Rattle.block.specs.Outcome.{Outcome, done, refused, then}
 use Rattle.block.specs.Reading.{Taxon}
 use Rattle.block.specs.Sequential.{Shape, names}
 use Rattle.lexer.proofs.Basics.{by-test, chosen, and-left, and-true, eqb-sym}
+use Rattle.lexer.proofs.RangeLaws.{word-kept, range-kept}
 use Rattle.lexer.proofs.SmallBytes.{Small}
 use Rattle.lexer.specs.Base.{pick}
 use Rattle.lexer.specs.Stored.{word·of, range}
@@ -21,7 +22,7 @@ use Rattle.matrix.proofs.PageShapes.{grown-room}
 use Rattle.matrix.proofs.PageTurns.{Long, Shaped, Comes, turn-comes}
 use Rattle.matrix.proofs.RowNames.{stored-count}
 use Rattle.matrix.proofs.StoredLines.{held-more, named-more, page-kept, pages-kept}
-use Rattle.matrix.proofs.StoredRows.{cleared-front, word-kept, range-kept, names-kept}
+use Rattle.matrix.proofs.StoredRows.{cleared-front, names-kept}
 use Rattle.matrix.proofs.WalkedRows.{refused-rows}
 use Rattle.matrix.specs.Lines.{Rows·room, name·at, stored, names·stored}
 use Rattle.matrix.specs.PagesHeld.{Line·begins, Line·ends, Line·room, Pages·read, page·held, pages·held, paged, count·from, line·name, misfit, page·grown, line·grown, page·short, line·shape, lined·of, pages·end}

@@ -4,13 +4,14 @@ use Rattle.block.proofs.OutcomeLaws.{All, all-one}
 use Rattle.block.specs.Codes.{Coded}
 use Rattle.block.specs.Commands.{newline}
 use Rattle.block.specs.Format.{Format}
+use Rattle.lexer.proofs.RangeLaws.{word-kept, range-kept}
 use Rattle.lexer.proofs.SmallBytes.{Small}
 use Rattle.lexer.specs.Stored.{word·of}
 use Rattle.lexer.specs.declared.refusal.Refusal.{Refusal}
 use Rattle.matrix.proofs.BelowLaws.{each-below}
 use Rattle.matrix.proofs.RowBounds.{Named, Bounded, turn-bounded}
 use Rattle.matrix.proofs.RowNames.{stored-count}
-use Rattle.matrix.proofs.StoredRows.{cleared-front, word-kept, range-kept, names-kept, rows-kept}
+use Rattle.matrix.proofs.StoredRows.{cleared-front, names-kept, rows-kept}
 use Rattle.matrix.proofs.WalkedRows.{Walked, walked-start, walked-newline, walked-on, walked-full, walked-refused, walked-end, refused-rows, end-count}
 use Rattle.matrix.specs.Lines.{Rows·room, row·at, stored, names·stored, rows·sequential}
 use Rattle.matrix.specs.RowIndex.{Indexed, Row·room, Row·put}

@@ -1,17 +1,13 @@
--- Stored rows: one more of them, their names; and that they and the words below an index are the same where work memory was kept up to it.
--- Assumes nothing.
-use Prim.Native.Nat.{ℕ, zero, suc, _+_, _-_, _≤_, _<_}
+-- Stored rows: one more of them, their names; and that they are the same where work memory was kept up to an index. Assumes nothing.
+use Prim.Native.Nat.{ℕ, zero, suc, _+_, _≤_, _<_}
 use Rattle.block.proofs.OutcomeLaws.{All}
 use Rattle.block.specs.Format.{Format}
 use Rattle.block.specs.Sequential.{names}
-use Rattle.lexer.proofs.Basics.{by-test}
-use Rattle.lexer.specs.Stored.{word·of, words·of, range}
+use Rattle.lexer.proofs.RangeLaws.{word-kept, range-kept}
 use Rattle.matrix.specs.Lines.{name·at, stored, names·stored, row·at, rows·sequential}
 use Rattle.slots.specs.Filling.{Cleared}
-use borrow.Author.Tests.{ltb-true, ltb-false}
-use lib.Dec.{ltb}
-use lib.ListN.{length, getD, take, drop, set, length-drop}
-use lib.Seq.{getD-take, drop-set-add, take-suc-set, take-take}
+use lib.ListN.{length, take, drop, set, length-drop}
+use lib.Seq.{drop-set-add, take-suc-set, take-take}
 use mathlib.Core.List.{List, [], _∷_, _++_}
 use mathlib.Core.Path.{_≡_, refl, sym, ap, _∙_}
 use native.Mathlib.Numerals.{add-one}
@@ -48,32 +44,14 @@ stored-kept work before at lines rows e h = sym (front-of lines rows at work h) 
 pub cleared-front : (before work : List ℕ) (at base : ℕ) → Cleared before work base → at ≤ base → take at work ≡ take at before
 cleared-front before work at base c h = sym (take-take at base work h) ∙ ap (take at) (c .front) ∙ take-take at base before h
 
+-- Names and rows
 module _ (text work before : List ℕ) (at : ℕ) (kept : take at work ≡ take at before) where
-  pub start-kept : (i : ℕ) → i < at → getD work i 0 ≡ getD before i 0
-  start-kept i h = sym (getD-take at work i 0 h) ∙ ap (λ l. getD l i 0) kept ∙ getD-take at before i 0 h
-
-  pub word-kept : (i : ℕ) → i < at → word·of text work i ≡ word·of text before i
-  unfolding word·of
-  word-kept i h = rw (start-kept i h)
-
-  words-kept : (n i : ℕ) → i + n ≤ at → words·of text work i n ≡ words·of text before i n
-  unfolding words·of
-  words-kept zero i h = refl
-  words-kept (suc n) i h = rw (word-kept i (omega arith), words-kept n (suc i) (omega arith))
-
-  pub range-kept : (i end : ℕ) → end ≤ at → range text work i end ≡ range text before i end
-  unfolding range words·of
-  range-kept i end h =
-      by-test (ltb i end) (λ t. let l = ltb-true i end t in words-kept (end - i) i (omega arith))
-      (λ f. let l = ltb-false i end f in let none : end - i ≡ 0 = omega arith in rw none)
-
-  -- Names and rows
   pub names-kept : (starts : List ℕ) → All (λ s. s < at) starts → names·stored text work starts ≡ names·stored text before starts
   unfolding names·stored name·at
   names-kept [] h = refl
-  names-kept (s ∷ r) h = rw (word-kept s (h .0), names-kept r (h .1))
+  names-kept (s ∷ r) h = rw (word-kept text work before at kept s (h .0), names-kept r (h .1))
 
   pub rows-kept : (f : Format) (n to : ℕ) → to ≤ at → (starts : List ℕ) → All (λ s. s < at) starts → rows·sequential text work f n to starts ≡ rows·sequential text before f n to starts
   unfolding rows·sequential row·at name·at
   rows-kept f n to l [] h = refl
-  rows-kept f n to l (s ∷ r) h = rw (word-kept s (h .0), range-kept (s + 1) to l, rows-kept f n to l r (h .1))
+  rows-kept f n to l (s ∷ r) h = rw (word-kept text work before at kept s (h .0), range-kept text work before at kept (s + 1) to l, rows-kept f n to l r (h .1))
