@@ -14,7 +14,7 @@ use Rattle.block.specs.declared.Judged.{Judged}
 use Rattle.block.specs.declared.kinds.Item.{Item}
 use Rattle.block.specs.declared.kinds.Range.{Range}
 use Rattle.block.specs.declared.model.CharacterOrdering.{CharacterOrdering}
-use Rattle.lexer.proofs.KeptWords.{range-kept, word-kept}
+use Rattle.lexer.proofs.RangeLaws.{word-kept, range-kept}
 use Rattle.lexer.specs.Base.{pick}
 use Rattle.lexer.specs.Stored.{word·of}
 use Rattle.lexer.specs.Words.{Numbered, punct, word?}

@@ -2,15 +2,16 @@
 use Prim.Native.Nat.{ℕ, _+_, _*_, _-_, _≤_, _<_}
 use Rattle.assumptions.specs.ListParts.{Part·end, digits·value}
 use Rattle.block.specs.CharacterList.{to·dash, cut·from}
+use Rattle.lexer.proofs.TextWalks.{bounded, digits-large}
 use Rattle.lexer.proofs.Yielded.{Yields·byte}
 use Rattle.lexer.specs.Base.{pick}
 use Rattle.lexer.specs.Bytes.{left}
 use Rattle.lexer.specs.Words.{Numbered, digits, largest}
 use Rattle.lexer.specs.declared.Cursor.{Cursor}
-use borrow.Author.Tests.{eq-eqb, ne-eqb, le-leb, lt-leb}
+use borrow.Author.Tests.{eq-eqb, ne-eqb, le-leb}
 use lib.Dec.{leb}
 use lib.ListN.{length}
-use mathlib.Core.Bool.{Bool, true, false, _&&_}
+use mathlib.Core.Bool.{true, false, _&&_}
 use mathlib.Core.List.{List, [], _∷_}
 use mathlib.Core.Path.{_≡_, refl, sym, _∙_}
 use native.Mathlib.Omega.{arith}
@@ -25,20 +26,7 @@ module _ (b : ℕ) (l r : List ℕ) (here : l ≡ b ∷ r) where
   unfolding to·dash pick
   to-dash-over h = rw (here, eq-eqb b 45 h)
 
--- The number that digits spell, as far as it has 64 bits.
-abbrev bounded : ℕ → ℕ
-bounded n = pick (leb n largest) n 0
-
--- A number that has more stays so, whatever follows.
-digits-large : (n : ℕ) (r : List ℕ) → 18446744073709551615 < n → bounded (digits n r) ≡ 0
-unfolding digits largest pick
-digits-large n [] h = rw (lt-leb n 18446744073709551615 h)
-digits-large n (b ∷ r) h = go (leb 48 b && leb b 57) (digits-large (n * 10 + (b - 48)) r (omega arith))
-  where
-    go : (t : Bool) → bounded (digits (n * 10 + (b - 48)) r) ≡ 0 → bounded (pick t (digits (n * 10 + (b - 48)) r) 0) ≡ 0
-    go true e = e
-    go false e = refl
-
+-- The number of a part, as far as it has 64 bits.
 pub record Valuing (text : List ℕ) (c d : Cursor) (n : ℕ) : Type 0 where
   pub small : n ≤ 18446744073709551615
   pub rest : bounded (digits n (to·dash (left text d))) ≡ digits·value (left text c)

@@ -6,7 +6,7 @@ use Rattle.block.specs.Commands.{words}
 use Rattle.block.specs.Outcome.{Outcome, done, refused, then, fold, need}
 use Rattle.block.specs.Typeset.{Typing, named, Typeset, name·word, equals·word, typeset·turn, typeset·end}
 use Rattle.block.specs.declared.kinds.Form.{Form}
-use Rattle.lexer.proofs.KeptWords.{range-kept, word-kept}
+use Rattle.lexer.proofs.RangeLaws.{word-kept, range-kept}
 use Rattle.lexer.specs.Base.{pick, given, byte}
 use Rattle.lexer.specs.Stored.{word·of, range}
 use Rattle.lexer.specs.Words.{Numbered, label, punct}
@@ -18,15 +18,18 @@ use mathlib.Core.Option.{Option, none, some}
 use mathlib.Core.Path.{_≡_, refl, sym, _∙_}
 use native.Mathlib.Omega.{arith}
 
--- The next word is the same where work memory was kept in front of an index behind it.
-pub next-front : (text work before : List ℕ) (at : ℕ) → take at work ≡ take at before → (to : ℕ) → to ≤ at → (i r : ℕ) → Next text work i to r → Next text before i to r
-next-front text work before at front to h i r n =
-    let same : (j : ℕ) → range text work j to ≡ range text before j to = λ j. range-kept text work before at front j to h in
-    record {
-      onward = n .onward;
-      here = λ l. rw (same i, word-kept text work before at front r (omega arith), same (r + 1)) at (n .here l);
-      past = λ l. rw (same i) at (n .past l);
-    }
+-- The next word is the same where work memory was kept up to a place.
+module _ (text work before : List ℕ) (at : ℕ) (front : take at work ≡ take at before) (to : ℕ) (h : to ≤ at) where
+  same-range : (i : ℕ) → range text work i to ≡ range text before i to
+  same-range i = range-kept text work before at front i to h
+
+  pub next-front : (i r : ℕ) → Next text work i to r → Next text before i to r
+  next-front i r n =
+      record {
+        onward = n .onward;
+        here = λ l. rw (same-range i, word-kept text work before at front r (omega arith), same-range (r + 1)) at (n .here l);
+        past = λ l. rw (same-range i) at (n .past l);
+      }
 
 then-then : {A B C : Type 0} (o : Outcome A) (f : A → Outcome B) (g : B → Outcome C) → then (then o f) g ≡ then o (λ a. then (f a) g)
 unfolding then

@@ -9,7 +9,7 @@ use Rattle.block.specs.Commands.{words}
 use Rattle.block.specs.Outcome.{done, refused, then, fold}
 use Rattle.block.specs.Typeset.{Types, types, ordering, vector·word, vector·end, typeset·turn, typeset·end}
 use Rattle.block.specs.declared.model.CharacterOrdering.{CharacterOrdering}
-use Rattle.lexer.proofs.KeptWords.{word-kept}
+use Rattle.lexer.proofs.RangeLaws.{word-kept}
 use Rattle.lexer.specs.Base.{pick}
 use Rattle.lexer.specs.Stored.{word·of, range}
 use Rattle.lexer.specs.Words.{Numbered}
@@ -69,10 +69,11 @@ module _ (n h : ℕ) where
   vector-empty [] e = refl
   vector-empty (w ∷ ws) e = absurd (omega arith)
 
-held-length : (work : List ℕ) (at n : ℕ) → length (types·held work at n) ≡ n
+-- Each character has a type or none.
+pub types-length : (work : List ℕ) (at n : ℕ) → length (types·held work at n) ≡ n
 unfolding types·held
-held-length work at zero = refl
-held-length work at (suc n) = ap suc (held-length work (suc at) n)
+types-length work at zero = refl
+types-length work at (suc n) = ap suc (types-length work (suc at) n)
 
 -- So many words are types, and stored.
 pub record Vectoring (text : List ℕ) (head from to at n : ℕ) (before work : List ℕ) (i k : ℕ) : Type 0 where
@@ -116,7 +117,7 @@ module _ (text : List ℕ) (head from to at n : ℕ) (before : List ℕ) where
         let more : length (words (range text before i to)) ≡ suc (length (words (range text before (j + 1) to))) = ap length (next .here h) in
         let here : ordering (word·of text before j) ≡ none = rw (word h) at e in
         let held = types·held work at k in
-        let size : length (held ++ (none ∷ [])) + length (words (range text before (j + 1) to)) ≡ n = omega (arith, v .count, length-more held none, held-length work at k) in
+        let size : length (held ++ (none ∷ [])) + length (words (range text before (j + 1) to)) ≡ n = omega (arith, v .count, length-more held none, types-length work at k) in
         sym (vector-bad n head (held ++ (none ∷ [])) j (words (range text before (j + 1) to)) size l)
         ∙ at-done (set·of n head) text before to (types held none) next (types (held ++ (none ∷ [])) (some j)) h (rw here)
         ∙ v .rest
@@ -126,4 +127,4 @@ module _ (text : List ℕ) (head from to at n : ℕ) (before : List ℕ) where
     vectoring-end h l =
         let over : length (words (range text before i to)) ≡ 0 = ap length (next .past h) in
         let all : k ≡ n = omega (arith, v .count) in
-        sym (vector-end-good n head (types·held work at n) (held-length work at n) l) ∙ rw all at (at-end (set·of n head) text before to (types (types·held work at k) none) next h ∙ v .rest)
+        sym (vector-end-good n head (types·held work at n) (types-length work at n) l) ∙ rw all at (at-end (set·of n head) text before to (types (types·held work at k) none) next h ∙ v .rest)

@@ -1,12 +1,12 @@
-// Character lists of a TYPESET, after assumptions.rs: numbers, `.` for the last, ALL, ranges, and `\` with a stride.
+// Character lists of a TYPESET, after assumptions.rs: word by word, part by part, with each range typed as it is complete.
 
 ghost use Prim.Native.Nat.{ℕ, _+_, _<_, _≤_};
-ghost use Rattle.assumptions.specs.ListCode.{Follows, first·answer, item·answer, list·then};
+ghost use Rattle.assumptions.specs.ListCode.{Follows, list·then};
 ghost use Rattle.assumptions.specs.ListParts.{told};
 ghost use Rattle.assumptions.specs.TypesHeld.{types·held, unless·twice};
 ghost use Rattle.assumptions.specs.TypesetWalk.{set·of, typeset·at};
 ghost use Rattle.block.specs.CharacterList as L;
-ghost use Rattle.block.specs.CharacterList.{first·item, item·turn, list·turn, listed, next·item, part·turn};
+ghost use Rattle.block.specs.CharacterList.{list·turn, listed, part·turn};
 ghost use Rattle.block.specs.Judged.{judged};
 ghost use Rattle.block.specs.Outcome.{Outcome, need, then};
 ghost use Rattle.block.specs.Typeset.{Types, colon, list, list·ends, on·types, type, typed, typed·range};
@@ -20,11 +20,12 @@ ghost use mathlib.Core.Bool.{true};
 ghost use mathlib.Core.List.{List, []};
 ghost use mathlib.Core.Path.{_≡_};
 use super::assumptions::next_word;
-use super::assumptions::type_range;
+use super::items::item_turn;
 use super::parts::NextPart;
 use super::parts::Part;
 use super::parts::whole_part;
 use super::parts::word_part;
+use super::types::type_range;
 use block::CharacterOrdering;
 use block::Further;
 use block::Item;
@@ -60,111 +61,6 @@ pub enum WordAnswer {
 pub enum ListAnswer {
     Next(usize),
     Judged(Judged),
-}
-
-// A list begins, or goes on, with a number or ALL.
-fn first_item(count: u64, part: Part) -> FirstItem
-    ensures { λ r. ⌜ ((p : L.Part) → part ≡ told count p → first·answer r ≡ first·item count p) ⌝ }
-{
-    if part.all {
-        return FirstItem::Item(Item::Single(true, 1, count, part.index));
-    }
-    let first = part.character;
-    if first == 0 {
-        return FirstItem::Refused(Refusal::CharacterList, part.index);
-    }
-    FirstItem::Item(Item::Single(false, first, first, part.index))
-}
-
-// At the front of a list, or behind a stride.
-fn number_turn(count: u64, part: Part) -> ItemAnswer
-    ensures { λ r. ⌜ ((p : L.Part) → part ≡ told count p → item·answer r ≡ item·turn count I.Item.Number p) ⌝ }
-{
-    match first_item(count, part) {
-        FirstItem::Item(m) => ItemAnswer::Further(Further::On(m)),
-        FirstItem::Refused(n, i) => ItemAnswer::Refused(n, i),
-    }
-}
-
-// Behind a range that is complete.
-fn next_item(count: u64, range: Range, part: Part) -> ItemAnswer
-    ensures { λ r. ⌜ ((p : L.Part) → part ≡ told count p → item·answer r ≡ next·item count range p) ⌝ }
-{
-    match first_item(count, part) {
-        FirstItem::Item(m) => ItemAnswer::Further(Further::Past(range, m)),
-        FirstItem::Refused(n, i) => ItemAnswer::Refused(n, i),
-    }
-}
-
-// Behind the last number of a range: a stride, or the next.
-fn pair_turn(count: u64, first: u64, last: u64, index: usize, part: Part) -> ItemAnswer
-    ensures { λ r. ⌜ ((p : L.Part) → part ≡ told count p → item·answer r ≡ item·turn count (I.Item.Pair first last index) p) ⌝ }
-{
-    if part.stride {
-        return ItemAnswer::Further(Further::On(Item::By(first, last, index)));
-    }
-    let whole = Range {
-        first,
-        last,
-        stride: 1,
-    };
-    next_item(count, whole, part)
-}
-
-// Behind a first number or ALL: a dash, which ALL does not take, a stride, or the next.
-fn single_turn(count: u64, all: bool, first: u64, last: u64, index: usize, part: Part) -> ItemAnswer
-    ensures { λ r. ⌜ ((p : L.Part) → part ≡ told count p → item·answer r ≡ item·turn count (I.Item.Single all first last index) p) ⌝ }
-{
-    if part.dash {
-        if all {
-            return ItemAnswer::Refused(Refusal::CharacterList, index);
-        }
-        return ItemAnswer::Further(Further::On(Item::To(first, index)));
-    }
-    pair_turn(count, first, last, index, part)
-}
-
-// Behind a dash: the last number, which is not below the first.
-fn to_turn(first: u64, index: usize, part: Part) -> ItemAnswer
-    ensures { λ r. ⌜ ((count : ℕ) (p : L.Part) → part ≡ told count p → item·answer r ≡ item·turn count (I.Item.To first index) p) ⌝ }
-{
-    let last = part.character;
-    if last == 0 {
-        return ItemAnswer::Refused(Refusal::CharacterList, part.index);
-    }
-    if last < first {
-        return ItemAnswer::Refused(Refusal::CharacterList, index);
-    }
-    ItemAnswer::Further(Further::On(Item::Pair(first, last, index)))
-}
-
-// Behind a `\`: the stride.
-fn by_turn(first: u64, last: u64, index: usize, part: Part) -> ItemAnswer
-    ensures { λ r. ⌜ ((count : ℕ) (p : L.Part) → part ≡ told count p → item·answer r ≡ item·turn count (I.Item.By first last index) p) ⌝ }
-{
-    let stride = part.number;
-    if stride == 0 {
-        return ItemAnswer::Refused(Refusal::CharacterList, part.index);
-    }
-    let range = Range {
-        first,
-        last,
-        stride,
-    };
-    ItemAnswer::Further(Further::Past(range, Item::Number))
-}
-
-// One part more.
-fn item_turn(count: u64, item: Item, part: Part) -> ItemAnswer
-    ensures { λ r. ⌜ ((p : L.Part) → part ≡ told count p → item·answer r ≡ item·turn count item p) ⌝ }
-{
-    match item {
-        Item::Number => number_turn(count, part),
-        Item::Single(all, first, last, index) => single_turn(count, all, first, last, index, part),
-        Item::To(first, index) => to_turn(first, index, part),
-        Item::Pair(first, last, index) => pair_turn(count, first, last, index, part),
-        Item::By(first, last, index) => by_turn(first, last, index, part),
-    }
 }
 
 // Types a range that is complete, unless a character was typed twice before: was one now?

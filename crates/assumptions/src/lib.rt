@@ -2,9 +2,13 @@
 
 pub mod assumptions;
 pub mod characters;
+pub mod heads;
+pub mod items;
 pub mod parts;
+pub mod types;
+pub mod typeset;
 
 pub use assumptions::OptionsAnswer;
 pub use assumptions::TypeWord;
 pub use assumptions::options;
-pub use assumptions::parse_typeset;
+pub use typeset::parse_typeset;

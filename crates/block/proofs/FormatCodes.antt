@@ -1,14 +1,14 @@
 -- The codes of a format's cells are numbers of eight bits: a state is one of the symbols, or one of the four of DNA, and a set is four bits.
 -- Assumes nothing.
-use Prim.Native.Nat.{ℕ, suc, _+_, _%_, _≤_, _<_}
+use Prim.Native.Nat.{ℕ, _+_, _%_, _≤_, _<_}
+use Rattle.block.proofs.FormatCells.{cell-each}
 use Rattle.block.specs.Cell as C
 use Rattle.block.specs.Cells.{bits, bit}
-use Rattle.block.specs.Chunk.{find·symbol, state·of, state·cell, state·or·code, gap·or, cell}
+use Rattle.block.specs.Chunk.{cell}
 use Rattle.block.specs.Codes.{Coded, code·of, bit·of, bits·of}
 use Rattle.block.specs.Dna.{dna·cell, dna·letter}
-use Rattle.block.specs.Format.{Format, equal}
+use Rattle.block.specs.Format.{Format}
 use Rattle.block.specs.Formats.{meant}
-use Rattle.block.specs.declared.data.DataType.{DataType}
 use Rattle.block.specs.declared.formats.Format as Code
 use Rattle.lexer.proofs.Basics.{chosen, all-under, under-at}
 use Rattle.lexer.proofs.TableLaws.{Filled, filled-start, filled-turn}
@@ -17,7 +17,7 @@ use borrow.Author.Tests.{eqb-true}
 use lib.Dec.{eqb}
 use lib.ListN.{length, set, length-take, length-set}
 use mathlib.Core.Bool.{Bool, true}
-use mathlib.Core.List.{List, [], _∷_}
+use mathlib.Core.List.{List}
 use mathlib.Core.Option.{Option, none, some}
 use mathlib.Core.Path.{_≡_, refl, _∙_}
 use native.Mathlib.Omega.{arith}
@@ -30,11 +30,6 @@ Below n (some (C.uncertain s)) = Unit {0}
 Below n (some (C.polymorphic s)) = Unit {0}
 Below n (some C.missing) = Unit {0}
 Below n (some C.gap) = Unit {0}
-
-found-below : (f : Format) (b i n : ℕ) (l : List ℕ) → i + length l ≤ n → Below n (state·cell (find·symbol f b i l))
-unfolding find·symbol state·cell
-found-below f b i n [] h = tt
-found-below f b i n (s ∷ r) h = chosen (λ o. Below n (state·cell o)) (equal f s b) (λ _. omega arith) (λ _. found-below f b (suc i) n r (omega arith))
 
 letter-below : (n b : ℕ) → 4 ≤ n → Below n (dna·letter b)
 unfolding dna·letter
@@ -55,21 +50,10 @@ letter-below n b h =
     (λ _. chosen (Below n) (eqb b 118) (λ _. tt)
     (λ _. chosen (Below n) (eqb b 110) (λ _. tt) (λ _. tt)))))))))))))))
 
-module _ (f : Format) (b n : ℕ) (few : length (f .symbols) ≤ n) (four : 4 ≤ n) where
-  code-below : (t : DataType) → Below n (state·or·code t f b)
-  unfolding state·or·code state·of dna·cell
-  code-below DataType.Standard = found-below f b 0 n (f .symbols) (omega arith)
-  code-below DataType.Dna = letter-below n (lower b) four
-
-  gap-below : (g : Option ℕ) → Below n (gap·or f g b)
-  unfolding gap·or
-  gap-below none = code-below (f .data·type)
-  gap-below (some g) = chosen (Below n) (equal f g b) (λ _. tt) (λ _. code-below (f .data·type))
-
-  -- A cell of a format with few symbols is a state with a small index, or none.
-  pub cell-below : Below n (cell f b)
-  unfolding cell
-  cell-below = chosen (Below n) (equal f (f .missing) b) (λ _. tt) (λ _. gap-below (f .gap))
+-- A cell of a format with few symbols is a state with a small index, or none.
+pub cell-below : (f : Format) (b n : ℕ) → length (f .symbols) ≤ n → 4 ≤ n → Below n (cell f b)
+unfolding dna·cell
+cell-below f b n few four = cell-each f (Below n) tt (λ i h. omega arith) tt tt b (letter-below n (lower b) four)
 
 -- The code's format has at most as many symbols as its array.
 pub symbols-few : (f : Code.Format) (n : ℕ) → length (f .symbols) ≡ n → length (meant f .symbols) ≤ n

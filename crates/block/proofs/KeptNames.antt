@@ -8,7 +8,7 @@ use Rattle.block.specs.NamesHeld.{name·of, names·of}
 use Rattle.block.specs.NamesKept.{Same·name, Slot·alike, Names·kept, Name·put, Names·room, Names·judged}
 use Rattle.block.specs.declared.Judged.{Judged}
 use Rattle.lexer.proofs.Basics.{by-test, not-both, or-left, or-right}
-use Rattle.lexer.proofs.KeptWords.{range-kept, word-kept}
+use Rattle.lexer.proofs.RangeLaws.{range-kept, word-kept}
 use Rattle.lexer.specs.Base.{alike, given}
 use Rattle.lexer.specs.Stored.{word·of, range}
 use Rattle.lexer.specs.Words.{label}

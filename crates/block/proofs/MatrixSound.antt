@@ -130,7 +130,7 @@ module _ (N : List ℕ → Type 0) (count : ℕ) where
       let s = default-states (c .states) (p .0 .states) in
       and-both (le-leb (length (Option·getD (c .states) [])) count (s .few)) (unordered-few r (p .1))
 
-unordered-length : (cs : List Labelled) → length (unordered cs) ≡ length cs
+pub unordered-length : (cs : List Labelled) → length (unordered cs) ≡ length cs
 unfolding unordered
 unordered-length [] = refl
 unordered-length (c ∷ r) = ap suc (unordered-length r)

@@ -6,7 +6,7 @@ use Rattle.block.specs.Names.{known, add·name, name·turn, unique·name
 use Rattle.block.specs.NamesHeld.{name·of, names·of}
 use Rattle.block.specs.Outcome.{done, refused, then, need}
 use Rattle.lexer.proofs.Basics.{by-test}
-use Rattle.lexer.proofs.KeptWords.{range-kept}
+use Rattle.lexer.proofs.RangeLaws.{range-kept}
 use Rattle.lexer.proofs.LabelLaws.{label-some, label-none}
 use Rattle.lexer.specs.Base.{pick, alike, given}
 use Rattle.lexer.specs.Stored.{word·of, range}

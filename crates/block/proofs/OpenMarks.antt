@@ -1,12 +1,12 @@
 -- The mark of what a text leaves open: the last token begins at an open quote's, and an open comment's is the outermost. Assumes nothing.
 use Prim.Native.Nat.{ℕ, zero, suc, _+_, _≤_, _<_}
 use Rattle.block.specs.Faults.{mode·after, Quote·mark, Comment·mark}
-use Rattle.lexer.proofs.Basics.{chosen, not-both, pick-second}
+use Rattle.lexer.proofs.Basics.{not-both, pick-second}
+use Rattle.lexer.proofs.StepLaws.{open-past}
 use Rattle.lexer.specs.Base.{pick}
 use Rattle.lexer.specs.Classes.{symbol, rank, newline?, return?, blank?, single?, double?, open?, close?, other?, part?}
 use Rattle.lexer.specs.Places.{starts·from, first·byte, starts, opens·between, opens, opened·from, opened}
-use Rattle.lexer.specs.Tokens.{Token, after·between, after·word, up, after·comment, next, begins·between, begins, kind·of, token, unclosed, tokens·from, unmarked, tokens, open·kind, left·open}
-use Rattle.lexer.specs.declared.Kind.{Kind}
+use Rattle.lexer.specs.Tokens.{after·between, after·word, up, after·comment, next, begins·between, begins, unclosed, tokens·from, unmarked, tokens, open·kind, left·open}
 use Rattle.lexer.specs.declared.Mode.{Mode}
 use Rattle.lexer.specs.declared.Symbol.{Symbol}
 use Rattle.lexer.specs.declared.refusal.Refusal.{Refusal}
@@ -17,18 +17,6 @@ use mathlib.Core.Logic.{_⊎_, inl, inr, ⊎-elim}
 use mathlib.Core.Option.{some}
 use mathlib.Core.Path.{_≡_, refl, sym, _∙_}
 use native.Mathlib.Omega.{arith}
-
--- A token that begins is none that is left open.
-past-open : (t : Bool) (b : ℕ) (r : List ℕ) (more : List Token) → left·open (pick t (token b r ∷ more) more) ≡ left·open more
-unfolding pick left·open token open·kind kind·of
-past-open false b r more = refl
-past-open true b r more = usual (symbol b r)
-  where
-    same : Kind → Type 0
-    same k = open·kind k (left·open more) ≡ left·open more
-
-    usual : (s : Symbol) → same (kind·of s b)
-    usual s = chosen same (newline? s) (λ e. refl) (λ e. chosen same (single? s) (λ e. refl) (λ e. chosen same (double? s) (λ e. refl) (λ e. chosen same (other? s) (λ e. refl) (λ e. refl))))
 
 -- In quotes, or behind a quote that may be doubled; in a comment.
 abbrev quoting : Mode → Bool
@@ -150,7 +138,7 @@ quote-marks (b ∷ r) m since i h =
     let s = symbol b r in
     ⊎-elim (λ a. quoted-turn (quoting m) (opens m s) (begins m s) i since _ _ (a .1) (a .2) (quote-step m s (a .0)))
     (λ c. inr (later-turn (begins m s) i _ _ (c .0) (c .1)))
-    (quote-marks r (next m s) (pick (opens m s) i since) (suc i) (sym (past-open (begins m s) b r (tokens·from (next m s) r)) ∙ h))
+    (quote-marks r (next m s) (pick (opens m s) i since) (suc i) (sym (open-past (begins m s) b r (tokens·from (next m s) r)) ∙ h))
 
 -- A rest that leaves a comment open: it is open from the front on; or from its mark on, before which nothing is open.
 record Inner (m : Mode) (r : List ℕ) (i o : ℕ) : Type 0 where
@@ -200,7 +188,7 @@ unfolding tokens·from opened·from mode·after
 comment-marks [] m since i h = inl (λ k l. comment-commenting m h, refl)
 comment-marks (b ∷ r) m since i h =
     let s = symbol b r in
-    commented-turn b r m since i _ (comment-marks r (next m s) (pick (opens m s) i since) (suc i) (sym (past-open (begins m s) b r (tokens·from (next m s) r)) ∙ h))
+    commented-turn b r m since i _ (comment-marks r (next m s) (pick (opens m s) i since) (suc i) (sym (open-past (begins m s) b r (tokens·from (next m s) r)) ∙ h))
 
 module _ (text : List ℕ) where
   pub quote-mark : left·open (tokens text) ≡ some Refusal.OpenQuote → Quote·mark text (opened text)

@@ -8,7 +8,7 @@ use Rattle.demands.specs.declared.Compared.{Compared}
 use Rattle.lexer.specs.Refusals.{number}
 use Rattle.lexer.specs.declared.Place.{Place}
 use Rattle.lexer.specs.declared.refusal.Refusal.{Refusal}
-use Rattle.record.proofs.CallLaws.{length-refused}
+use Rattle.record.proofs.CallLaws.{length-refused, same-length}
 use Rattle.record.proofs.Demands.{forms-tell-texts-apart}
 use Rattle.record.specs.Demands.{Left}
 use Rattle.record.specs.Form.{form}
@@ -36,10 +36,6 @@ same-compared {m} {n} {p} {q} e =
 -- A refusal is one that a case says.
 refused-with : {m : Refusal} {p q : Place} {n : ℕ} {a : Answer} → a ≡ Answer.Refused m p → (why : Refusal) × (number why ≡ n) × (a ≡ Answer.Refused why q) → Refused·with n q (Compared.Refused m p)
 refused-with e x = record { why = x .0; numbered = x .1; answer = same-compared (sym e ∙ x .2) }
-
--- One length is another where the answers are equal.
-same-size : {m n : ℕ} → Answer.Length m ≡ Answer.Length n → m ≡ n
-same-size e = cc
 
 module _ (t u work mid kept kept·mid first first·after second : List ℕ) (a : Answer) (f : Formed t work mid kept kept·mid first first·after a) where
   decided : Form·case t (length work) (length kept) (length first) × Form·case u (length work) (length kept) (length second)
@@ -96,8 +92,8 @@ module _ (t u work mid kept kept·mid first first·after second : List ℕ) (a :
           let o = second-left s k in
           let one : Answer.Length (length (form r)) ≡ Answer.Length n = sym (l .counted) ∙ e in
           let two : Answer.Length (length (form s)) ≡ Answer.Length m = sym (o .counted) ∙ x in
-          let front : take n first·after ≡ form r = ap (λ i. take i first·after) (sym (same-size one)) ∙ l .result in
-          let back : take m second·after ≡ form s = ap (λ i. take i second·after) (sym (same-size two)) ∙ o .result in
+          let front : take n first·after ≡ form r = ap (λ i. take i first·after) (sym (same-length one)) ∙ l .result in
+          let back : take m second·after ≡ form s = ap (λ i. take i second·after) (sym (same-length two)) ∙ o .result in
           record {
             first·form = left-whole (form r) first first·after a l;
             second·form = left-whole (form s) second second·after b o;

@@ -1,41 +1,29 @@
 -- How many digits a number has; and its digits, stored from the last one on into a buffer where they all have room. Assumes nothing.
 use Prim.Native.Nat.{ℕ, zero, suc, _+_, _*_, _-_, _/_, _%_, _^_, _≤_, _<_}
-use Rattle.emit.proofs.DecimalMade.{from-next, from-small}
-use Rattle.emit.proofs.PutLaws.{puts-run, puts-whole}
+use Rattle.emit.proofs.DecimalMade.{decimal-last, decimal-one, from-next, from-small}
+use Rattle.emit.proofs.PutLaws.{puts-run, puts-whole, set-sets}
 use Rattle.emit.specs.Puts.{Puts}
 use Rattle.lexer.proofs.Basics.{by-test}
-use Rattle.lexer.specs.Base.{pick}
 use Rattle.record.specs.Decimal.{digit, decimal·from, decimal}
 use borrow.Author.Tests.{ltb-false, ltb-true}
 use lib.Dec.{ltb}
-use lib.ListN.{length, take, drop, set}
-use lib.Seq.{length-sets, set-comm, sets, take-append-seam}
+use lib.ListN.{length, take, drop, set, length-append}
+use lib.Seq.{length-sets, sets, take-append-seam}
 use mathlib.Core.List.{List, [], _∷_, _++_, append-nil}
 use mathlib.Core.Path.{_≡_, refl, sym, ap, _∙_}
 use native.Mathlib.Nat.{one-le-pow, pow-suc}
 use native.Mathlib.Omega.{arith}
 
--- Digits in front of others are as many as with none behind them.
-from-length : (k n : ℕ) (behind : List ℕ) → length (decimal·from k n behind) ≡ length (decimal·from k n []) + length behind
-unfolding decimal·from pick
-from-length zero n behind = omega arith
-from-length (suc k) n behind =
-    by-test (ltb n 10)
-    (λ t. rw t (omega arith))
-    (λ f. rw f (omega (arith, from-length k (n / 10) (digit n ∷ behind), from-length k (n / 10) (digit n ∷ []))))
-
 -- A number of one digit; and one of more has one digit more than its tenth.
 digits-one : (n : ℕ) → n < 10 → length (decimal n) ≡ 1
-unfolding decimal
-digits-one n h = ap length (from-small n n [] h)
+digits-one n h = ap length (decimal-one n h)
 
-pub decimal-one : (n : ℕ) (behind : List ℕ) → n < 10 → digit n ∷ behind ≡ decimal n ++ behind
+pub one-digit : (n : ℕ) (behind : List ℕ) → n < 10 → digit n ∷ behind ≡ decimal n ++ behind
 unfolding decimal
-decimal-one n behind h = rw (from-small n n [] h)
+one-digit n behind h = rw (from-small n n [] h)
 
 digits-next : (n : ℕ) → 10 ≤ n → length (decimal n) ≡ length (decimal (n / 10)) + 1
-unfolding decimal
-digits-next n h = ap length (from-next n [] h) ∙ from-length (n / 10) (n / 10) (digit n ∷ [])
+digits-next n h = ap length (decimal-last n h) ∙ length-append (decimal (n / 10)) (digit n ∷ [])
 
 -- A number below a power of ten, and one between two.
 tenth-below : (k n : ℕ) → n < 10 ^ (suc k + 1) → n / 10 < 10 ^ (k + 1)
@@ -81,11 +69,6 @@ pair-last n = omega arith
 pub pair-first : (n : ℕ) → digit (n % 100 / 10) ≡ digit (n / 10)
 unfolding digit
 pair-first n = omega arith
-
--- A store in front of a run of stores is one more of the run.
-set-sets : (l : List ℕ) (i j v : ℕ) (vs : List ℕ) → i < j → set (sets l j vs) i v ≡ sets (set l i v) j vs
-set-sets l i j v [] h = refl
-set-sets l i j v (w ∷ vs) h = set-sets (set l j w) i (suc j) v vs (omega arith) ∙ ap (λ m. sets m (suc j) vs) (set-comm l j i w v (λ e. omega arith))
 
 -- Digits are stored from a place on; those of the rest of the number, which are to stand in front of them, begin at the place where the number begins.
 pub record Storing (before : List ℕ) (n value : ℕ) (buffer : List ℕ) (rest at : ℕ) : Type 0 where

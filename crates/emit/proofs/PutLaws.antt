@@ -6,7 +6,7 @@ use Rattle.lexer.proofs.Basics.{by-test}
 use borrow.Author.Tests.{le-leb, leb-false, leb-true, lt-leb}
 use lib.Dec.{leb}
 use lib.ListN.{length, getD, take, drop, set, length-append, length-set}
-use lib.Seq.{append-snoc, set-out, sets, sets-eq, take-all, take-suc}
+use lib.Seq.{append-snoc, set-comm, set-out, sets, sets-eq, take-all, take-suc}
 use mathlib.Core.List.{List, [], _∷_, _++_}
 use mathlib.Core.Path.{_≡_, refl, sym, ap, _∙_}
 use native.Mathlib.Nat.{add-zero, zero-add}
@@ -89,6 +89,11 @@ pub puts-stored : (l : List ℕ) (i : ℕ) {a b : List ℕ} {n : ℕ} → Puts a
 puts-stored l i {b = b} {n} f h =
     let next : n + i + 1 ≡ n + (i + 1) = omega arith in
     rw next at (puts-more l i f h (byte-written b (n + i) (getD l i 0)))
+
+-- A store in front of a run of stores may come before it.
+pub set-sets : (l : List ℕ) (i j v : ℕ) (vs : List ℕ) → i < j → set (sets l j vs) i v ≡ sets (set l i v) j vs
+set-sets l i j v [] h = refl
+set-sets l i j v (w ∷ vs) h = set-sets (set l j w) i (suc j) v vs (omega arith) ∙ ap (λ m. sets m (suc j) vs) (set-comm l j i w v (λ e. omega arith))
 
 -- A list of bytes is put by a run of stores.
 pub puts-run : (buffer : List ℕ) (n : ℕ) (l : List ℕ) → Puts buffer n (λ behind. l ++ behind) (sets buffer n l) (n + length l)

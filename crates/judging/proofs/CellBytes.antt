@@ -3,7 +3,7 @@ use Prim.Native.Nat.{ℕ, _+_, _-_, _/_, _%_, _^_, _≤_, _<_}
 use Rattle.block.specs.Cell.{state, missing, gap}
 use Rattle.block.specs.Sound.{sound·cell}
 use Rattle.judging.proofs.CellsRun.{cell-ends}
-use Rattle.judging.proofs.DecimalEnds.{decimal-one}
+use Rattle.emit.proofs.DecimalMade.{decimal-one}
 use Rattle.judging.specs.CellModes.{ends, run, step}
 use Rattle.judging.specs.declared.cells.Mode.{Mode}
 use Rattle.lexer.proofs.Basics.{all-under, by-test, or-false, under-at}

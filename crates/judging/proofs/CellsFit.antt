@@ -4,7 +4,7 @@ use Rattle.block.proofs.RisingLaws.{rising-cons}
 use Rattle.block.specs.Cell.{Cell, state, uncertain, polymorphic, missing, gap}
 use Rattle.block.specs.Sound.{rising, sound·cell, sound·cells, sound·set}
 use Rattle.judging.proofs.CellModeLaws.{run-wrong, step-blank, step-stuck, step-within}
-use Rattle.judging.proofs.DecimalEnds.{decimal-one, decimal-snoc}
+use Rattle.emit.proofs.DecimalMade.{decimal-one, decimal-snoc}
 use Rattle.judging.specs.CellModes.{begun, digit?, ends, grown, run, step·fresh, step·index, step·opened, within}
 use Rattle.judging.specs.declared.cells.Mode.{Mode}
 use Rattle.lexer.proofs.Basics.{all-four, and-both, and-left, and-right, by-test}

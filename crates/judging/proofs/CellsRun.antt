@@ -4,7 +4,7 @@ use Rattle.block.proofs.RisingLaws.{rising-first, rising-head, rising-rest}
 use Rattle.block.specs.Cell.{Cell, state, uncertain, polymorphic, missing, gap}
 use Rattle.block.specs.Sound.{rising, sound·cell, sound·cells, sound·set}
 use Rattle.judging.proofs.CellModeLaws.{begun-digit, digit-byte, digit-other, grown-digit, run-append, run-then, step-blank, step-within}
-use Rattle.judging.proofs.DecimalEnds.{by-digits, decimal-one, decimal-snoc}
+use Rattle.emit.proofs.DecimalMade.{by-digits, decimal-one, decimal-snoc}
 use Rattle.judging.specs.CellModes.{begun, digit?, ends, run, step, step·fresh, step·index, step·opened, within}
 use Rattle.judging.specs.declared.cells.Mode.{Mode}
 use Rattle.lexer.proofs.Basics.{and-left, and-right}

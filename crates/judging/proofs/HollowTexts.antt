@@ -1,7 +1,7 @@
 -- Texts that are all White_Space with no U+0020 in them, byte by byte. Assumes nothing.
 use Prim.Native.Nat.{ℕ, _<_}
 use Rattle.judging.specs.NameRest.{hollow}
-use Rattle.lexer.proofs.Basics.{chosen, and-false, all-under, under-at}
+use Rattle.lexer.proofs.Basics.{chosen, and-false, all-under, under-at, agree, agree-true}
 use Rattle.lexer.specs.Base.{pick, among, bytes}
 use Rattle.lexer.specs.Classes.{class, marks, symbol, symbol·of, wide·blank, next1, rank, newline?, return?, blank?, part?, space?, blank}
 use Rattle.lexer.specs.declared.Class.{Class}
@@ -9,7 +9,7 @@ use Rattle.lexer.specs.declared.Symbol.{Symbol}
 use lib.Dec.{eqb, ltb, leb}
 use mathlib.Core.Bool.{Bool, true, false, _&&_, _||_, not}
 use mathlib.Core.List.{List, _∷_}
-use mathlib.Core.Path.{_≡_, refl, sym}
+use mathlib.Core.Path.{_≡_, refl}
 
 -- Is a byte one of White_Space other than U+0020, or a later byte of a character, where `wide` says whether White_Space beyond ASCII begins with it?
 abbrev pub hollow·byte : ℕ → Bool → Bool
@@ -41,18 +41,6 @@ class-blank Class.Part b n = go (ltb b 192) (wide·blank b n)
     go true v = refl
     go false true = refl
     go false false = refl
-
--- Do two tests agree?
-agree : Bool → Bool → Bool
-agree true b = b
-agree false b = not b
-
--- Tests that agree are equal.
-agree-true : (a b : Bool) → agree a b ≡ true → a ≡ b
-unfolding agree
-agree-true true b h = sym h
-agree-true false true h = h
-agree-true false false h = refl
 
 -- Of each byte, by computing: it is one of White_Space other than U+0020 just if its class says so and it is not U+0020.
 hollow-class : (b : ℕ) (wide : Bool) → b < 256 → blank·class (class b) b wide && not (eqb 32 b) ≡ hollow·byte b wide

@@ -9,7 +9,6 @@ mod CellsFit
 mod CellsJudged
 mod CellsRun
 mod CharactersTold
-mod DecimalEnds
 mod HollowTexts
 mod KeyLaws
 mod LinesTold

@@ -9,14 +9,14 @@ use Rattle.judging.specs.Judges.{Judges}
 use Rattle.judging.specs.NameRest.{name·rest, unescape}
 use Rattle.judging.specs.declared.Behind.{Behind}
 use Rattle.judging.specs.declared.names.Naming.{Naming}
-use Rattle.lexer.proofs.Basics.{by-test, chosen, not-both, or-left, or-right}
-use Rattle.lexer.proofs.ListLaws.{drop-next}
+use Rattle.lexer.proofs.Basics.{chosen, not-both, or-left, or-right}
+use Rattle.lexer.proofs.ListLaws.{drop-next, some-within}
 use Rattle.lexer.specs.Base.{pick, empty?}
 use Rattle.lexer.specs.Classes.{wide·blank}
 use Rattle.record.specs.Spell.{escaped}
-use borrow.Author.Tests.{ltb-true, ltb-false, leb-false, eqb-false, ne-eqb}
-use lib.Dec.{ltb, leb, eqb}
-use lib.ListN.{length, getD, drop, drop-of-length-le, List·getD-eq-default}
+use borrow.Author.Tests.{leb-false, eqb-false, ne-eqb}
+use lib.Dec.{leb, eqb}
+use lib.ListN.{length, getD, drop, drop-of-length-le}
 use lib.Seq.{getD-drop}
 use mathlib.Core.Bool.{Bool, true, false, _||_}
 use mathlib.Core.List.{List, [], _∷_, _++_}
@@ -28,11 +28,7 @@ use native.Mathlib.Omega.{arith}
 abbrev byte : List ℕ → ℕ → ℕ
 byte b i = getD b i 0
 
--- A number other than 0 stands within the list.
-some-within : (l : List ℕ) (i : ℕ) → (getD l i 0 ≡ 0 → ⊥) → i < length l
-some-within l i some = by-test (ltb i (length l)) (ltb-true i (length l)) (λ f. absurd (some (List·getD-eq-default l 0 (ltb-false i (length l) f))))
-
--- So does an LF.
+-- An LF stands within the list.
 pub lf-within : (l : List ℕ) (i : ℕ) → getD l i 0 ≡ 10 → i < length l
 lf-within l i lf = some-within l i (λ e. omega arith)
 

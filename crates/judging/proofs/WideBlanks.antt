@@ -1,6 +1,6 @@
 -- Whether a character of White_Space beyond ASCII begins with a byte: of the bytes behind it at most two matter, and of these only those from 128 on,
 -- so that the escapes behind it do not matter. Assumes nothing.
-use Prim.Native.Nat.{ℕ, _+_, _≤_, _<_}
+use Prim.Native.Nat.{ℕ, _≤_, _<_}
 use Rattle.judging.proofs.EscapedLines.{ended, escaped-cases, unescape-ascii}
 use Rattle.judging.specs.NameRest.{unescape}
 use Rattle.lexer.proofs.Basics.{and-false}
@@ -8,12 +8,9 @@ use Rattle.lexer.specs.Classes.{wide·blank, next1, next2, general·blank, gene
 use Rattle.record.specs.Spell.{escaped}
 use borrow.Author.Tests.{lt-leb, ne-eqb}
 use lib.Dec.{eqb, lit<}
-use lib.ListN.{getD, drop}
-use lib.Seq.{getD-drop}
 use mathlib.Core.Bool.{false}
 use mathlib.Core.List.{List, [], _∷_, _++_}
-use mathlib.Core.Path.{_≡_, refl, sym, ap, _∙_}
-use native.Mathlib.Nat.{add-zero}
+use mathlib.Core.Path.{_≡_, refl, sym, _∙_}
 use native.Mathlib.Omega.{arith}
 
 -- Below 194 no such character begins.
@@ -36,20 +33,6 @@ module _ (k : ℕ) (low : k < 128) where
   unfolding wide·blank next1 next2 general·blank general
   wide-second b x n =
       rw (lt-leb 128 k low, far 128 (omega arith), far 168 (omega arith), far 169 (omega arith), far 175 (omega arith), far 159 (omega arith), and-false (eqb x 154), and-false (eqb x 128), and-false (eqb x 129))
-
-wide-two : (b : ℕ) (n : List ℕ) → wide·blank b (getD n 0 0 ∷ getD n 1 0 ∷ []) ≡ wide·blank b n
-unfolding wide·blank next1 next2 general·blank
-wide-two b [] = wide-first 0 (lit< tt) b (0 ∷ [])
-wide-two b (x ∷ []) = wide-second 0 (lit< tt) b x []
-wide-two b (x ∷ y ∷ n) = refl
-
--- The two bytes behind a place tell it for all bytes behind it.
-pub wide-behind : (b i x y : ℕ) (l : List ℕ) → x ≡ getD l (i + 1) 0 → y ≡ getD l (i + 2) 0 → wide·blank b (x ∷ y ∷ []) ≡ wide·blank b (drop (i + 1) l)
-wide-behind b i x y l p q =
-    let first : getD (drop (i + 1) l) 0 0 ≡ x = getD-drop (i + 1) l 0 0 ∙ ap (λ k. getD l k 0) (add-zero (i + 1)) ∙ sym p in
-    let next : i + 1 + 1 ≡ i + 2 = omega arith in
-    let second : getD (drop (i + 1) l) 1 0 ≡ y = getD-drop (i + 1) l 1 0 ∙ ap (λ k. getD l k 0) next ∙ sym q in
-    rw (← first, ← second) (wide-two b (drop (i + 1) l))
 
 -- A text tells it as its line does.
 pub wide-ended : (b : ℕ) (n rest : List ℕ) → wide·blank b (ended n ++ rest) ≡ wide·blank b n

@@ -5,13 +5,13 @@ ghost use Rattle.judging.specs.Parts.{Character·told, Characters·told,
 use super::Behind;
 use super::heads::two_words;
 use super::keys::key_at;
-use super::names::byte_at;
 use super::names::keyed_name;
 use super::names::label_line;
 use super::numbers::Number;
 use super::numbers::decimal_at;
 use super::numbers::keyed_number;
 use block::CharacterNumber;
+use lexer::byte_or_zero;
 
 // A line ends at a place, and something is so of it or is not; or there is none.
 pub enum Flag {
@@ -44,7 +44,7 @@ fn keyed_label(source: &[u8], i: usize) -> Flag
 {
     match key_at(source, i, b"label=") {
         Behind::At(j) => match label_line(source, j) {
-            Behind::At(k) => Flag::At(k, byte_at(source, j) != 10),
+            Behind::At(k) => Flag::At(k, byte_or_zero(source, j) != 10),
             Behind::Wrong => Flag::Wrong,
         },
         Behind::Wrong => Flag::Wrong,

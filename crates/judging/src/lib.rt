@@ -21,7 +21,6 @@ pub use heads::Head;
 pub use heads::Headed;
 pub use heads::head_lines;
 pub use keys::key_at;
-pub use names::byte_at;
 pub use names::label_line;
 pub use names::name_line;
 pub use numbers::Number;

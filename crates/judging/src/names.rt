@@ -16,6 +16,8 @@ ghost use mathlib.Core.List.{List, [], _∷_, _++_};
 ghost use mathlib.Core.Path.{_≡_};
 use super::Behind;
 use super::keys::key_at;
+use lexer::byte_or_zero;
+use lexer::wide_blank;
 
 // What is open behind some bytes of a name: so many bytes of a character, the next of them from low to high; and whether all so far is White_Space
 // with no U+0020 in it.
@@ -24,16 +26,6 @@ pub struct Naming {
     pub low: u8,
     pub high: u8,
     pub blank: bool,
-}
-
-// The byte at i, or 0 behind the end.
-pub fn byte_at(source: &[u8], i: usize) -> u8
-    ensures { λ r. ⌜ r ≡ getD (now (source .entry)) i 0 ⌝ }
-{
-    if i < source.len() {
-        return source[i];
-    }
-    0
 }
 
 // The first number if the test holds, else the second.
@@ -113,13 +105,7 @@ fn wide_at(source: &[u8], i: usize) -> bool
     if b < 194 {
         return false;
     }
-    let x = byte_at(source, i + 1);
-    let y = byte_at(source, i + 2);
-    let latin = (b == 194) & ((x == 133) | (x == 160));
-    let ogham = (b == 225) & ((x == 154) & (y == 128));
-    let wide = ((128 <= y) & (y <= 138)) | (y == 168) | (y == 169) | (y == 175);
-    let general = (b == 226) & (((x == 128) & wide) | ((x == 129) & (y == 159)));
-    latin | ogham | general | ((b == 227) & ((x == 128) & (y == 128)))
+    wide_blank(source, b, i + 1)
 }
 
 // The byte that a backslash before this byte means, or 0 if it means none.
@@ -186,7 +172,7 @@ pub fn name_line(source: &[u8], i: usize) -> Behind
             return name_end(s, at + 1);
         }
         if b == 92 {
-            let meant = unescape(byte_at(source, at + 1));
+            let meant = unescape(byte_or_zero(source, at + 1));
             if meant == 0 {
                 return Behind::Wrong;
             }
@@ -204,7 +190,7 @@ pub fn name_line(source: &[u8], i: usize) -> Behind
 pub fn label_line(source: &[u8], i: usize) -> Behind
     ensures { λ r. ⌜ Judges (now (source .entry)) i (λ n. sound·label n ≡ true) (λ n. escaped n ++ (10 ∷ [])) r ⌝ }
 {
-    if byte_at(source, i) == 10 {
+    if byte_or_zero(source, i) == 10 {
         return Behind::At(i + 1);
     }
     name_line(source, i)

@@ -8,10 +8,10 @@ ghost use mathlib.Core.List.{[]};
 ghost use mathlib.Core.Path.{_≡_};
 use super::Behind;
 use super::keys::key_at;
-use super::names::byte_at;
 use super::numbers::Number;
 use block::DataType;
 use block::format_options::valid_symbol;
+use lexer::byte_or_zero;
 
 // Does a byte stand from one place up to another?
 fn stands_among(source: &[u8], from: usize, to: usize, b: u8) -> bool
@@ -51,7 +51,7 @@ fn standard_symbols(source: &[u8], i: usize) -> Number
     ensures { λ r. ⌜ Standard·told (now (source .entry)) i r ⌝ }
 {
     let end = symbol_run(source, i);
-    if byte_at(source, end) != 10 {
+    if byte_or_zero(source, end) != 10 {
         return Number::Wrong;
     }
     let count = end - i;

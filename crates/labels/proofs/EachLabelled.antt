@@ -4,10 +4,11 @@ use Rattle.block.proofs.WalkLaws.{words-newline, words-next, words-end}
 use Rattle.block.specs.Commands.{newline, words}
 use Rattle.block.specs.Labels.{Labelled, unlabelled, character, with·label, label·each, char·labels}
 use Rattle.block.specs.Outcome.{Outcome, done, refused, then, need}
-use Rattle.labels.proofs.LabelSlotLaws.{held-length, word-front, range-front}
+use Rattle.labels.proofs.LabelSlotLaws.{held-length}
 use Rattle.labels.specs.LabelSlots.{label·one, labels·held}
 use Rattle.lexer.proofs.Basics.{by-test}
 use Rattle.lexer.proofs.LabelLaws.{label-some, label-none}
+use Rattle.lexer.proofs.RangeLaws.{word-front, range-front}
 use Rattle.lexer.specs.Base.{pick, given}
 use Rattle.lexer.specs.Stored.{word·of, range}
 use Rattle.lexer.specs.Words.{Numbered, label, spaced}

@@ -6,11 +6,11 @@ use Rattle.block.specs.Commands.{newline, words}
 use Rattle.block.specs.Labels.{LabelCommand, first, Entries, at, entry·turn}
 use Rattle.block.specs.Outcome.{Outcome, done, refused, fold}
 use Rattle.labels.proofs.EachLabelled.{word-kept}
-use Rattle.labels.proofs.LabelSlotLaws.{range-front}
 use Rattle.labels.specs.LabelEntries.{entry·of, placed}
 use Rattle.labels.specs.LabelSlots.{labels·held}
 use Rattle.labels.specs.declared.entries.Entry as code
 use Rattle.lexer.proofs.Basics.{by-test}
+use Rattle.lexer.proofs.RangeLaws.{range-front}
 use Rattle.lexer.specs.Stored.{word·of, range}
 use Rattle.lexer.specs.Words.{Numbered}
 use Rattle.lexer.specs.declared.refusal.Refusal.{Refusal}

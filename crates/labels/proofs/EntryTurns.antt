@@ -6,11 +6,12 @@ use Rattle.block.specs.Labels.{Labelled, LabelCommand, next, numbered, labelled
 use Rattle.block.specs.NamesHeld.{name·of, names·of}
 use Rattle.block.specs.Outcome.{done, refused, then, need}
 use Rattle.block.specs.declared.kinds.Labelling.{Labelling}
-use Rattle.labels.proofs.LabelSlotLaws.{character-states, stored-states, word-front, range-front}
+use Rattle.labels.proofs.LabelSlotLaws.{character-states, stored-states}
 use Rattle.labels.specs.LabelEntries.{command·of}
 use Rattle.labels.specs.LabelSlots.{labels·held, label·one}
 use Rattle.lexer.proofs.Basics.{by-test, and-left}
 use Rattle.lexer.proofs.LabelLaws.{label-some, label-none, label-given}
+use Rattle.lexer.proofs.RangeLaws.{word-front, range-front}
 use Rattle.lexer.specs.Base.{pick, given, byte}
 use Rattle.lexer.specs.Classes.{blank}
 use Rattle.lexer.specs.Stored.{word·of, range}

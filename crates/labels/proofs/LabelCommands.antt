@@ -4,19 +4,15 @@ use Rattle.block.specs.Commands.{words}
 use Rattle.block.specs.Labels.{Labelled, LabelCommand, unlabelled, char·labels, label·entries, label·command, apply·labels}
 use Rattle.block.specs.Outcome.{done, refused, then, fold}
 use Rattle.block.specs.declared.kinds.Labelling.{Labelling}
-use Rattle.labels.proofs.LabelSlotLaws.{range-front}
 use Rattle.labels.specs.LabelLists.{command·held, commands·held, command·step, listed, Fits}
 use Rattle.labels.specs.LabelSlots.{labels·held}
 use Rattle.labels.specs.declared.labels.LabelCommand as code
 use Rattle.labels.specs.declared.labels.LabelCommands.{LabelCommands}
-use Rattle.lexer.proofs.Basics.{by-test, and-left, and-right}
+use Rattle.lexer.proofs.RangeLaws.{range-front}
 use Rattle.lexer.specs.Stored.{range}
 use Rattle.lexer.specs.declared.refusal.Refusal.{Refusal}
-use borrow.Author.Tests.{ltb-true, ltb-false}
-use lib.Dec.{ltb}
 use lib.ListN.{length, getD, take, drop, replicate, length-take, drop-of-length-le, List·getD-map}
 use lib.Seq.{drop-cons, getD-take}
-use mathlib.Core.Bool.{true, false, _&&_}
 use mathlib.Core.List.{List, [], _∷_, map}
 use mathlib.Core.Path.{_≡_, refl, sym, ap, _∙_}
 use native.Mathlib.Numerals.{add-one}
@@ -114,11 +110,3 @@ module _ (text work after : List ℕ) (at : ℕ) (front : take at after ≡ take
       → fold (command·step symbols) (labels·held text after at n) (commands·held text after ls) ≡ apply·labels symbols n (commands·held text work ls)
   unfolding apply·labels
   applied-clear ls p q r symbols n clear = rw (clear, commands-kept ls p q r)
-
--- Below both of two numbers, or not
-module _ (i m n : ℕ) where
-  pub both-below : ltb i m && ltb i n ≡ true → (i < m) × (i < n)
-  both-below h = (ltb-true i m (and-left (ltb i m) (ltb i n) h), ltb-true i n (and-right (ltb i m) (ltb i n) h))
-
-  pub not-below : ltb i m && ltb i n ≡ false → min m n ≤ i
-  not-below h = by-test (ltb i m) (λ e. let l = ltb-false i n (rw e at h) in omega arith) (λ e. let l = ltb-false i m e in omega arith)

@@ -6,15 +6,15 @@ use Rattle.block.specs.Labels.{Labelled, unlabelled, character, with·label, wi
 use Rattle.block.specs.NamesHeld.{name·of, names·of}
 use Rattle.labels.specs.LabelSlots.{label·slot, states·slot, slots, labels·of, labels·held}
 use Rattle.lexer.proofs.Basics.{by-test}
+use Rattle.lexer.proofs.RangeLaws.{word-front, range-front}
 use Rattle.lexer.specs.Base.{given}
-use Rattle.lexer.specs.Stored.{word·of, words·of, range}
-use borrow.Author.Tests.{ne-eqb, eqb-true, eqb-false, leb-true, leb-false}
-use lib.Dec.{eqb, leb}
+use Rattle.lexer.specs.Stored.{word·of, range}
+use borrow.Author.Tests.{ne-eqb, eqb-true, eqb-false}
+use lib.Dec.{eqb}
 use lib.ListN.{length, getD, take, set, replicate, length-set, length-map, length-replicate, getD-replicate}
-use lib.Seq.{getD-set-same, getD-set-other, getD-take, take-set-le, take-at, length-take-le, ext-getD}
+use lib.Seq.{getD-set-same, getD-set-other, take-set-le, take-at, length-take-le, ext-getD}
 use mathlib.Core.Bool.{not}
 use mathlib.Core.List.{List, _∷_, _++_, map, map-append}
-use mathlib.Core.Option.{none}
 use mathlib.Core.Path.{_≡_, refl, sym, ap, _∙_}
 use native.Mathlib.Nat.{add-zero}
 use native.Mathlib.Numerals.{add-one}
@@ -117,24 +117,6 @@ module _ (text work : List ℕ) (at n : ℕ) (fits : at + 2 * n ≤ length work)
       held-changed (set work (at + n + (k - 1)) v) _ (take-set-le at work (at + n + (k - 1)) v (omega arith))
       (rw (getD-set-same work (at + n + (k - 1)) v 0 (omega arith), getD-set-other work (at + n + (k - 1)) (at + (k - 1)) v 0 (λ e. omega arith), character-held text work at n k from to) refl)
       (λ j h o. (getD-set-other work (at + n + (k - 1)) (at + j) v 0 (λ e. omega arith), getD-set-other work (at + n + (k - 1)) (at + n + j) v 0 (λ e. o (omega arith))))
-
--- The words in front of a place, by what stands in front of it alone
-module _ (text work : List ℕ) (at : ℕ) where
-  pub word-front : (i : ℕ) → i < at → word·of text (take at work) i ≡ word·of text work i
-  unfolding word·of
-  word-front i h = rw (getD-take at work i 0 h)
-
-  words-front : (n i : ℕ) → i + n ≤ at → words·of text (take at work) i n ≡ words·of text work i n
-  unfolding words·of
-  words-front zero i h = refl
-  words-front (suc n) i h = rw (word-front i (omega arith), words-front n (suc i) (omega arith))
-
-  pub range-front : (from to : ℕ) → to ≤ at → range text (take at work) from to ≡ range text work from to
-  unfolding range words·of
-  range-front from to h =
-      by-test (leb from to)
-      (λ e. let l = leb-true from to e in words-front (to - from) from (omega arith))
-      (λ e. let l = leb-false from to e in let none : to - from ≡ 0 = omega arith in rw none refl)
 
 -- Words up to an index, and those from there on
 module _ (text work : List ℕ) (end : ℕ) where

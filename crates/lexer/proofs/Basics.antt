@@ -1,8 +1,8 @@
 -- Laws of tests, choices and lists of bytes that every crate's proofs rest on. Assumes nothing.
-use Prim.Native.Nat.{ℕ, zero, suc, _<_}
+use Prim.Native.Nat.{ℕ, zero, suc, _≤_, _<_, min}
 use Rattle.lexer.specs.Base.{pick, same, alike, lower, among}
-use borrow.Author.Tests.{eqb-true, eq-eqb, ne-eqb, eqb-false}
-use lib.Dec.{eqb}
+use borrow.Author.Tests.{eqb-true, eq-eqb, ne-eqb, eqb-false, ltb-true, ltb-false}
+use lib.Dec.{eqb, ltb}
 use mathlib.Core.Bool.{Bool, true, false, _&&_, _||_, not, true≢false, false≢true}
 use mathlib.Core.List.{List, [], _∷_, _++_}
 use mathlib.Core.Option.{none, some}
@@ -101,6 +101,25 @@ module _ {X : Type 0} where
   unfolding pick
   picked-value true x y h = cc
   picked-value false x y h = cc
+
+-- Do two tests agree? Those that do are equal.
+unfoldable pub agree : Bool → Bool → Bool
+agree true b = b
+agree false b = not b
+
+pub agree-true : (a b : Bool) → agree a b ≡ true → a ≡ b
+unfolding agree
+agree-true true b h = sym h
+agree-true false true h = h
+agree-true false false h = refl
+
+-- Below both of two numbers, or not
+module _ (i m n : ℕ) where
+  pub both-below : ltb i m && ltb i n ≡ true → (i < m) × (i < n)
+  both-below h = (ltb-true i m (and-left (ltb i m) (ltb i n) h), ltb-true i n (and-right (ltb i m) (ltb i n) h))
+
+  pub not-below : ltb i m && ltb i n ≡ false → min m n ≤ i
+  not-below h = by-test (ltb i m) (λ e. let l = ltb-false i n (rw e at h) in omega arith) (λ e. let l = ltb-false i m e in omega arith)
 
 -- What is chosen has a property where both have it, each under its test.
 module _ {X : Type 0} (P : X → Type 0) where

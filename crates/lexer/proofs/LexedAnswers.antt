@@ -1,16 +1,13 @@
 -- What lexing answers, in each of its cases. Assumes nothing.
-use Prim.Native.Nat.{ℕ, suc, _+_, _*_, _≤_, _<_}
-use Rattle.lexer.proofs.Basics.{by-test, chosen}
-use Rattle.lexer.proofs.MarkLaws.{unmarked-length}
+use Prim.Native.Nat.{ℕ, _+_, _*_, _≤_, _<_}
+use Rattle.lexer.proofs.Basics.{by-test}
 use Rattle.lexer.specs.Base.{pick}
-use Rattle.lexer.specs.Classes.{symbol}
 use Rattle.lexer.specs.Lexing.{longest, work·needed, counted, lexed}
-use Rattle.lexer.specs.Places.{place, nowhere, opens, opened·from, first·byte, opened}
+use Rattle.lexer.specs.Places.{place, nowhere, opened}
 use Rattle.lexer.specs.Stored.{Stored, walk·of, walked}
-use Rattle.lexer.specs.Tokens.{next, tokens, left·open, unmarked}
+use Rattle.lexer.specs.Tokens.{tokens, left·open}
 use Rattle.lexer.specs.Utf8.{utf8}
 use Rattle.lexer.specs.declared.Lexed.{Lexed}
-use Rattle.lexer.specs.declared.Mode.{Mode}
 use Rattle.lexer.specs.declared.Place.{Place}
 use Rattle.lexer.specs.declared.Walk.{Walk}
 use Rattle.lexer.specs.declared.refusal.Refusal.{Refusal}
@@ -18,34 +15,10 @@ use borrow.Author.Tests.{le-leb, lt-leb, leb-true}
 use lib.Dec.{leb}
 use lib.ListN.{length}
 use mathlib.Core.Bool.{true, false}
-use mathlib.Core.List.{List, [], _∷_}
+use mathlib.Core.List.{List}
 use mathlib.Core.Option.{Option, none, some}
 use mathlib.Core.Path.{_≡_, refl, sym, ap, subst, _∙_}
 use native.Mathlib.Omega.{arith}
-
--- The mark of what stays open stands in the text.
-opened-from-within : (r : List ℕ) (m : Mode) (since i : ℕ) → since ≤ i → opened·from m since i r ≤ i + length r
-unfolding opened·from
-opened-from-within [] m since i h = omega arith
-opened-from-within (b ∷ r) m since i h =
-    let s = symbol b r in
-    let p = opened-from-within r (next m s) (pick (opens m s) i since) (suc i) (chosen (λ o. o ≤ suc i) (opens m s) (λ _. omega arith) (λ _. omega arith)) in
-    omega (arith, p)
-
-opened-within : (text : List ℕ) → opened text ≤ length text
-unfolding opened
-opened-within text =
-    let p = opened-from-within (unmarked text) Mode.Between 0 (first·byte text) (omega arith) in
-    omega (arith, p, unmarked-length text)
-
-walk-mark : (text : List ℕ) (o : Option Refusal) (r : Refusal) (mark : ℕ) → Walk.Open r mark ≡ walk·of text o → opened text ≡ mark
-unfolding walk·of
-walk-mark text none r mark e = cc
-walk-mark text (some n) r mark e = cc
-
-pub open-within : (text : List ℕ) (r : Refusal) (mark : ℕ) → Walk.Open r mark ≡ walked text → mark ≤ length text
-unfolding walked
-open-within text r mark e = rw (walk-mark text (left·open (tokens text)) r mark e) at (opened-within text)
 
 -- The answer that a walk over a text comes to: what `counted` says.
 abbrev walk·answer : List ℕ → Walk → Lexed

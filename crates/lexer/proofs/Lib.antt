@@ -1,6 +1,5 @@
 -- What other crates may cite: laws of tests, lists and tables, and of what a text's tokens are.
 pub mod Basics
-pub mod KeptWords
 pub mod KindTags
 pub mod LabelLaws
 pub mod LexedAnswers
@@ -9,9 +8,11 @@ pub mod NextBytes
 pub mod PlainRuns
 pub mod RangeLaws
 pub mod SmallBytes
+pub mod StepLaws
 pub mod StoredLaws
 pub mod TableLaws
 pub mod TextUtf8
+pub mod TextWalks
 pub mod TokenSizes
 pub mod TokensClean
 pub mod WordsTold
@@ -31,14 +32,12 @@ mod PlaceLaws
 mod QuotedBytes
 mod RunsAlike
 mod ScanLaws
-mod StepLaws
 mod StepSymbols
 mod Storing
 mod SymbolLaws
 mod SymbolTags
 mod TextItems
 mod TextReturns
-mod TextWalks
 mod TokenParts
 mod Utf8Checking
 mod WordBlocks

@@ -3,7 +3,7 @@ use Prim.Native.Nat.{ℕ, suc, _+_, _-_, _<_}
 use Rattle.lexer.proofs.Basics.{by-test}
 use borrow.Author.Tests.{ltb-true, ltb-false}
 use lib.Dec.{ltb}
-use lib.ListN.{length, getD, drop, take, drop-of-length-le, length-map, List·getD-map}
+use lib.ListN.{length, getD, drop, take, drop-of-length-le, length-map, List·getD-map, List·getD-eq-default}
 use lib.Seq.{drop-cons, drop-drop}
 use mathlib.Core.List.{List, [], _∷_, map}
 use mathlib.Core.Path.{_≡_, ap, _∙_}
@@ -19,6 +19,10 @@ pub take-next : (l : List ℕ) (i e : ℕ) → i < e → i < length l → take (
 take-next l i e h k =
     let one : e - i ≡ suc (e - (i + 1)) = omega arith in
     rw (one, drop-next l i k)
+
+-- A number other than 0 stands within the list.
+pub some-within : (l : List ℕ) (i : ℕ) → (getD l i 0 ≡ 0 → ⊥) → i < length l
+some-within l i some = by-test (ltb i (length l)) (ltb-true i (length l)) (λ f. absurd (some (List·getD-eq-default l 0 (ltb-false i (length l) f))))
 
 -- What holds of a rest, by whether the text has a byte there.
 pub drop-cases : (P : List ℕ → Type 0) (l : List ℕ) (i : ℕ) → (i < length l → P (getD l i 0 ∷ drop (i + 1) l)) → P [] → P (drop i l)

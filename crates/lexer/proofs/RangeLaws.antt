@@ -1,15 +1,19 @@
 -- The words of a text by what work memory holds, index by index: where it holds the starts of the text's tokens they are the numbered tokens. What
--- a word is taken for does not depend on its index. Assumes nothing.
+-- a word is taken for does not depend on its index, and words in front of a place depend on what stands in front of it alone. Assumes nothing.
 use Prim.Native.Nat.{ℕ, zero, suc, _+_, _-_, _≤_, _<_}
+use Rattle.lexer.proofs.Basics.{by-test}
 use Rattle.lexer.proofs.StoredLaws.{stored-token, stored-count}
 use Rattle.lexer.specs.Lexing.{word·at}
 use Rattle.lexer.specs.Stored.{Stored, word·of, words·of, range}
 use Rattle.lexer.specs.Tokens.{tokens, left·open}
 use Rattle.lexer.specs.Words.{numbered, is, punct, label, number}
-use lib.ListN.{length, drop, getD, drop-of-length-le}
+use borrow.Author.Tests.{ltb-true, ltb-false}
+use lib.Dec.{ltb}
+use lib.ListN.{length, take, drop, getD, drop-of-length-le}
+use lib.Seq.{getD-take, take-take}
 use mathlib.Core.List.{List, [], _∷_}
 use mathlib.Core.Option.{none}
-use mathlib.Core.Path.{_≡_, refl}
+use mathlib.Core.Path.{_≡_, refl, sym, ap, _∙_}
 use native.Mathlib.Numerals.{add-one}
 use native.Mathlib.Omega.{arith}
 
@@ -57,3 +61,34 @@ module _ (text work : List ℕ) where
     pub number-of : number (word·at text (getD work i 0)) ≡ number (word·of text work i)
     unfolding number word·at word·of
     number-of = refl
+
+-- The words in front of a place are the same where work memory was kept up to it.
+module _ (text work before : List ℕ) (at : ℕ) (kept : take at work ≡ take at before) where
+  pub start-kept : (i : ℕ) → i < at → getD work i 0 ≡ getD before i 0
+  start-kept i h = sym (getD-take at work i 0 h) ∙ ap (λ l. getD l i 0) kept ∙ getD-take at before i 0 h
+
+  pub word-kept : (i : ℕ) → i < at → word·of text work i ≡ word·of text before i
+  unfolding word·of
+  word-kept i h = rw (start-kept i h)
+
+  words-kept : (n i : ℕ) → i + n ≤ at → words·of text work i n ≡ words·of text before i n
+  unfolding words·of
+  words-kept zero i h = refl
+  words-kept (suc n) i h = rw (word-kept i (omega arith), words-kept n (suc i) (omega arith))
+
+  pub range-kept : (i end : ℕ) → end ≤ at → range text work i end ≡ range text before i end
+  unfolding range words·of
+  range-kept i end h =
+      by-test (ltb i end) (λ t. let l = ltb-true i end t in words-kept (end - i) i (omega arith))
+      (λ f. let l = ltb-false i end f in let none : end - i ≡ 0 = omega arith in rw none)
+
+-- They are told by what stands in front of it alone.
+module _ (text work : List ℕ) (at : ℕ) where
+  front : take at (take at work) ≡ take at work
+  front = take-take at at work (omega arith)
+
+  pub word-front : (i : ℕ) → i < at → word·of text (take at work) i ≡ word·of text work i
+  word-front = word-kept text (take at work) work at front
+
+  pub range-front : (from to : ℕ) → to ≤ at → range text (take at work) from to ≡ range text work from to
+  range-front = range-kept text (take at work) work at front

@@ -101,7 +101,7 @@ module _ (text : List ℕ) (x y c d : Cursor) (k : Comparing text x y c d) where
   comparing-end n = sym (rw n (alike-none (spaced (left text d)) ∙ empty-spaced (left text d))) ∙ k .rest
 
 -- The number that digits spell, as far as it has 64 bits.
-abbrev bounded : ℕ → ℕ
+abbrev pub bounded : ℕ → ℕ
 bounded n = pick (leb n largest) n 0
 
 pub record Counting (text : List ℕ) (c d : Cursor) (n : ℕ) : Type 0 where
@@ -109,7 +109,7 @@ pub record Counting (text : List ℕ) (c d : Cursor) (n : ℕ) : Type 0 where
   pub rest : bounded (digits n (left text d)) ≡ bounded (digits 0 (left text c))
 
 -- A number that has more stays so, whatever follows.
-digits-large : (n : ℕ) (r : List ℕ) → 18446744073709551615 < n → bounded (digits n r) ≡ 0
+pub digits-large : (n : ℕ) (r : List ℕ) → 18446744073709551615 < n → bounded (digits n r) ≡ 0
 unfolding digits largest pick
 digits-large n [] h = rw (lt-leb n 18446744073709551615 h)
 digits-large n (b ∷ r) h = go (leb 48 b && leb b 57) (digits-large (n * 10 + (b - 48)) r (omega arith))

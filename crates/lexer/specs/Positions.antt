@@ -41,10 +41,8 @@ passed text at line column (Scan.Open mark) = Passed.Open (record { line = line;
 unfoldable pub passed·comment : List ℕ → ℕ → ℕ → ℕ → Passed
 passed·comment text at line column = passed text at line column (comment·end at 0 (at + 1) (drop (at + 1) text))
 
--- What can be reached from a position: a byte at it or behind it, in a text of at most 1,048,576 bytes. The bounds keep lines and columns small.
-pub record Reaches (text : List ℕ) (at line column to : ℕ) : Type 0 where
-  pub onward : at ≤ to
-  pub within : to ≤ length text
+-- A text of at most 1,048,576 bytes, and a line and a column that are no larger: they stay small wherever one goes in the text.
+pub record Bounded (text : List ℕ) (line column : ℕ) : Type 0 where
   pub short : length text ≤ 1048576
   pub few·lines : line ≤ 1048576
   pub few·columns : column ≤ 1048576

@@ -170,7 +170,7 @@ pub fn wide_bytes(b: u8, x: u8, y: u8) -> bool
 }
 
 // Does a character of White_Space beyond ASCII begin with this byte before those from i on?
-fn wide_blank(text: &[u8], b: u8, i: usize) -> bool
+pub fn wide_blank(text: &[u8], b: u8, i: usize) -> bool
     requires { ⌜ i ≤ length (now text) ⌝ }
     ensures { λ r. ⌜ r ≡ wide·blank b (drop i (now (text .entry))) ⌝ }
 {

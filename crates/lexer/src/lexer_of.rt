@@ -3,7 +3,7 @@
 
 ghost use Prim.Native.Nat.{_<_, _≤_};
 ghost use Rattle.lexer.specs.Places.{place};
-ghost use Rattle.lexer.specs.Positions.{ahead, moved·on, moved·to, passed·comment, Reaches, start, lexer·at, place·of};
+ghost use Rattle.lexer.specs.Positions.{ahead, moved·on, moved·to, passed·comment, Bounded, start, lexer·at, place·of};
 ghost use lib.ListN.{length};
 ghost use mathlib.Core.Path.{_≡_};
 use super::Place;
@@ -66,14 +66,14 @@ pub fn moved(text: &[u8], at: usize, line: usize, column: usize) -> Position
     Position { at, line, column }
 }
 
-// On to the byte `to`.
+// On to the byte `to`; the line and the column are those of the end where the text ends before it.
 fn moved_to(text: &[u8], at: usize, line: usize, column: usize, to: usize) -> Position
-    requires { ⌜ Reaches (now text) at line column to ⌝ }
+    requires { ⌜ Bounded (now text) line column ⌝ }
     ensures { λ r. ⌜ r ≡ moved·to (now (text .entry)) at line column to ⌝ }
 {
     let mut p = Place { line, column };
     let mut i = at;
-    while i < to {
+    while (i < to) & (i < text.len()) {
         p = move_on(p, symbol_at(text, i));
         i += 1;
     }
@@ -86,7 +86,7 @@ fn moved_to(text: &[u8], at: usize, line: usize, column: usize, to: usize) -> Po
 
 // Behind the comment whose mark is at `at`.
 fn comment_at(text: &[u8], at: usize, line: usize, column: usize) -> Passed
-    requires { ⌜ (at < length (now text)) × Reaches (now text) at line column (length (now text)) ⌝ }
+    requires { ⌜ (at < length (now text)) × Bounded (now text) line column ⌝ }
     ensures { λ r. ⌜ r ≡ passed·comment (now (text .entry)) at line column ⌝ }
 {
     match comment_end(text, at) {
@@ -131,7 +131,7 @@ impl<'a> Lexer<'a> {
 
     // Behind the comment whose mark is at its place.
     pub fn comment(self) -> Passed
-        requires { ⌜ (self .at < length (now (self .text))) × Reaches (now (self .text)) (self .at) (self .line) (self .column) (length (now (self .text))) ⌝ }
+        requires { ⌜ (self .at < length (now (self .text))) × Bounded (now (self .text)) (self .line) (self .column) ⌝ }
         ensures { λ r. ⌜ r ≡ passed·comment (now (self .entry .text)) (self .entry .at) (self .entry .line) (self .entry .column) ⌝ }
     {
         comment_at(self.text, self.at, self.line, self.column)
@@ -139,7 +139,7 @@ impl<'a> Lexer<'a> {
 
     // On to the byte `to`.
     pub fn skip_to(self, to: usize) -> Lexer<'a>
-        requires { ⌜ Reaches (now (self .text)) (self .at) (self .line) (self .column) to ⌝ }
+        requires { ⌜ Bounded (now (self .text)) (self .line) (self .column) ⌝ }
         ensures { λ r. ⌜ r ≡ lexer·at (self .entry .text) (moved·to (now (self .entry .text)) (self .entry .at) (self .entry .line) (self .entry .column) to) ⌝ }
     {
         let p = moved_to(self.text, self.at, self.line, self.column, to);
@@ -162,9 +162,9 @@ impl<'a> Lexer<'a> {
     }
 }
 
-// The place of the byte at `at`, in a text of at most 1,048,576 bytes. Its parameters are plain, so whoever calls it needs no proof by hand.
+// The place of the byte at `at`, or of the end where the text ends before it, in a text of at most 1,048,576 bytes. Its parameters are plain, so whoever calls it needs no proof by hand.
 pub fn place_at(text: &[u8], at: usize) -> Place
-    requires { ⌜ (at ≤ length (now text)) × (length (now text) ≤ 1048576) ⌝ }
+    requires { ⌜ length (now text) ≤ 1048576 ⌝ }
     ensures { λ r. ⌜ r ≡ place (now (text .entry)) at ⌝ }
 {
     Lexer::new(text).skip_to(at).place()

@@ -10,7 +10,9 @@ mod scanning;
 mod token;
 mod utf8;
 
+pub use classes::byte_or_zero;
 pub use classes::entry_of;
+pub use classes::wide_blank;
 pub use classes::word_bytes;
 pub use label::blank_byte;
 pub use label::is_at;

@@ -10,7 +10,7 @@ use Rattle.block.specs.Reading.{Taxon}
 use Rattle.block.specs.Sequential.{names}
 use Rattle.block.specs.declared.Judged.{Judged}
 use Rattle.lexer.proofs.Basics.{by-test}
-use Rattle.lexer.proofs.KeptWords.{range-kept, word-kept}
+use Rattle.lexer.proofs.RangeLaws.{word-kept, range-kept}
 use Rattle.lexer.specs.Base.{pick, alike}
 use Rattle.lexer.specs.Stored.{word·of, range}
 use Rattle.lexer.specs.declared.refusal.Refusal.{Refusal}

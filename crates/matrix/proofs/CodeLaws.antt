@@ -1,13 +1,12 @@
 -- The cells of a word are told by their codes: how many they are, and whether all are states. Assumes nothing.
 use Prim.Native.Nat.{ℕ, zero, suc, _+_, _≤_, _<_}
-use Rattle.block.proofs.OutcomeLaws.{Opt}
+use Rattle.block.proofs.FormatCells.{cell-each}
 use Rattle.block.specs.Cell.{Cell, state, uncertain, polymorphic, missing, gap}
-use Rattle.block.specs.Chunk.{find·symbol, state·of, state·cell, state·or·code, gap·or, cell, before, cells·of, with·state, only·states}
+use Rattle.block.specs.Chunk.{cell, before, cells·of, with·state, only·states}
 use Rattle.block.specs.Codes.{bit·of, bits·of, code·of, Coded}
 use Rattle.block.specs.Dna.{dna·letter, dna·cell}
-use Rattle.block.specs.Format.{Format, equal}
-use Rattle.block.specs.declared.data.DataType.{DataType}
-use Rattle.lexer.proofs.Basics.{chosen, and-true, and-assoc, all-under, under-at}
+use Rattle.block.specs.Format.{Format}
+use Rattle.lexer.proofs.Basics.{and-true, and-assoc, all-under, under-at}
 use Rattle.lexer.proofs.SmallBytes.{Small}
 use Rattle.lexer.specs.Base.{pick, given, lower}
 use Rattle.matrix.specs.RowShape.{coded}
@@ -36,37 +35,9 @@ abbrev Told : Option Cell → Type 0
 Told o = told o ≡ true
 
 module _ (f : Format) (few : length (f .symbols) ≤ 74) where
-  find-below : (b k : ℕ) (l : List ℕ) → Opt (λ i. i < k + length l) (find·symbol f b k l)
-  unfolding find·symbol
-  find-below b k [] = tt
-  find-below b k (s ∷ r) = chosen (Opt (λ i. i < k + suc (length r))) (equal f s b) (λ _. omega arith) (λ _. go (find·symbol f b (suc k) r) (find-below b (suc k) r))
-    where
-      go : (o : Option ℕ) → Opt (λ i. i < suc k + length r) o → Opt (λ i. i < k + suc (length r)) o
-      go none h = tt
-      go (some i) h = omega arith
-
-  state-told : (o : Option ℕ) → Opt (λ i. i < 0 + length (f .symbols)) o → Told (state·cell o)
-  unfolding state·cell told
-  state-told none h = refl
-  state-told (some i) h = lt-ltb i 96 (omega arith)
-
-  dna-told : (b : ℕ) → b < 256 → Told (dna·cell b)
-  unfolding all-under dna·cell dna·letter lower pick told bits·of bit·of
-  dna-told b h = under-at (λ b. told (dna·cell b)) 256 b refl h
-
-  symbol-told : (t : DataType) (b : ℕ) → b < 256 → Told (state·or·code t f b)
-  unfolding state·or·code state·of
-  symbol-told DataType.Standard b h = state-told (state·of f b) (find-below b 0 (f .symbols))
-  symbol-told DataType.Dna b h = dna-told b h
-
-  gap-told : (g : Option ℕ) (b : ℕ) → b < 256 → Told (gap·or f g b)
-  unfolding gap·or told
-  gap-told none b h = symbol-told (f .data·type) b h
-  gap-told (some g) b h = chosen Told (equal f g b) (λ _. refl) (λ _. symbol-told (f .data·type) b h)
-
   cell-told : (b : ℕ) → b < 256 → Told (cell f b)
-  unfolding cell told
-  cell-told b h = chosen Told (equal f (f .missing) b) (λ _. refl) (λ _. gap-told (f .gap) b h)
+  unfolding all-under dna·cell dna·letter lower pick told bits·of bit·of
+  cell-told b h = cell-each f Told refl (λ i l. lt-ltb i 96 (omega arith)) refl refl b (under-at (λ b. told (dna·cell b)) 256 b refl h)
 
 -- What a code says of its cell: that it is one, and whether it is a state.
 record Tells (c : Cell) : Type 0 where

@@ -2,7 +2,7 @@
 use Prim.Native.Nat.{ℕ, zero, suc, _+_, _≤_, _<_}
 use Rattle.block.proofs.OutcomeLaws.{all-one}
 use Rattle.lexer.proofs.Basics.{by-test, not-both}
-use Rattle.lexer.proofs.KeptWords.{start-kept, word-kept}
+use Rattle.lexer.proofs.RangeLaws.{word-kept, start-kept}
 use Rattle.lexer.specs.Base.{pick}
 use Rattle.matrix.proofs.BelowLaws.{below-each, each-below, stored-below}
 use Rattle.matrix.proofs.PlaceWalk.{Placing, placing-start, placing-turn, placing-found, placing-end}

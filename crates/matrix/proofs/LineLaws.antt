@@ -1,6 +1,7 @@
 -- The lines that begin in tokens, token by token: where one begins, where it is over, how many there are, and the tokens of one. Assumes nothing.
-use Prim.Native.Nat.{ℕ, suc, _+_, _-_, _≤_, _<_}
+use Prim.Native.Nat.{ℕ, zero, suc, _+_, _-_, _≤_, _<_}
 use Rattle.block.specs.Commands.{newline}
+use Rattle.block.specs.CommandsCut.{first·where}
 use Rattle.block.specs.Interleaved.{to·newline, lines·from}
 use Rattle.lexer.proofs.Basics.{by-test}
 use Rattle.lexer.proofs.RangeLaws.{range-next, range-end}
@@ -10,9 +11,10 @@ use Rattle.matrix.specs.PagesHeld.{Line·begins, Line·ends}
 use borrow.Author.Tests.{lt-ltb, le-ltb, ltb-true, ltb-false}
 use lib.Dec.{ltb}
 use lib.ListN.{length}
-use mathlib.Core.Bool.{Bool, true, false}
+use mathlib.Core.Bool.{Bool, true, false, not}
 use mathlib.Core.List.{List, [], _∷_}
 use mathlib.Core.Path.{_≡_, refl, sym, _∙_}
+use native.Mathlib.Numerals.{add-one}
 use native.Mathlib.Omega.{arith}
 
 module _ (text work : List ℕ) (i to : ℕ) where
@@ -55,10 +57,18 @@ module _ (text work : List ℕ) (i to : ℕ) where
       unfolding to·newline pick
       line-next = rw (range-next text work i to h, e)
 
--- Newlines passed so far.
-pub record Passing (text work : List ℕ) (i to j : ℕ) : Type 0 where
-  pub ahead : i ≤ j
-  pub lines : lines·from false (range text work i to) ≡ lines·from false (range text work j to)
+-- Where newlines end, the next line begins.
+module _ (text work : List ℕ) (to : ℕ) where
+  pub line-begins : (n i : ℕ) → to - i ≡ n → Line·begins text work i to (first·where (λ w. not (newline w)) text work i n)
+  unfolding first·where pick
+  line-begins zero i e = record { ahead = omega arith; lines = refl; here = λ h. absurd (omega (arith, e)) }
+  line-begins (suc n) i e =
+      by-test (newline (word·of text work i))
+      (λ t.
+      let m = line-begins n (suc i) (omega (arith, e)) in
+      let skip = rw (add-one i) at (lines-newline text work i to (omega (arith, e)) t) in
+      rw t (record { ahead = omega (arith, m .ahead); lines = skip ∙ m .lines; here = m .here }))
+      (λ f. rw f (record { ahead = omega arith; lines = refl; here = λ h. f }))
 
 -- Tokens of a line passed so far.
 pub record Within (text work : List ℕ) (i to j : ℕ) : Type 0 where
@@ -66,21 +76,8 @@ pub record Within (text work : List ℕ) (i to j : ℕ) : Type 0 where
   pub lines : lines·from true (range text work i to) ≡ lines·from true (range text work j to)
 
 module _ {text work : List ℕ} {i to : ℕ} where
-  pub passing-start : Passing text work i to i
-  passing-start = record { ahead = omega arith; lines = refl }
-
   pub within-start : Within text work i to i
   within-start = record { ahead = omega arith; lines = refl }
-
-  module _ {j : ℕ} (k : Passing text work i to j) where
-    pub passing-turn : j < to → newline (word·of text work j) ≡ true → Passing text work i to (j + 1)
-    passing-turn h e = record { ahead = omega (arith, k .ahead); lines = k .lines ∙ lines-newline text work j to h e }
-
-    pub passing-line : newline (word·of text work j) ≡ false → Line·begins text work i to j
-    passing-line e = record { ahead = k .ahead; lines = k .lines; here = λ h. e }
-
-    pub passing-end : to ≤ j → Line·begins text work i to j
-    passing-end h = record { ahead = k .ahead; lines = k .lines; here = λ l. absurd (omega arith) }
 
   module _ {j : ℕ} (k : Within text work i to j) where
     pub within-turn : j < to → newline (word·of text work j) ≡ false → Within text work i to (j + 1)

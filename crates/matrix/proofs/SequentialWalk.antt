@@ -4,7 +4,7 @@ use Rattle.block.proofs.OutcomeLaws.{All, all-one}
 use Rattle.block.specs.Codes.{Coded}
 use Rattle.block.specs.Commands.{newline}
 use Rattle.block.specs.Format.{Format}
-use Rattle.lexer.proofs.KeptWords.{range-kept, word-kept}
+use Rattle.lexer.proofs.RangeLaws.{word-kept, range-kept}
 use Rattle.lexer.proofs.SmallBytes.{Small}
 use Rattle.lexer.specs.Stored.{word·of}
 use Rattle.lexer.specs.declared.refusal.Refusal.{Refusal}

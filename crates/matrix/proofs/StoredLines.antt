@@ -3,7 +3,7 @@ use Prim.Native.Nat.{ℕ, _+_, _≤_, _<_}
 use Rattle.block.proofs.OutcomeLaws.{All}
 use Rattle.block.specs.Format.{Format}
 use Rattle.block.specs.Interleaved.{Page, first·page}
-use Rattle.lexer.proofs.KeptWords.{range-kept, word-kept}
+use Rattle.lexer.proofs.RangeLaws.{word-kept, range-kept}
 use Rattle.matrix.proofs.StoredRows.{names-kept}
 use Rattle.matrix.specs.Lines.{name·at, names·stored}
 use Rattle.matrix.specs.PagesHeld.{line·at, with·line, page·held, pages·held}

@@ -1,9 +1,9 @@
--- Stored rows: one more of them, their names; and that those below an index are the same where work memory was kept up to it. Assumes nothing.
+-- Stored rows: one more of them, their names; and that they are the same where work memory was kept up to an index. Assumes nothing.
 use Prim.Native.Nat.{ℕ, zero, suc, _+_, _≤_, _<_}
 use Rattle.block.proofs.OutcomeLaws.{All}
 use Rattle.block.specs.Format.{Format}
 use Rattle.block.specs.Sequential.{names}
-use Rattle.lexer.proofs.KeptWords.{range-kept, word-kept}
+use Rattle.lexer.proofs.RangeLaws.{word-kept, range-kept}
 use Rattle.matrix.specs.Lines.{name·at, stored, names·stored, row·at, rows·sequential}
 use Rattle.slots.specs.Filling.{Cleared}
 use lib.ListN.{length, take, drop, set, length-drop}
@@ -44,8 +44,8 @@ stored-kept work before at lines rows e h = sym (front-of lines rows at work h) 
 pub cleared-front : (before work : List ℕ) (at base : ℕ) → Cleared before work base → at ≤ base → take at work ≡ take at before
 cleared-front before work at base c h = sym (take-take at base work h) ∙ ap (take at) (c .front) ∙ take-take at base before h
 
+-- Names and rows
 module _ (text work before : List ℕ) (at : ℕ) (kept : take at work ≡ take at before) where
-  -- Names and rows
   pub names-kept : (starts : List ℕ) → All (λ s. s < at) starts → names·stored text work starts ≡ names·stored text before starts
   unfolding names·stored name·at
   names-kept [] h = refl

@@ -11,17 +11,18 @@ ghost use lib.Dec.{ltb};
 ghost use lib.ListN.{length};
 ghost use mathlib.Core.Bool.{true, false};
 ghost use mathlib.Core.Path.{_≡_};
+use super::chunks::chunk_at;
 use super::index::put_row;
 use super::matrix::Chunk;
 use super::matrix::Chunked;
 use super::matrix::Rows;
 use super::matrix::at_most;
-use super::matrix::chunk_at;
 use super::matrix::known_row;
 use block::Judged;
 use block::alike;
 use block::named;
 use block::newline;
+use block::skip_newlines;
 use lexer::Refusal;
 use lexer::start_of;
 use slots::Table;
@@ -52,14 +53,7 @@ pub enum LineCells {
 fn next_line(text: &[u8], work: &[u32], i: usize, to: usize) -> usize
     ensures { λ r. ⌜ Line·begins (now (text .entry)) (now (work .entry)) i to r ⌝ }
 {
-    let mut j = i;
-    while j < to {
-        if !newline(text, work, j) {
-            return j;
-        }
-        j += 1;
-    }
-    j
+    skip_newlines(text, work, i, to)
 }
 
 // Where a line that has begun is over, from an index on: at the next newline.

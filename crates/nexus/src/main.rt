@@ -9,7 +9,7 @@ use lexer::refusal_number;
 use libc::STDIN_FILENO;
 use libc::STDOUT_FILENO;
 use read::read;
-use reading::characters::put_number;
+use reading::names::put_number;
 use record::Answer;
 
 // Puts the lines of a refusal, and answers how many bytes they are.

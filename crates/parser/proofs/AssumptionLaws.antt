@@ -19,8 +19,8 @@ use Rattle.commands.specs.declared.state.Matrix.{Matrix}
 use Rattle.commands.specs.declared.state.Phase.{Phase}
 use Rattle.commands.specs.declared.state.State.{State}
 use Rattle.commands.specs.declared.state.Stepped.{Stepped}
-use Rattle.labels.proofs.LabelSlotLaws.{range-front, word-front}
 use Rattle.lexer.proofs.Basics.{and-right}
+use Rattle.lexer.proofs.RangeLaws.{range-front, word-front}
 use Rattle.lexer.specs.Base.{bytes, given, pick}
 use Rattle.lexer.specs.Stored.{range, word·of}
 use Rattle.lexer.specs.Words.{Numbered, is}

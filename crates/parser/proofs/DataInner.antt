@@ -17,7 +17,7 @@ use Rattle.commands.specs.declared.state.Phase.{Phase}
 use Rattle.commands.specs.declared.state.State.{State}
 use Rattle.commands.specs.declared.state.Stepped.{Stepped}
 use Rattle.lexer.proofs.Basics.{by-test}
-use Rattle.lexer.proofs.KeptWords.{word-kept}
+use Rattle.lexer.proofs.RangeLaws.{word-kept}
 use Rattle.lexer.specs.Base.{alike, bytes, given, lower, pick}
 use Rattle.lexer.specs.Stored.{range, word·of}
 use Rattle.lexer.specs.Words.{Numbered, is}

@@ -3,6 +3,7 @@
 use Prim.Native.Nat.{ℕ, zero, suc, _+_, _*_, _≤_, _<_}
 use Rattle.assumptions.specs.TypesHeld.{type·word}
 use Rattle.assumptions.specs.declared.assumptions.TypeWord.{TypeWord}
+use Rattle.block.proofs.MatrixSound.{unordered-length}
 use Rattle.block.specs.Blocks.{unordered, retyped, with·types}
 use Rattle.block.specs.Commands.{words}
 use Rattle.block.specs.Labels.{Labelled}
@@ -47,11 +48,6 @@ unfolding retyped
 retyped-length o ts [] = refl
 retyped-length o [] (c ∷ cs) = ap suc (retyped-length o [] cs)
 retyped-length o (t ∷ ts) (c ∷ cs) = ap suc (retyped-length o ts cs)
-
-unordered-length : (ls : List Labelled) → length (unordered ls) ≡ length ls
-unfolding unordered
-unordered-length [] = refl
-unordered-length (l ∷ ls) = ap suc (unordered-length ls)
 
 -- Characters without types are unordered.
 unordered-untyped : (ls : List Labelled) → retyped CharacterOrdering.Unordered [] (unordered ls) ≡ unordered ls

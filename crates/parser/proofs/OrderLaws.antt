@@ -10,10 +10,11 @@ use Rattle.commands.specs.StateHeld.{names·in}
 use Rattle.commands.specs.WorkMap.{map·fits, order·place}
 use Rattle.commands.specs.declared.state.Names.{Names}
 use Rattle.lexer.proofs.Basics.{and-left}
-use Rattle.lexer.proofs.KeptWords.{range-kept}
+use Rattle.lexer.proofs.RangeLaws.{range-kept}
 use Rattle.lexer.specs.Stored.{range}
 use Rattle.lexer.specs.Words.{largest}
-use Rattle.matrix.specs.OrderHeld.{Arranged, all·below}
+use Rattle.matrix.proofs.BelowLaws.{below-further}
+use Rattle.matrix.specs.OrderHeld.{Arranged}
 use Rattle.parser.proofs.MapFits.{fitting}
 use Rattle.parser.specs.Storing.{Order·made, names·within}
 use borrow.Author.Tests.{eqb-true, leb-true}
@@ -21,15 +22,9 @@ use lib.Dec.{eqb, leb}
 use lib.ListN.{length, take}
 use lib.Seq.{take-all, take-take}
 use mathlib.Core.Bool.{true}
-use mathlib.Core.List.{List, [], _∷_}
+use mathlib.Core.List.{List}
 use mathlib.Core.Path.{_≡_, refl, sym}
 use native.Mathlib.Omega.{arith}
-
--- Numbers below a bound are below a larger one.
-below-more : (a b : ℕ) → a ≤ b → (l : List ℕ) → all·below a l → all·below b l
-unfolding all·below
-below-more a b h [] p = tt
-below-more a b h (s ∷ r) p = (omega (arith, p .0), below-more a b h r (p .1))
 
 -- What storing the order asks for.
 module _ (size count lines taxa : ℕ) (h : map·fits size count lines taxa 0 ≡ true) where
@@ -62,5 +57,5 @@ module _ (text before after : List ℕ) (count lines taxa head from to at : ℕ)
             let front = range-kept text before (take count before) count (sym (take-take count count before (omega arith))) from to within in
             let many : length ns ≡ taxa = eqb-true (length ns) taxa (and-left (eqb (length ns) taxa) (leb taxa largest) (rw e at agreed)) in
             let whole : take taxa ns ≡ ns = take-all taxa ns (omega (arith, many)) in
-            rw (e, whole, ← p) (rw front at (a .each taken named (below-more count at (omega (arith, p)) _ below)));
+            rw (e, whole, ← p) (rw front at (a .each taken named (below-further count at (omega (arith, p)) _ below)));
       }

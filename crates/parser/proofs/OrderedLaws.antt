@@ -1,5 +1,6 @@
 -- Whether a character of a held matrix is ordered: by the types of its set, and by its default type. Assumes nothing.
 use Prim.Native.Nat.{ℕ, zero, suc, _+_, _-_, _≤_, _<_}
+use Rattle.assumptions.proofs.VectorTypes.{types-length}
 use Rattle.assumptions.specs.TypesHeld.{type·of, type·word, types·held}
 use Rattle.assumptions.specs.declared.assumptions.TypeWord.{TypeWord}
 use Rattle.block.specs.Blocks.{has·ordered, ordered?, retyped, with·types}
@@ -92,11 +93,6 @@ module _ (d : Option CharacterOrdering) (typed : Bool) (ts : Types) (r : Reading
   without-set : typed ≡ false → has·ordered (with·types d (pick typed (some ts) none) r .characters) ≡ ordered? (Option·getD d CharacterOrdering.Unordered) && ltb 0 (length (r .characters))
   unfolding with·types pick
   without-set t = rw t (no-set-ordered (Option·getD d CharacterOrdering.Unordered) (r .characters))
-
-types-length : (work : List ℕ) (at n : ℕ) → length (types·held work at n) ≡ n
-unfolding types·held
-types-length work at zero = refl
-types-length work at (suc n) = ap suc (types-length work (suc at) n)
 
 module _ (text work : List ℕ) (count : ℕ) (h : Held) (ordered : Bool) (is·ordered : ordered ≡ ordered? (Option·getD (type·word (h .default)) CharacterOrdering.Unordered)) where
   pub typed-ordered : (at : ℕ) (r : Bool) → h .typed ≡ true → at ≡ types·place count (h .lines) (h .taxa) (h .characters)

@@ -3,11 +3,11 @@
 use Prim.Native.Nat.{ℕ, _+_, _≤_, _<_}
 use Rattle.commands.specs.StatePlaced.{Commands·placed, Names·placed}
 use Rattle.commands.specs.declared.state.Names.{Names}
-use Rattle.labels.proofs.LabelSlotLaws as slots
 use Rattle.labels.specs.LabelLists.{Fits, command·held, commands·held}
 use Rattle.labels.specs.declared.labels.LabelCommand.{LabelCommand}
 use Rattle.labels.specs.declared.labels.LabelCommands.{LabelCommands}
 use Rattle.lexer.proofs.Basics.{and-both, and-left, and-right}
+use Rattle.lexer.proofs.RangeLaws as words
 use Rattle.lexer.specs.Lexing.{longest}
 use Rattle.lexer.specs.Stored.{range, word·of}
 use Rattle.parser.specs.Storing.{command·within, commands·within, names·within}
@@ -40,10 +40,10 @@ commands-each count ls h =
 -- What is among the tokens is the same by the front.
 module _ (text work : List ℕ) (count : ℕ) where
   pub word-front : (i : ℕ) → i < count → word·of text work i ≡ word·of text (take count work) i
-  word-front i h = sym (slots.word-front text work count i h)
+  word-front i h = sym (words.word-front text work count i h)
 
   pub range-front : (from to : ℕ) → to ≤ count → range text work from to ≡ range text (take count work) from to
-  range-front from to h = sym (slots.range-front text work count from to h)
+  range-front from to h = sym (words.range-front text work count from to h)
 
   command-front : (c : LabelCommand) → command·within count c ≡ true → command·held text work c ≡ command·held text (take count work) c
   command-front c h = rw (range-front (c .head + 1) (c .to) (command-bounds count c h .1))

@@ -19,7 +19,7 @@ use Rattle.commands.specs.declared.state.Phase.{Phase}
 use Rattle.commands.specs.declared.state.State.{State}
 use Rattle.commands.specs.declared.state.Stepped.{Stepped}
 use Rattle.lexer.proofs.Basics.{by-test, not-both}
-use Rattle.lexer.proofs.KeptWords.{range-kept}
+use Rattle.lexer.proofs.RangeLaws.{range-kept}
 use Rattle.lexer.specs.Base.{bytes}
 use Rattle.lexer.specs.Stored.{range, word·of}
 use Rattle.lexer.specs.Words.{is}

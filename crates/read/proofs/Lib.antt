@@ -1,3 +1,2 @@
 -- What the proofs of this crate rest on, and what other crates may cite.
 pub mod ReadLaws
-pub mod TokenPlaces

@@ -12,6 +12,7 @@ use Rattle.lexer.proofs.Basics.{by-test}
 use Rattle.lexer.proofs.LexedAnswers.{Lexes, tokens-lexed}
 use Rattle.lexer.specs.Base.{pick}
 use Rattle.lexer.specs.Lexing.{longest, work·needed, counted, lexed}
+use Rattle.lexer.specs.Places.{place}
 use Rattle.lexer.specs.Stored.{Stored}
 use Rattle.lexer.specs.Tokens.{Token, tokens, left·open}
 use Rattle.lexer.specs.Utf8.{utf8}
@@ -27,7 +28,7 @@ use Rattle.record.specs.Calls.{Result, refusal, refuse, answer, leaves, recorde
 use Rattle.record.specs.declared.Answer.{Answer}
 use borrow.Author.Tests.{leb-true}
 use lib.Dec.{leb}
-use lib.ListN.{length, take}
+use lib.ListN.{length, getD, take}
 use mathlib.Core.Bool.{Bool, true, false}
 use mathlib.Core.List.{List}
 use mathlib.Core.Option.{Option, none, some}
@@ -95,9 +96,13 @@ module _ (text before after : List ℕ) (n : ℕ) (so : Lexed·so text before n)
     unfolding placed parsed·held
     refused-read = parsed-read ∙ ap (λ x. placed text (parsed·held text after n x)) e
 
-    pub refused-delivered : (buffer : List ℕ) (a : Answer) → a ≡ Answer.Refused why (place·of text i) → Delivered (recorded (read text)) buffer buffer a
+    there : place text (getD (take n after) i 0) ≡ place·of text i
+    unfolding place·of
+    there = ap (λ l. place text (getD l i 0)) (still-stored .held)
+
+    pub refused-delivered : (buffer : List ℕ) (a : Answer) → a ≡ Answer.Refused why (place text (getD (take n after) i 0)) → Delivered (recorded (read text)) buffer buffer a
     unfolding recorded answer leaves
-    refused-delivered buffer a told = rw refused-read (record { answered = told; left = refl })
+    refused-delivered buffer a told = rw refused-read (record { answered = told ∙ ap (Answer.Refused why) there; left = refl })
 
   -- A matrix that is held is the text's reading, and its format has few symbols.
   module _ (h : Held) (e : r ≡ Parsed.Held h) where

@@ -1,12 +1,11 @@
 // The read call: the record of a text, or its refusal with number and place.
 
 ghost use Prim.Native.Nat.{_≤_};
-ghost use Rattle.block.specs.Parse.{place·of};
 ghost use Rattle.commands.specs.WorkMap.{map·fits};
-ghost use Rattle.lexer.specs.Stored.{Stored};
+ghost use Rattle.lexer.specs.Places.{place};
 ghost use Rattle.read.specs.Call.{Held·delivered, Lexed·so, Read·call, Tokens·call};
 ghost use Rattle.record.specs.declared.Answer.{Answer};
-ghost use lib.ListN.{length};
+ghost use lib.ListN.{length, getD};
 ghost use mathlib.Core.Bool.{true};
 ghost use mathlib.Core.Path.{_≡_};
 use commands::Held;
@@ -21,12 +20,12 @@ use parser::parse::parse;
 use reading::put_record;
 use record::Answer;
 
-// A refusal among the tokens, so many, at the token of an index.
-fn refused_at(text: &[u8], work: &[u32], count: usize, n: Refusal, i: usize) -> Answer
-    requires { ⌜ (length (now text) ≤ 1048576) × Stored (now text) (now work) count ⌝ }
-    ensures { λ r. ⌜ r ≡ Answer.Refused n (place·of (now (text .entry)) i) ⌝ }
+// A refusal at the token of an index, where tokens begin at these bytes.
+fn refused_at(text: &[u8], starts: &[u32], n: Refusal, i: usize) -> Answer
+    requires { ⌜ length (now text) ≤ 1048576 ⌝ }
+    ensures { λ r. ⌜ r ≡ Answer.Refused n (place (now (text .entry)) (getD (now (starts .entry)) i 0)) ⌝ }
 {
-    Answer::Refused(n, place_at(text, start_of(&work[..count], i)))
+    Answer::Refused(n, place_at(text, start_of(starts, i)))
 }
 
 // The record of a matrix that is held: it is measured first, and put only where it has room.
@@ -50,7 +49,7 @@ fn read_tokens(text: &[u8], work: &mut [u32], count: usize, buffer: &mut [u8]) -
 {
     match parse(text, work, count) {
         Parsed::Held(held) => deliver(text, work, count, held, buffer),
-        Parsed::Refused(n, i) => refused_at(text, work, count, n, i),
+        Parsed::Refused(n, i) => refused_at(text, &work[..count], n, i),
     }
 }
 

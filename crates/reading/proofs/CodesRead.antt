@@ -1,14 +1,13 @@
 -- The codes of a format give back its cells: a state is below 96, a set of DNA is told by its bits, and no symbol is a polymorphic cell. So the cells
 -- of a word by the codes are those that the format gives it. Assumes nothing.
 use Prim.Native.Nat.{ℕ, zero, suc, _+_, _-_, _≤_, _<_}
-use Rattle.block.proofs.OutcomeLaws.{Opt}
+use Rattle.block.proofs.FormatCells.{cell-each}
 use Rattle.block.specs.Cell.{Cell, state, uncertain, polymorphic, missing, gap}
-use Rattle.block.specs.Chunk.{cell, find·symbol, gap·or, state·cell, state·of, state·or·code}
+use Rattle.block.specs.Chunk.{cell}
 use Rattle.block.specs.Codes.{Coded, bit·of, bits·of, code·of}
 use Rattle.block.specs.Dna.{dna·cell, dna·letter}
-use Rattle.block.specs.Format.{Format, equal}
-use Rattle.block.specs.declared.data.DataType.{DataType}
-use Rattle.lexer.proofs.Basics.{all-under, and-left, and-right, chosen, same-true, under-at}
+use Rattle.block.specs.Format.{Format}
+use Rattle.lexer.proofs.Basics.{all-under, and-left, and-right, same-true, under-at}
 use Rattle.lexer.proofs.SmallBytes.{Small}
 use Rattle.lexer.specs.Base.{lower, pick, same}
 use Rattle.lexer.specs.Words.{Numbered}
@@ -50,33 +49,9 @@ abbrev Told : Option Cell → Type 0
 Told o = told o ≡ true
 
 module _ (f : Format) (few : length (f .symbols) ≤ 74) where
-  symbol-below : (b k : ℕ) (l : List ℕ) → Opt (λ i. i < k + length l) (find·symbol f b k l)
-  unfolding find·symbol
-  symbol-below b k [] = tt
-  symbol-below b k (s ∷ r) = chosen (Opt (λ i. i < k + suc (length r))) (equal f s b) (λ _. omega arith) (λ _. go (find·symbol f b (suc k) r) (symbol-below b (suc k) r))
-    where
-      go : (o : Option ℕ) → Opt (λ i. i < suc k + length r) o → Opt (λ i. i < k + suc (length r)) o
-      go none h = tt
-      go (some i) h = omega arith
-
-  state-told : (o : Option ℕ) → Opt (λ i. i < 0 + length (f .symbols)) o → Told (state·cell o)
-  unfolding state·cell told
-  state-told none h = refl
-  state-told (some i) h = lt-ltb i 96 (omega arith)
-
-  symbol-told : (t : DataType) (b : ℕ) → b < 256 → Told (state·or·code t f b)
-  unfolding state·or·code state·of all-under dna·cell dna·letter lower pick told bits·of bit·of members marks same
-  symbol-told DataType.Standard b h = state-told (state·of f b) (symbol-below b 0 (f .symbols))
-  symbol-told DataType.Dna b h = under-at (λ b. told (dna·cell b)) 256 b refl h
-
-  gap-told : (g : Option ℕ) (b : ℕ) → b < 256 → Told (gap·or f g b)
-  unfolding gap·or told
-  gap-told none b h = symbol-told (f .data·type) b h
-  gap-told (some g) b h = chosen Told (equal f g b) (λ _. refl) (λ _. symbol-told (f .data·type) b h)
-
   cell-told : (b : ℕ) → b < 256 → Told (cell f b)
-  unfolding cell told
-  cell-told b h = chosen Told (equal f (f .missing) b) (λ _. refl) (λ _. gap-told (f .gap) b h)
+  unfolding all-under dna·cell dna·letter lower pick told bits·of bit·of members marks same
+  cell-told b h = cell-each f Told refl (λ i l. lt-ltb i 96 (omega arith)) refl refl b (under-at (λ b. told (dna·cell b)) 256 b refl h)
 
   module _ (codes : List ℕ) (k : Coded f codes) where
     cells-read : (bytes : List ℕ) → Small bytes → cells·coded codes bytes ≡ cells·taken f bytes

@@ -1,5 +1,5 @@
 -- The pieces of the record's first four lines. Assumes nothing.
-use Prim.Native.Nat.{ℕ, zero, suc, _≤_}
+use Prim.Native.Nat.{ℕ, _≤_}
 use Rattle.block.specs.Format as F
 use Rattle.block.specs.Formats.{meant}
 use Rattle.block.specs.declared.data.DataType.{DataType}
@@ -8,9 +8,9 @@ use Rattle.lexer.specs.Base.{bytes}
 use Rattle.reading.specs.RecordPut.{head·piece}
 use Rattle.record.specs.Decimal.{decimal}
 use Rattle.record.specs.Spell.{line, type·word}
-use lib.ListN.{length, take, length-take}
-use mathlib.Core.List.{List, [], _∷_, _++_}
-use mathlib.Core.Path.{_≡_, refl, ap, _∙_}
+use lib.ListN.{length, length-take}
+use mathlib.Core.List.{List, _∷_, _++_}
+use mathlib.Core.Path.{_≡_, refl}
 use native.Mathlib.Omega.{arith}
 
 -- The line of the data type.
@@ -23,20 +23,10 @@ module _ (t : DataType) (behind : List ℕ) where
   unfolding bytes line type·word
   type-dna e = rw e
 
--- As many elements of a list as its front has are that front.
-take-front : (n : ℕ) (l : List ℕ) → take (length (take n l)) l ≡ take n l
-take-front zero l = refl
-take-front (suc n) [] = refl
-take-front (suc n) (a ∷ l) = ap (λ r. a ∷ r) (take-front n l)
-
--- The symbols of a format are the first of its array, as many as it has.
+-- A format has no more symbols than its array.
 pub symbols-few : (f : Format) (n : ℕ) → n ≡ length (meant f .symbols) → n ≤ length (f .symbols)
 unfolding meant
 symbols-few f n e = omega (arith, length-take (f .count) (f .symbols))
-
-pub symbols-first : (f : Format) (n : ℕ) → n ≡ length (meant f .symbols) → take n (f .symbols) ≡ meant f .symbols
-unfolding meant
-symbols-first f n e = ap (λ k. take k (f .symbols)) e ∙ take-front (f .count) (f .symbols)
 
 -- All four lines.
 pub head-lines : (f : F.Format) (taxa characters : ℕ) (behind : List ℕ)

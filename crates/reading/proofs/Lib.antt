@@ -2,7 +2,6 @@
 mod CharacterPuts
 mod CharacterWalk
 mod CodesRead
-mod DecimalLast
 mod DecodedLaws
 mod FewNames
 mod HeadPieces

@@ -1,12 +1,12 @@
 -- Ten characters that have neither a label nor state labels, and whose numbers differ in the last digit alone. Assumes nothing.
 use Prim.Native.Nat.{ℕ, zero, suc, _+_, _*_, _-_, _/_, _%_, _≤_, _<_, min}
 use Rattle.block.specs.declared.model.CharacterOrdering.{CharacterOrdering}
+use Rattle.emit.proofs.DecimalMade.{decimal-snoc}
 use Rattle.emit.proofs.DigitsStored.{digits-most}
 use Rattle.emit.proofs.PutLaws.{puts-as, puts-past, puts-whole}
 use Rattle.emit.specs.Puts.{Puts, last·place}
 use Rattle.lexer.specs.Base.{bytes}
 use Rattle.reading.proofs.CharacterPuts.{plain-ordered, plain-unordered}
-use Rattle.reading.proofs.DecimalLast.{decimal-last}
 use Rattle.reading.specs.CharactersHeld.{bare·piece, plain·bytes}
 use Rattle.reading.specs.PlainLines.{counted·lines, plain·lines}
 use Rattle.record.specs.Decimal.{decimal}
@@ -51,19 +51,23 @@ module _ (number : ℕ) (o : CharacterOrdering) where
     abbrev front : List ℕ
     front = bytes "character=" ++ decimal (number / 10)
 
+    -- The ten numbers, by those digits.
+    digits : (i : ℕ) → i < 10 → decimal (number + i) ≡ decimal (number / 10) ++ ((48 + i) ∷ [])
+    digits i small = let tens : number / 10 * 10 + i ≡ number + i = omega arith in rw tens at (decimal-snoc (number / 10) i (omega arith) small)
+
     -- Its bytes, by those in front of the last digit.
     by-digit : (i : ℕ) → i < 10 → plain·bytes (number + i) o ≡ front ++ ((48 + i) ∷ bare·piece o [])
     unfolding plain·bytes
     by-digit i small =
-        rw (decimal-last number i some round small, append-snoc (decimal (number / 10)) (48 + i) (bare·piece o []))
+        rw (digits i small, append-snoc (decimal (number / 10)) (48 + i) (bare·piece o []))
         (sym (append-assoc (bytes "character=") (decimal (number / 10)) ((48 + i) ∷ bare·piece o [])))
 
     front-size : length front ≡ place
     unfolding bytes
     front-size =
         let zero-more : number + 0 ≡ number = omega arith in
-        let digits : decimal number ≡ decimal (number / 10) ++ (48 ∷ []) = rw zero-more at (decimal-last number 0 some round (omega arith)) in
-        omega (arith, ap length digits, length-append (decimal (number / 10)) (48 ∷ []))
+        let last : decimal number ≡ decimal (number / 10) ++ (48 ∷ []) = rw zero-more at (digits 0 (omega arith)) in
+        omega (arith, ap length last, length-append (decimal (number / 10)) (48 ∷ []))
 
     -- With another last digit they are those of the number that has it.
     plain-digit : (i : ℕ) → i < 10 → plain·bytes (number + i) o ≡ set line place (48 + i)

@@ -1,25 +1,20 @@
 -- Bytes that are put over others: what stands there then is one run of bytes. Assumes nothing.
 use Prim.Native.Nat.{ℕ, zero, suc, _+_, _-_, _≤_, _<_}
-use Rattle.emit.proofs.PutLaws.{puts-run}
+use Rattle.emit.proofs.PutLaws.{puts-run, set-sets}
 use Rattle.emit.specs.Puts.{Puts, puts}
 use lib.ListN.{length, take, drop, set, drop-of-length-le, length-drop, length-set, length-take, take-append-drop}
-use lib.Seq.{drop-drop, set-comm, set-set, set-split, sets, take-all, take-take}
+use lib.Seq.{drop-drop, set-set, set-split, sets, take-all, take-take}
 use mathlib.Core.List.{List, [], _∷_, _++_, append-nil}
 use mathlib.Core.Path.{_≡_, refl, sym, ap, _∙_}
 use native.Mathlib.Numerals.{add-one}
 use native.Mathlib.Omega.{arith}
-
--- A store in front of a run may come before it.
-store-first : (l : List ℕ) (i j v : ℕ) (vs : List ℕ) → i < j → set (sets l j vs) i v ≡ sets (set l i v) j vs
-store-first l i j v [] h = refl
-store-first l i j v (w ∷ vs) h = store-first (set l j w) i (suc j) v vs (omega arith) ∙ ap (λ m. sets m (suc j) vs) (set-comm l j i w v (λ e. omega arith))
 
 -- A run over another that begins at the same place.
 run-over : (l : List ℕ) (i : ℕ) (a b : List ℕ) → sets (sets l i a) i b ≡ sets l i (b ++ drop (length b) a)
 run-over l i a [] = refl
 run-over l i [] (w ∷ b) = ap (λ r. sets l i (w ∷ r)) (sym (append-nil b))
 run-over l i (v ∷ a) (w ∷ b) =
-    ap (λ m. sets m (suc i) b) (store-first (set l i v) i (suc i) w a (omega arith) ∙ ap (λ m. sets m (suc i) a) (set-set l i v w))
+    ap (λ m. sets m (suc i) b) (set-sets (set l i v) i (suc i) w a (omega arith) ∙ ap (λ m. sets m (suc i) a) (set-set l i v w))
     ∙ run-over (set l i w) (suc i) a b
 
 -- A run over another that begins within it or directly behind it.

@@ -1,17 +1,17 @@
 -- Cells of one byte each, put behind those of a row: how they are spelled, where they are only counted, and where they are written. Assumes nothing.
 use Prim.Native.Nat.{ℕ, zero, suc, _+_, _*_, _-_, _^_, _≤_, _<_, min}
 use Rattle.block.specs.Cell.{Cell}
+use Rattle.emit.proofs.DecimalMade.{decimal-one}
 use Rattle.emit.proofs.PutLaws.{puts-out}
 use Rattle.emit.specs.Puts.{Puts, last·place}
-use Rattle.lexer.proofs.Basics.{all-under, by-test, same-true, under-at}
+use Rattle.lexer.proofs.Basics.{by-test}
 use Rattle.lexer.proofs.ListLaws.{drop-next}
-use Rattle.lexer.specs.Base.{given, pick, same}
+use Rattle.lexer.specs.Base.{given, pick}
 use Rattle.matrix.specs.Taken.{also}
 use Rattle.reading.proofs.DecodedLaws.{decoded-state}
 use Rattle.reading.specs.CodedCells.{Row·put, cell·byte, cells·coded, decoded, spell·maybe}
 use Rattle.reading.specs.Pieces.{spell·on}
 use Rattle.reading.specs.declared.cells.Putting.{Putting}
-use Rattle.record.specs.Decimal.{decimal, decimal·from, digit}
 use Rattle.record.specs.Spell.{spell·cell}
 use borrow.Author.Tests.{eqb-false, eqb-true, leb-false, leb-true, ltb-true}
 use lib.Dec.{eqb, leb, ltb}
@@ -21,11 +21,6 @@ use mathlib.Core.List.{List, [], _∷_, _++_}
 use mathlib.Core.Option.{Option, none, some}
 use mathlib.Core.Path.{_≡_, refl, sym, ap, _∙_}
 use native.Mathlib.Omega.{arith}
-
--- A number below 10 is one digit.
-pub digit-alone : (n : ℕ) → n < 10 → decimal n ≡ (48 + n) ∷ []
-unfolding all-under decimal decimal·from digit same pick
-digit-alone n h = same-true (decimal n) ((48 + n) ∷ []) (under-at (λ n. same (decimal n) ((48 + n) ∷ [])) 10 n refl h)
 
 -- What a code is whose cell is of one byte.
 module _ (code : ℕ) (P : Type 0) where
@@ -48,7 +43,7 @@ module _ (code : ℕ) (s : cell·byte code ≡ 0 → ⊥) where
   short-spell behind = short-cases code _ s (λ t. let low = ltb-true code 10 t in state t low) (λ e. rw e) (λ e. rw e)
     where
       state : ltb code 10 ≡ true → code < 10 → spell·maybe (decoded code) behind ≡ cell·byte code ∷ behind
-      state t low = ap (λ o. spell·maybe o behind) (decoded-state code (omega arith)) ∙ ap (λ l. l ++ behind) (digit-alone code low) ∙ sym (rw t)
+      state t low = ap (λ o. spell·maybe o behind) (decoded-state code (omega arith)) ∙ ap (λ l. l ++ behind) (decimal-one code low) ∙ sym (rw t)
 
 -- A code whose cell is not of one byte is none of these.
 pub long-missing : (code : ℕ) → cell·byte code ≡ 0 → code ≡ 126 → ⊥

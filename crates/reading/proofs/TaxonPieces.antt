@@ -1,19 +1,18 @@
 -- Cells and taxa as pieces: cells behind others, where the next place says whether there were any, and a taxon behind others. Assumes nothing.
 use Prim.Native.Nat.{ℕ, _≤_, _<_}
-use Rattle.block.specs.Cell.{Cell, state, uncertain, polymorphic, missing, gap}
+use Rattle.block.specs.Cell.{Cell}
 use Rattle.block.specs.Reading.{Taxon}
 use Rattle.emit.proofs.PutLaws.{puts-as, puts-out, puts-then}
 use Rattle.emit.specs.Puts.{Puts, last·place}
 use Rattle.lexer.proofs.Basics.{by-test}
 use Rattle.lexer.specs.Base.{byte, bytes, empty?, pick}
 use Rattle.reading.specs.Pieces.{spell·on}
-use Rattle.record.proofs.DecimalLaws.{decimal-some}
-use Rattle.record.specs.Decimal.{decimal}
+use Rattle.record.proofs.LookupLaws.{cell-some}
 use Rattle.record.specs.Spell.{escaped, line, spell·cell, spell·cells, spell·taxa}
 use borrow.Author.Tests.{eq-eqb, ne-eqb, ltb-false, ltb-true}
 use lib.Dec.{eqb, ltb}
 use lib.ListN.{length, length-append}
-use mathlib.Core.Bool.{true, false, not, true≢false}
+use mathlib.Core.Bool.{true, false, not}
 use mathlib.Core.List.{List, [], _∷_, _++_, append-assoc}
 use mathlib.Core.Path.{_≡_, refl, sym, ap, _∙_}
 use native.Mathlib.Omega.{arith}
@@ -39,20 +38,6 @@ behind-first : (xs ys : List Cell) (rest : List ℕ) → spell·on false (xs ++ 
 unfolding spell·on pick empty?
 behind-first [] ys rest = refl
 behind-first (x ∷ xs) ys rest = ap (λ l. spell·cell x ++ l) (behind-more xs ys rest)
-
--- A cell is spelled by a byte or more.
-some-length : (l : List ℕ) → empty? l ≡ false → 1 ≤ length l
-unfolding empty?
-some-length [] e = absurd (true≢false e)
-some-length (b ∷ l) e = omega arith
-
-cell-some : (c : Cell) → 1 ≤ length (spell·cell c)
-unfolding spell·cell
-cell-some (state i) = some-length (decimal i) (decimal-some i)
-cell-some (uncertain s) = omega arith
-cell-some (polymorphic s) = omega arith
-cell-some missing = omega arith
-cell-some gap = omega arith
 
 -- At the last place it does not matter what is put.
 puts-last : {a b : List ℕ} {n m : ℕ} {p : List ℕ → List ℕ} (q : List ℕ → List ℕ) → length a ≤ last·place → last·place ≤ n → Puts a n p b m → Puts a n q b m

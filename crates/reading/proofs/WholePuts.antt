@@ -4,6 +4,7 @@ use Rattle.block.specs.Cell.{Cell, insert, insert·all}
 use Rattle.block.specs.Chunk.{plain, within, closer, set·cell}
 use Rattle.block.specs.Format.{Format}
 use Rattle.block.specs.declared.kinds.Bracket.{Bracket}
+use Rattle.emit.proofs.DecimalMade.{decimal-one}
 use Rattle.emit.proofs.PutLaws.{puts-as, puts-none, puts-then}
 use Rattle.emit.specs.Puts.{Puts}
 use Rattle.lexer.proofs.Basics.{and-left, and-right, by-test, eqb-same}
@@ -18,7 +19,6 @@ use Rattle.matrix.specs.WholeSets.{Set·bytes, Whole·set, bracket·of, opener,
 use Rattle.reading.proofs.DecodedLaws.{decoded-state}
 use Rattle.reading.proofs.RowPieces.{row-one}
 use Rattle.reading.proofs.RowSteps.{taken-brace, taken-closer, taken-parenthesis, taken-states}
-use Rattle.reading.proofs.ShortLaws.{digit-alone}
 use Rattle.reading.specs.CodedCells.{Digits, Row·put, cells·coded, codes·of, has·cells, letter·of, marked·digits, word·coded}
 use Rattle.reading.specs.declared.cells.Putting.{Putting}
 use Rattle.record.specs.Spell.{dotted, spell·cell}
@@ -81,9 +81,9 @@ rising-set codes least (b ∷ r) t =
 digits-dotted : (codes : List ℕ) (least m b : ℕ) (r : List ℕ) (behind : List ℕ) → rising codes least (b ∷ r) ≡ true
     → marked·digits codes m (b ∷ r) behind ≡ m ∷ (dotted (codes·of codes (b ∷ r)) ++ behind)
 unfolding marked·digits codes·of dotted
-digits-dotted codes least m b [] behind t = rw (digit-alone (getD codes b 0) (rising-low codes least b [] t)) refl
+digits-dotted codes least m b [] behind t = rw (decimal-one (getD codes b 0) (rising-low codes least b [] t)) refl
 digits-dotted codes least m b (d ∷ r) behind t =
-    rw (digit-alone (getD codes b 0) (rising-low codes least b (d ∷ r) t))
+    rw (decimal-one (getD codes b 0) (rising-low codes least b (d ∷ r) t))
     (ap (λ l. m ∷ (48 + getD codes b 0) ∷ l) (digits-dotted codes (getD codes b 0 + 1) 46 d r behind (rising-rest codes least b (d ∷ r) t)))
 
 letter-spelled : (codes : List ℕ) (mark : ℕ) (l behind : List ℕ) → 0 < length l → rising codes 0 l ≡ true

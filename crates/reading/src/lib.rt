@@ -2,7 +2,9 @@
 
 pub mod cells;
 pub mod characters;
+pub mod label_lines;
 pub mod lines;
+pub mod names;
 pub mod plain;
 pub mod sets;
 pub mod spelling;

@@ -10,7 +10,7 @@ ghost use mathlib.Core.Bool.{true};
 ghost use mathlib.Core.List.{_++_};
 ghost use mathlib.Core.Path.{_≡_};
 use super::characters::put_characters;
-use super::characters::put_number;
+use super::names::put_number;
 use super::taxa::count_taxa;
 use super::taxa::put_taxa;
 use block::DataType;

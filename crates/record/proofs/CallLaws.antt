@@ -21,7 +21,7 @@ use native.Mathlib.Omega.{arith}
 pub length-refused : {n : ℕ} {m : Refusal} {p : Place} → ¬ (Answer.Length n ≡ Answer.Refused m p)
 length-refused e = let z : _≡_ {A = ℕ} 0 1 = cc in omega arith
 
-same-length : {m n : ℕ} → Answer.Length m ≡ Answer.Length n → m ≡ n
+pub same-length : {m n : ℕ} → Answer.Length m ≡ Answer.Length n → m ≡ n
 same-length e = cc
 
 pub same-refusal : {m n : Refusal} {p q : Place} → Answer.Refused m p ≡ Answer.Refused n q

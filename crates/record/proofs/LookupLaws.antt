@@ -85,7 +85,7 @@ unfolding all·long
 row-long k [] t vs h = eqb-true (length (t .cells)) k (and-left _ (all·long k vs) h)
 row-long k (u ∷ us) t vs h = row-long k us t vs (and-right (eqb (length (u .cells)) k) _ h)
 
-cell-some : (c : Cell) → 1 ≤ length (spell·cell c)
+pub cell-some : (c : Cell) → 1 ≤ length (spell·cell c)
 unfolding spell·cell
 cell-some (state i) = some-length (decimal i) (decimal-some i)
 cell-some (uncertain s) = omega arith

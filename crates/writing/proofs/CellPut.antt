@@ -3,6 +3,7 @@ use Prim.Native.Nat.{ℕ, _+_, _/_, _%_, _<_, _≤_}
 use Rattle.block.specs.Cell.{Cell, state, uncertain, polymorphic, missing, gap}
 use Rattle.block.specs.Sound.{sound·cell}
 use Rattle.block.specs.declared.data.DataType.{DataType}
+use Rattle.emit.proofs.DecimalMade.{decimal-one}
 use Rattle.emit.proofs.PutLaws.{puts-then}
 use Rattle.emit.specs.Puts.{Puts}
 use Rattle.lexer.proofs.Basics.{by-test}
@@ -11,7 +12,7 @@ use Rattle.record.specs.Decimal.{decimal}
 use Rattle.record.specs.Form.{form·cell, form·set}
 use Rattle.record.specs.Spell.{dotted, spell·cell}
 use Rattle.writing.proofs.MembersPut.{none-behind}
-use Rattle.writing.proofs.SignsRead.{front-byte, front-rest, one-digit, pair-digits, second-byte, sign-index, sign-one, signs-digit, signs-gap, signs-missing}
+use Rattle.writing.proofs.SignsRead.{front-byte, front-rest, pair-digits, second-byte, sign-index, sign-one, signs-digit, signs-gap, signs-missing}
 use Rattle.writing.specs.CellsPut.{Cell·put, Set·put, Short·read, Sign·read, form·within}
 use Rattle.writing.specs.Signs.{Signed, sign·by, sign·of}
 use Rattle.writing.specs.declared.Putting.{Putting}
@@ -38,7 +39,7 @@ state-first : (b : List ℕ) (at i : ℕ) (l : List ℕ) → i < 74 → drop at 
 state-first b at i l few e = by-test (ltb i 10) (λ t. one (ltb-true i 10 t)) (λ f. two (ltb-false i 10 f))
   where
     one : i < 10 → (48 ≤ getD b at 0) × (getD b at 0 ≤ 57)
-    one low = let y = front-byte b at (48 + i) l (rw (one-digit i low) at e) in (omega arith, omega arith)
+    one low = let y = front-byte b at (48 + i) l (rw (decimal-one i low) at e) in (omega arith, omega arith)
 
     two : 10 ≤ i → (48 ≤ getD b at 0) × (getD b at 0 ≤ 57)
     two high = let y = front-byte b at (48 + i / 10) ((48 + i % 10) ∷ l) (rw (pair-digits i high few) at e) in (omega arith, omega arith)
@@ -112,7 +113,7 @@ short-cell b signs at s read some t symbols g (state i) x rest sound here = by-t
   where
     one : i < 10 → Short t symbols (state i) x s
     one low =
-        let digits = one-digit i low in
+        let digits = decimal-one i low in
         let e = rw digits at here in
         record {
           size = ap length digits;

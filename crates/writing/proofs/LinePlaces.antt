@@ -1,17 +1,17 @@
 -- Places in the lines of a character, found one from another. Assumes nothing.
 use Prim.Native.Nat.{ℕ, _+_, _≤_, _<_, min}
 use Rattle.block.specs.Reading.{Character}
-use Rattle.block.specs.declared.model.CharacterOrdering.{CharacterOrdering}
 use Rattle.judging.proofs.EscapedLines.{escaped-cases}
+use Rattle.lexer.proofs.ListLaws.{drop-next}
 use Rattle.naming.proofs.RowLaws.{drop-behind}
 use Rattle.lexer.proofs.Basics.{by-test, or-left, or-right}
 use Rattle.lexer.specs.Base.{among, bytes, empty?}
 use Rattle.record.proofs.EscapeLaws.{escaped-clean}
-use Rattle.record.proofs.WordLaws.{decimal-clean}
+use Rattle.record.proofs.WordLaws.{decimal-clean, order-clean}
 use Rattle.record.specs.Decimal.{decimal}
 use Rattle.record.specs.Form.{any·label}
 use Rattle.record.specs.Spell.{escaped, line, order·word, spell·character, spell·characters, spell·states}
-use Rattle.writing.proofs.QuotedBytes.{drop-next, line-ended}
+use Rattle.writing.proofs.QuotedBytes.{line-ended}
 use Rattle.writing.specs.CharacterLines.{Label·found, Labels·told, Line·behind, Next·found, No·state, Order·found, States·found, count·on, label·on, order·on}
 use borrow.Author.Tests.{eqb-false, leb-true, leb-false, ne-eqb}
 use lib.Dec.{eqb, leb}
@@ -93,11 +93,6 @@ order-found b at i r l t =
     record {
       found = λ c behind e. skip-over b i r (bytes "order=") (order·on c behind) t (l .found (escaped (c .label)) _ (escaped-clean (c .label)) e);
     }
-
-order-clean : (o : CharacterOrdering) → among 10 (order·word o) ≡ false
-unfolding among order·word bytes
-order-clean CharacterOrdering.Ordered = refl
-order-clean CharacterOrdering.Unordered = refl
 
 -- The state labels behind the line of the type and that of the count.
 pub states-found : (b : List ℕ) (at i j r : ℕ) → Line·behind b at i → j ≡ min (i + 7) (length b) → Line·behind b j r → States·found b at r

@@ -3,6 +3,7 @@ use Prim.Native.Nat.{ℕ, _+_, _-_, _≤_, _<_}
 use Rattle.emit.proofs.PutLaws.{puts-as, puts-then}
 use Rattle.emit.specs.Puts.{Puts}
 use Rattle.judging.proofs.EscapedLines.{front, no-line, plain-escaped, slash-escaped}
+use Rattle.lexer.proofs.ListLaws.{drop-next}
 use Rattle.naming.proofs.RowLaws.{drop-behind}
 use Rattle.judging.specs.NameRest.{unescape}
 use Rattle.lexer.proofs.Basics.{and-both, and-left, and-right, by-test, or-left, or-right}
@@ -15,12 +16,11 @@ use Rattle.writing.specs.declared.Putting.{Putting}
 use borrow.Author.Tests.{ne-eqb, not-true}
 use lib.Dec.{eqb}
 use lib.ListN.{length, getD, drop, take, drop-of-length-le, length-append, length-drop, List·getD-eq-default}
-use lib.Seq.{append-snoc, drop-cons, getD-drop, take-append-seam}
+use lib.Seq.{append-snoc, getD-drop, take-append-seam}
 use mathlib.Core.Bool.{Bool, true, false, not, _||_}
 use mathlib.Core.List.{List, [], _∷_, _++_, append-assoc}
 use mathlib.Core.Path.{_≡_, refl, sym, ap, _∙_}
 use native.Mathlib.Nat.{add-zero}
-use native.Mathlib.Numerals.{add-one}
 use native.Mathlib.Omega.{arith}
 
 -- What is put for a byte of a name.
@@ -36,10 +36,6 @@ module _ (b : ℕ) (behind : List ℕ) where
   pub quote-plain : (b ≡ 39 → ⊥) → (b ≡ 32 → ⊥) → b ∷ behind ≡ quote b ++ behind
   unfolding quote pick
   quote-plain q s = rw (ne-eqb b 39 q, ne-eqb b 32 s)
-
--- From a place inside on stands a byte, and the rest behind it.
-pub drop-next : (l : List ℕ) (i : ℕ) → i < length l → drop i l ≡ getD l i 0 ∷ drop (i + 1) l
-drop-next l i h = rw add-one (drop-cons l i 0 h)
 
 -- A line's text with the LF behind it, in front of the rest.
 pub line-ended : (name rest : List ℕ) → escaped name ++ (10 ∷ rest) ≡ escaped name ++ (10 ∷ []) ++ rest

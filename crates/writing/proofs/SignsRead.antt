@@ -1,19 +1,20 @@
 -- The sign that is read where a cell or an index of one byte stands, and where an index stands. Assumes nothing.
 use Prim.Native.Nat.{ℕ, _+_, _*_, _-_, _/_, _%_, _<_, _≤_}
 use Rattle.block.specs.declared.data.DataType.{DataType}
+use Rattle.emit.proofs.DecimalMade.{decimal-last, decimal-one}
 use Rattle.naming.proofs.RowLaws.{drop-behind}
-use Rattle.lexer.proofs.Basics.{all-four, all-under, and-assoc, and-both, by-test, same-true, under-at}
-use Rattle.lexer.specs.Base.{pick, same}
-use Rattle.record.specs.Decimal.{decimal, decimal·from, digit}
+use Rattle.lexer.proofs.Basics.{all-four, and-assoc, and-both, by-test}
+use Rattle.lexer.specs.Base.{pick}
+use Rattle.record.specs.Decimal.{decimal, digit}
 use Rattle.record.specs.Form.{gap·sign, missing·sign, sign}
 use Rattle.writing.specs.CellsPut.{Sign·read, sign·here, size·here, two·digits}
 use Rattle.writing.specs.Signs.{Signed, sign·by, sign·of}
 use Rattle.writing.specs.declared.cells.Sign.{Sign}
 use borrow.Author.Tests.{le-leb, leb-true, lt-leb, ltb-false, ltb-true, ne-eqb}
 use lib.Dec.{leb, ltb}
-use lib.ListN.{length, drop, getD, List·getD-eq-default}
+use lib.ListN.{length, drop, getD}
 use lib.Seq.{getD-drop}
-use mathlib.Core.Bool.{true, false, _&&_, _||_}
+use mathlib.Core.Bool.{true, false, _&&_}
 use mathlib.Core.List.{List, [], _∷_, _++_}
 use mathlib.Core.Path.{_≡_, refl, sym, ap, _∙_}
 use native.Mathlib.Nat.{add-zero}
@@ -29,10 +30,6 @@ front-rest b i y r e = drop-behind b i (y ∷ []) r e
 pub second-byte : (b : List ℕ) (i y z : ℕ) (r : List ℕ) → drop i b ≡ y ∷ z ∷ r → getD b (i + 1) 0 ≡ z
 second-byte b i y z r e = front-byte b (i + 1) z r (front-rest b i y (z ∷ r) e)
 
--- A byte other than 0 stands before the end.
-pub byte-within : (b : List ℕ) (i : ℕ) → (getD b i 0 ≡ 0 → ⊥) → i < length b
-byte-within b i some = by-test (ltb i (length b)) (ltb-true i (length b)) (λ f. absurd (some (List·getD-eq-default b 0 (ltb-false i (length b) f))))
-
 -- Two bytes that are digits, and a second byte that is none.
 pub two-bounds : (y z : ℕ) → two·digits y z ≡ true → (48 ≤ y) × (y ≤ 57) × (48 ≤ z) × (z ≤ 57)
 unfolding two·digits
@@ -47,14 +44,10 @@ two-digits y z a b c d = and-both (and-both (le-leb 48 y a) (le-leb y 57 b)) (an
 not-two : (y z : ℕ) → z < 48 → two·digits y z ≡ false
 not-two y z h = by-test (two·digits y z) (λ t. absurd (omega (arith, two-bounds y z t .2))) (λ f. f)
 
--- A number below 10 is one digit, and one below 74 that is not is two.
-pub one-digit : (n : ℕ) → n < 10 → decimal n ≡ (48 + n) ∷ []
-unfolding all-under decimal decimal·from digit same pick
-one-digit n h = same-true (decimal n) ((48 + n) ∷ []) (under-at (λ n. same (decimal n) ((48 + n) ∷ [])) 10 n refl h)
-
+-- A number below 74 that is not one digit is two.
 pub pair-digits : (n : ℕ) → 10 ≤ n → n < 74 → decimal n ≡ (48 + n / 10) ∷ (48 + n % 10) ∷ []
-unfolding all-under decimal decimal·from digit same pick
-pair-digits n low h = by-test (ltb n 10) (λ t. let few = ltb-true n 10 t in absurd (omega arith)) (λ f. same-true (decimal n) ((48 + n / 10) ∷ (48 + n % 10) ∷ []) (rw f at (under-at (λ n. ltb n 10 || same (decimal n) ((48 + n / 10) ∷ (48 + n % 10) ∷ [])) 74 n refl h)))
+unfolding digit
+pair-digits n low h = decimal-last n low ∙ rw (decimal-one (n / 10) (omega arith)) refl
 
 -- The signs that a table holds: of a digit, of an index, of missing and of a gap.
 module _ {t : DataType} {symbols signs : List ℕ} (g : Signed t symbols signs) where
@@ -112,7 +105,7 @@ module _ (b signs : List ℕ) (at : ℕ) (r : Sign) (read : Sign·read b signs a
     where
       one : i < 10 → (r .sign ≡ sign symbols i) × (r .at ≡ at + length (decimal i))
       one low =
-          let digits = one-digit i low in
+          let digits = decimal-one i low in
           let s = sign-one (48 + i) x rest (rw digits at e) h in
           (s .0 ∙ signs-digit g i low, s .1 ∙ ap (λ l. at + length l) (sym digits))
 

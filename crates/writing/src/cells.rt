@@ -3,23 +3,17 @@
 ghost use Prim.Native.Nat.{_+_, _<_, _≤_};
 ghost use Rattle.record.specs.Form.{form·set};
 ghost use Rattle.writing.specs.CellsPut.{Cell·put, Cells·put, Run·put, Set·put, Short·read, Sign·read, form·within};
-ghost use lib.ListN.{length, getD};
+ghost use lib.ListN.{length};
 ghost use mathlib.Core.Path.{_≡_};
 use super::Putting;
 use emit::put;
-use judging::byte_at;
+use lexer::byte_or_zero;
+use lexer::entry_of;
 
 // A sign that was read, and the next place.
 pub struct Sign {
     pub sign: u8,
     pub at: usize,
-}
-
-// The sign of a byte.
-fn sign_of(signs: &[u8; 256], b: u8) -> u8
-    ensures { λ r. ⌜ r ≡ getD (now (signs .entry)) b 0 ⌝ }
-{
-    signs[b as usize]
 }
 
 // The sign of an index of two digits, or of a cell or an index of one byte.
@@ -28,16 +22,16 @@ fn sign_at(source: &[u8], at: usize, signs: &[u8; 256]) -> Sign
     ensures { λ r. ⌜ Sign·read (now (source .entry)) (now (signs .entry)) at r ⌝ }
 {
     let y = source[at];
-    let z = byte_at(source, at + 1);
+    let z = byte_or_zero(source, at + 1);
     if (b'0' <= y) & (y <= b'9') & ((b'0' <= z) & (z <= b'9')) {
         let i = (y - b'0') * 10 + (z - b'0');
         return Sign {
-            sign: sign_of(signs, 128 + i),
+            sign: entry_of(signs, 128 + i),
             at: at + 2,
         };
     }
     Sign {
-        sign: sign_of(signs, y),
+        sign: entry_of(signs, y),
         at: at + 1,
     }
 }
@@ -58,7 +52,7 @@ fn put_members(
         let s = sign_at(source, at, signs);
         m = put(buffer, m, s.sign);
         at = s.at;
-        if byte_at(source, at) != b'.' {
+        if byte_or_zero(source, at) != b'.' {
             return Putting { at, n: m };
         }
         at += 1;
@@ -117,7 +111,7 @@ fn short_sign(source: &[u8], at: usize, signs: &[u8; 256]) -> u8
     if source[at + 1] != b' ' {
         return 0;
     }
-    sign_of(signs, source[at])
+    entry_of(signs, source[at])
 }
 
 // Puts cells of one byte each from a place on, as long as a blank stands behind each.

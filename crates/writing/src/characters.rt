@@ -14,7 +14,7 @@ use emit::put;
 use emit::put_all;
 use emit::put_decimal;
 use judging::Shape;
-use judging::byte_at;
+use lexer::byte_or_zero;
 
 // The place so many bytes further on, or the end of the bytes.
 fn skip(source: &[u8], at: usize, count: usize) -> usize
@@ -85,7 +85,7 @@ fn next_at(source: &[u8], at: usize) -> usize
 fn is_labelled(source: &[u8], label: usize, states: usize) -> bool
     ensures { λ r. ⌜ Labels·told (now (source .entry)) label states r ⌝ }
 {
-    (byte_at(source, label) != b'\n') | (byte_at(source, states) == b's')
+    (byte_or_zero(source, label) != b'\n') | (byte_or_zero(source, states) == b's')
 }
 
 // Do bytes tell that the character whose label begins at a place has neither a label nor state labels, and is unordered? Most characters are such.
@@ -108,7 +108,7 @@ fn is_plain(source: &[u8], label: usize) -> bool
 fn put_label(source: &[u8], at: usize, buffer: &mut [u8], n: usize) -> usize
     ensures { λ r. ⌜ Label·put (now (source .entry)) at (now (buffer .entry)) n (now (buffer .exit)) r ⌝ }
 {
-    if byte_at(source, at) == b'\n' {
+    if byte_or_zero(source, at) == b'\n' {
         return n;
     }
     let m = put(buffer, n, b' ');
@@ -138,7 +138,7 @@ fn put_each(source: &[u8], at: usize, buffer: &mut [u8], n: usize) -> Putting
 fn put_states(source: &[u8], at: usize, buffer: &mut [u8], n: usize) -> Putting
     ensures { λ r. ⌜ States·put form·states (now (source .entry)) at (now (buffer .entry)) n (now (buffer .exit)) r ⌝ }
 {
-    if byte_at(source, at) != b's' {
+    if byte_or_zero(source, at) != b's' {
         return Putting { at, n };
     }
     let m = put_all(buffer, n, b" /");
@@ -212,7 +212,7 @@ fn put_entries(
 fn put_type(source: &[u8], at: usize, buffer: &mut [u8], n: usize) -> usize
     ensures { λ r. ⌜ Type·put (now (source .entry)) at (now (buffer .entry)) n (now (buffer .exit)) r ⌝ }
 {
-    if byte_at(source, at) == b'O' {
+    if byte_or_zero(source, at) == b'O' {
         return put_all(buffer, n, b" ORD");
     }
     put_all(buffer, n, b" UNORD")

@@ -1,5 +1,5 @@
 -- The function `put_decimal` meets its contract: one digit; no digit has room, any number has, or some digits may have. Assumes nothing.
-use Rattle.emit.proofs.DigitsStored.{decimal-one}
+use Rattle.emit.proofs.DigitsStored.{one-digit}
 use Rattle.emit.proofs.PutLaws.{puts-as, puts-past}
 use Rattle.emit.proofs.put_decimal.Statement.{statement}
 use Rattle.emit.proofs.put_decimal.Tie as tie
@@ -18,7 +18,7 @@ same-length c = search needs
 returns : tie.Need-returns
 returns c =
     let p = rw (c .before .before .before .last-digit .ensures) at (c .before .before .put .ensures) in
-    puts-as p (λ behind. decimal-one _ behind (c .before .before .before .before .before .if1 .taken))
+    puts-as p (λ behind. one-digit _ behind (c .before .before .before .before .before .if1 .taken))
 
 digits-of-requires : tie.Need-digits-of-requires
 digits-of-requires c κs = search needs

@@ -1,9 +1,12 @@
 -- The function read_tokens meets its contract: what is parsed of stored tokens is what the text is read as. Assumes nothing.
 use Rattle.lexer.proofs.LexedAnswers.{tokens-lexed}
+use Rattle.lexer.proofs.StoredLaws.{stored-room}
 use Rattle.read.proofs.ReadLaws.{held-delivered, refused-delivered, still-stored}
 use Rattle.read.proofs.read_tokens.Statement.{statement}
 use Rattle.read.proofs.read_tokens.Tie as tie
 use borrow.Author.Needs.{needs}
+use lib.Seq.{length-take-le}
+use mathlib.Core.Path.{sym}
 
 parse-requires : tie.Need-parse-requires
 parse-requires c κs = search needs
@@ -20,11 +23,23 @@ deliver-requires c κs =
 enum-known-n : tie.Need-enum-known-n
 enum-known-n c = search needs
 
+slice-reshare-prefix-refused-at : tie.Need-slice-reshare-prefix-refused-at
+slice-reshare-prefix-refused-at c =
+    let p = c .before .before .before .before .before in
+    let s = p .before .before .before .before .before in
+    stored-room _ _ _ (still-stored _ _ _ _ (s .pre) _ (p .parse .ensures))
+
+slice-aggregate-refused-at : tie.Need-slice-aggregate-refused-at
+slice-aggregate-refused-at c =
+    let p = c .before .before .before .before .before .before in
+    let s = p .before .before .before .before .before in
+    sym (length-take-le _ _ (stored-room _ _ _ (still-stored _ _ _ _ (s .pre) _ (p .parse .ensures))))
+
 refused-at-requires : tie.Need-refused-at-requires
 refused-at-requires c κs =
     let p = c .before .before .before .before .before .before in
     let s = p .before .before .before .before .before in
-    (tokens-lexed _ _ _ (s .pre .told) .short, still-stored _ _ _ _ (s .pre) _ (p .parse .ensures))
+    tokens-lexed _ _ _ (s .pre .told) .short
 
 same-length : tie.Need-same-length
 same-length c = search needs
@@ -58,6 +73,8 @@ read-tokens-spec =
     enum-known-held
     deliver-requires
     enum-known-n
+    slice-reshare-prefix-refused-at
+    slice-aggregate-refused-at
     refused-at-requires
     same-length
     same-length-2

@@ -3,10 +3,10 @@ use Prim.Native.Nat.{ℕ}
 use Rattle.block.proofs.format_options.valid_symbol.Statement.{statement}
 use Rattle.block.proofs.format_options.valid_symbol.Tie as tie
 use Rattle.block.specs.Format.{valid·symbol, invalid}
-use Rattle.lexer.proofs.Basics.{all-under, under-at}
+use Rattle.lexer.proofs.Basics.{all-under, under-at, agree, agree-true}
 use Rattle.lexer.specs.Base.{among, bytes}
 use lib.Dec.{eqb, leb}
-use mathlib.Core.Bool.{Bool, true, false, _&&_, _||_, not, false≢true}
+use mathlib.Core.Bool.{Bool, true, _&&_, _||_, not}
 use mathlib.Core.Path.{_≡_, refl}
 use native.Mathlib.Omega.{arith}
 
@@ -19,17 +19,6 @@ written b =
     let other = eqb b 47 || eqb b 92 || eqb b 60 || eqb b 62 || eqb b 126 || eqb b 94 in
     leb 33 b && leb b 126 && not (bracket || quote || mark || other)
 
-agree : Bool → Bool → Bool
-agree true y = y
-agree false y = not y
-
-agree-equal : (x y : Bool) → agree x y ≡ true → x ≡ y
-unfolding agree
-agree-equal true true e = refl
-agree-equal true false e = absurd (false≢true e)
-agree-equal false true e = absurd (false≢true e)
-agree-equal false false e = refl
-
 agreed : ℕ → Bool
 agreed b = agree (written b) (valid·symbol b)
 
@@ -39,7 +28,7 @@ all-agreed = refl
 
 returns : tie.Need-returns
 unfolding agreed written
-returns c = agree-equal _ _ (under-at agreed 256 (c .args .b) all-agreed (omega arith))
+returns c = agree-true _ _ (under-at agreed 256 (c .args .b) all-agreed (omega arith))
 
 pub valid-symbol-spec : {M : Type 1} → statement M
 valid-symbol-spec = tie.close (tie.spec returns)

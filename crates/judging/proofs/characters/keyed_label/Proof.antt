@@ -20,8 +20,8 @@ label-line-requires c κs = search needs
 enum-known-k : tie.Need-enum-known-k
 enum-known-k c = search needs
 
-byte-at-requires : tie.Need-byte-at-requires
-byte-at-requires c κs = search needs
+byte-or-zero-requires : tie.Need-byte-or-zero-requires
+byte-or-zero-requires c κs = search needs
 
 enum-told : tie.Need-enum-told
 enum-told c = search needs
@@ -31,7 +31,7 @@ enum-told-2 c = search needs
 
 returns : tie.Need-returns
 unfolding bytes
-returns c = let k = c .before .before in let j = k .before .before .before .before in rw (c .byte-at .ensures) (labelled-line _ _ _ (j .before .before .key-at .ensures) _ (j .j .given .1) _ (k .before .before .label-line .ensures) _ (k .k .given .1))
+returns c = let k = c .before .before in let j = k .before .before .before .before in rw (c .byte-or-zero .ensures) (labelled-line _ _ _ (j .before .before .key-at .ensures) _ (j .j .given .1) _ (k .before .before .label-line .ensures) _ (k .k .given .1))
 
 returns-2 : tie.Need-returns-2
 unfolding bytes
@@ -50,7 +50,7 @@ keyed-label-spec =
     enum-known-j
     label-line-requires
     enum-known-k
-    byte-at-requires
+    byte-or-zero-requires
     enum-told
     enum-told-2
     returns

@@ -8,21 +8,21 @@ use borrow.Author.Needs.{needs}
 use mathlib.Core.Path.{sym, _∙_}
 use native.Mathlib.Omega.{arith}
 
-byte-at-requires : tie.Need-byte-at-requires
-byte-at-requires c κs = search needs
+byte-or-zero-requires : tie.Need-byte-or-zero-requires
+byte-or-zero-requires c κs = search needs
 
 add-t5 : tie.Need-add-t5
-add-t5 c = let a = c .before .before .before .args in omega (arith, lf-within (a .source .now) (a .i) (sym (c .before .byte-at .ensures) ∙ c .if1 .taken))
+add-t5 c = let a = c .before .before .before .args in omega (arith, lf-within (a .source .now) (a .i) (sym (c .before .byte-or-zero .ensures) ∙ c .if1 .taken))
 
 returns : tie.Need-returns
 unfolding sound·label empty? pick
-returns c = line-over _ _ sound·label (sym (c .before .byte-at .ensures) ∙ c .if1 .taken)
+returns c = line-over _ _ sound·label (sym (c .before .byte-or-zero .ensures) ∙ c .if1 .taken)
 
 name-line-requires : tie.Need-name-line-requires
 name-line-requires c κs = search needs
 
 returns-2 : tie.Need-returns-2
-returns-2 c = label-name _ _ (λ e. c .before .if1 .left (c .before .before .byte-at .ensures ∙ e)) _ (c .name-line .ensures)
+returns-2 c = label-name _ _ (λ e. c .before .if1 .left (c .before .before .byte-or-zero .ensures ∙ e)) _ (c .name-line .ensures)
 
 pub label-line-spec : {M : Type 1} → statement M
-label-line-spec = tie.close (tie.spec byte-at-requires add-t5 returns name-line-requires returns-2)
+label-line-spec = tie.close (tie.spec byte-or-zero-requires add-t5 returns name-line-requires returns-2)

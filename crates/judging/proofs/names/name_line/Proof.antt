@@ -34,11 +34,11 @@ returns c =
     let l = c .before .before .before .before in
     rw (c .name-end .ensures) (l .loop .inv .back _ (line-over _ _ (name·rest (l .loop .s)) (c .before .if1 .taken)))
 
-add-byte-at : tie.Need-add-byte-at Inv-loop μ-loop
-add-byte-at c = search needs
+add-byte-or-zero : tie.Need-add-byte-or-zero Inv-loop μ-loop
+add-byte-or-zero c = search needs
 
-byte-at-requires : tie.Need-byte-at-requires Inv-loop μ-loop
-byte-at-requires c κs = search needs
+byte-or-zero-requires : tie.Need-byte-or-zero-requires Inv-loop μ-loop
+byte-or-zero-requires c κs = search needs
 
 unescape-requires : tie.Need-unescape-requires Inv-loop μ-loop
 unescape-requires c κs = search needs
@@ -48,7 +48,7 @@ returns-2 c =
     let k = c .before .before .before .before .before in
     let l = k .before .before in
     l .loop .inv .back _
-    (line-no-escape _ _ (k .before .loop-test .taken) (c .before .before .before .if2 .taken) _ (c .before .unescape .ensures ∙ ap unescape (c .before .before .byte-at .ensures)) (name·rest (l .loop .s)) (c .if3 .taken))
+    (line-no-escape _ _ (k .before .loop-test .taken) (c .before .before .before .if2 .taken) _ (c .before .unescape .ensures ∙ ap unescape (c .before .before .byte-or-zero .ensures)) (name·rest (l .loop .s)) (c .if3 .taken))
 
 next-byte-requires : tie.Need-next-byte-requires Inv-loop μ-loop
 next-byte-requires c κs = search needs
@@ -57,7 +57,7 @@ add-at : tie.Need-add-at Inv-loop μ-loop
 add-at c =
     let k = c .before .before .before .before .before .before in
     let l = k .before .before in
-    let within = escape-within (l .before .before .args .source .now) (l .loop .at) (k .before .loop-test .taken) (c .before .before .before .before .if2 .taken) _ (c .before .before .unescape .ensures ∙ ap unescape (c .before .before .before .byte-at .ensures)) (c .before .if3 .left) in
+    let within = escape-within (l .before .before .args .source .now) (l .loop .at) (k .before .loop-test .taken) (c .before .before .before .before .if2 .taken) _ (c .before .before .unescape .ensures ∙ ap unescape (c .before .before .before .byte-or-zero .ensures)) (c .before .if3 .left) in
     omega arith
 
 loop-less : tie.Need-loop-less Inv-loop μ-loop
@@ -68,7 +68,7 @@ loop-again c =
     let k = c .before .before .before .before .before .before in
     let l = k .before .before in
     walking-turn _ _ _ _ _ (l .loop .inv) _ _
-    (line-escape _ _ (k .before .loop-test .taken) (c .before .before .before .before .if2 .taken) _ (c .before .before .unescape .ensures ∙ ap unescape (c .before .before .before .byte-at .ensures)) (c .before .if3 .left) _ _ (c .next-byte .ensures))
+    (line-escape _ _ (k .before .loop-test .taken) (c .before .before .before .before .if2 .taken) _ (c .before .before .unescape .ensures ∙ ap unescape (c .before .before .before .byte-or-zero .ensures)) (c .before .if3 .left) _ _ (c .next-byte .ensures))
 
 wide-at-requires : tie.Need-wide-at-requires Inv-loop μ-loop
 wide-at-requires c κs = search needs
@@ -108,8 +108,8 @@ name-line-spec =
     add-name-end
     name-end-requires
     returns
-    add-byte-at
-    byte-at-requires
+    add-byte-or-zero
+    byte-or-zero-requires
     unescape-requires
     returns-2
     next-byte-requires

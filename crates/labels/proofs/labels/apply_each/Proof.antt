@@ -1,10 +1,11 @@
 -- The function `apply_each` meets its contract: a turn for each command. The measure is how many of the three are left. Assumes nothing.
 use Prim.Native.Nat.{_+_, _-_, _*_, _≤_}
 use Rattle.block.specs.Judged.{judged}
-use Rattle.labels.proofs.LabelCommands.{Applying, applying-start, applying-turn, applying-refused, applying-end, all-fit, both-below, not-below}
+use Rattle.labels.proofs.LabelCommands.{Applying, applying-start, applying-turn, applying-refused, applying-end, all-fit}
 use Rattle.labels.proofs.labels.apply_each.Statement.{statement}
 use Rattle.labels.proofs.labels.apply_each.Tie as tie
 use Rattle.labels.specs.LabelLists.{Fits}
+use Rattle.lexer.proofs.Basics.{both-below, not-below}
 use borrow.Author.Needs.{needs}
 use lib.ListN.{length}
 use mathlib.Core.Path.{_∙_}

@@ -1,12 +1,10 @@
--- The function comment_at meets its contract: a comment has ended behind its mark and within the text. Assumes nothing.
-use Rattle.lexer.proofs.WordEnds.{skip-ahead}
+-- The function comment_at meets its contract: where the comment ends, or that it does not, is what `comment_end` says. Assumes nothing.
 use Rattle.lexer.proofs.lexer_of.comment_at.Statement.{statement}
 use Rattle.lexer.proofs.lexer_of.comment_at.Tie as tie
 use Rattle.lexer.specs.Positions.{passed, passed·comment}
 use Rattle.lexer.specs.declared.lexer_of.Passed.{Passed}
 use borrow.Author.Needs.{needs}
 use mathlib.Core.Path.{sym, ap, _∙_}
-use native.Mathlib.Omega.{arith}
 
 comment-end-requires : tie.Need-comment-end-requires
 comment-end-requires c κs = search needs
@@ -15,11 +13,7 @@ enum-known-to : tie.Need-enum-known-to
 enum-known-to c = search needs
 
 moved-to-requires : tie.Need-moved-to-requires
-moved-to-requires c κs =
-    let e = c .before .before .before in
-    let pre = e .before .before .pre in
-    let ahead = skip-ahead _ _ (pre .0) _ (e .comment-end .ensures) _ (c .before .to .given .1) in
-    record { onward = omega arith; within = ahead .1; short = pre .1 .short; few·lines = pre .1 .few·lines; few·columns = pre .1 .few·columns }
+moved-to-requires c κs = c .before .before .before .before .before .pre .1
 
 enum-told : tie.Need-enum-told
 enum-told c = search needs

@@ -40,7 +40,7 @@ use denote.Triple.Table.{cited}
 use denote.Triple.Walked.{says, needs, Stays, stay-none, stay-none-slice, walkOf, goes-none, goes-none-slice, ends-at, walked}
 use denote.Exit.{yes}
 use Rattle.lexer.specs.Places.{place}
-use Rattle.lexer.specs.Positions.{Reaches, start, moved·to, lexer·at, place·of}
+use Rattle.lexer.specs.Positions.{Bounded, start, moved·to, lexer·at, place·of}
 use Rattle.lexer.specs.declared.Place.{Place}
 use Rattle.lexer.specs.declared.lexer_of.Lexer.{Lexer}
 use Rattle.lexer.proofs.HeldText.{slice, Text, answered, self, calls-fm, walk-enters}
@@ -72,9 +72,9 @@ stayed = (stay-none-slice (0 ∷ []) tt (plain (λ _. u8)) yes, (stay-none (λ _
 abbrev skipped : Lexer → ℕ → Lexer
 skipped r n = lexer·at (r .text) (moved·to (now (r .text)) (r .at) (r .line) (r .column) n)
 
--- from the front the byte can be reached, and its place is the one that is asked for
-reached : (s : RefT (List ℕ)) (n : ℕ) (r : Lexer) → (n ≤ length (now s)) × (length (now s) ≤ 1048576) → r ≡ lexer·at s start → Reaches (now (r .text)) (r .at) (r .line) (r .column) n
-reached s n r ok e = rw e (record { onward = omega arith; within = ok .0; short = ok .1; few·lines = omega arith; few·columns = omega arith })
+-- at the front line and column are small, and from there on the place is the one that is asked for
+bounded : (s : RefT (List ℕ)) (r : Lexer) → length (now s) ≤ 1048576 → r ≡ lexer·at s start → Bounded (now (r .text)) (r .line) (r .column)
+bounded s r ok e = rw e (record { short = ok; few·lines = omega arith; few·columns = omega arith })
 
 placed : (s : RefT (List ℕ)) (n : ℕ) (r r′ : Lexer) (t : Place) → r ≡ lexer·at s start → r′ ≡ skipped r n → t ≡ place·of r′ → t ≡ place (now s) n
 unfolding place moved·to
@@ -92,7 +92,7 @@ module _ {M : Type 1} (𝓤 : URA M) (H : Heap 𝓤) (A : Atoms 𝓤) (mem : Mem
   LexerPlace = tripleOf 𝓤 H A lexer-place.signature (lexer-place.spec 𝓤 H A mem run)
 
 module _ {M : Type 1} (𝓤 : URA M) (H : Heap 𝓤) (A : Atoms 𝓤) (W : Given 𝓤 H A) (mem : Memory → SProp 𝓤) (run : Routine → Fun 𝓤)
-    (κ : Lft) (q : Share) (s : RefT (List ℕ)) (n : ℕ) (n-fits : n < 2 ^ 64) (ok : (n ≤ length (now s)) × (length (now s) ≤ 1048576)) where
+    (κ : Lft) (q : Share) (s : RefT (List ℕ)) (n : ℕ) (n-fits : n < 2 ^ 64) (ok : length (now s) ≤ 1048576) where
   -- the struct's type as a local of a body has it
   abbrev αᵉ : NamedLft
   αᵉ = record { mir = erased; lft = κ }
@@ -120,7 +120,7 @@ module _ {M : Type 1} (𝓤 : URA M) (H : Heap 𝓤) (A : Atoms 𝓤) (W : Given
 
   goes-skip : (r : Lexer) (u : Val) → r ≡ lexer·at s start → ent 𝓤 (⋆ 𝓤 H A (‵ (self (κ, tt) .own r (u ∷ [])) ∷ (‵ (flft κ q) ⊛ ‵ ftrue) ∷ [])) (SkipTo 𝓤 H A mem run .pre (to-skip r u))
   goes-skip r u e =
-      qed W (‵ (self (κ, tt) .own r (u ∷ [])) ∷ (‵ (flft κ q) ⊛ ‵ ftrue) ∷ []) ∵ says ! (reached s n r ok e) $ move ! (1 ∷ []) $ frame ! $
+      qed W (‵ (self (κ, tt) .own r (u ∷ [])) ∷ (‵ (flft κ q) ⊛ ‵ ftrue) ∷ []) ∵ says ! (bounded s r ok e) $ move ! (1 ∷ []) $ frame ! $
       nothing ! $ owned ! usize (Is usize) (uint-makes 𝓤 H A W w64) n _ (refl, n-fits) $ fjoin ! $ move ! (1 ∷ 0 ∷ []) $ fjoin ! $ done !
 
   -- the call of `place`

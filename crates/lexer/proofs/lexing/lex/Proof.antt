@@ -1,5 +1,5 @@
 -- The function `lex` meets its contract: its refusals in order, then the walk over the text. Assumes nothing.
-use Rattle.lexer.proofs.LexedAnswers.{open-within, answer-long, answer-short, answer-invalid, answer-tokens, answer-open}
+use Rattle.lexer.proofs.LexedAnswers.{answer-long, answer-short, answer-invalid, answer-tokens, answer-open}
 use Rattle.lexer.proofs.lexing.lex.Statement.{statement}
 use Rattle.lexer.proofs.lexing.lex.Tie as tie
 use borrow.Author.Needs.{needs}
@@ -45,9 +45,7 @@ enum-known-refusal : tie.Need-enum-known-refusal
 enum-known-refusal c = search needs
 
 place-at-requires : tie.Need-place-at-requires
-place-at-requires c κs =
-    let w = c .before .before .before .before .before in
-    (open-within _ _ _ (sym (c .before .refusal .given .1) ∙ w .store-starts .ensures .0), w .before .before .before .before .before .if1 .left)
+place-at-requires c κs = c .before .before .before .before .before .before .before .before .before .before .if1 .left
 
 same-length : tie.Need-same-length
 same-length c = search needs

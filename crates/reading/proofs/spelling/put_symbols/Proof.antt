@@ -1,6 +1,7 @@
 -- The function `put_symbols` meets its contract. Assumes nothing.
+use Rattle.block.proofs.SymbolsDiffer.{states-taken}
 use Rattle.emit.proofs.PutLaws.{puts-as}
-use Rattle.reading.proofs.HeadPieces.{symbols-few, symbols-first}
+use Rattle.reading.proofs.HeadPieces.{symbols-few}
 use Rattle.reading.proofs.spelling.put_symbols.Statement.{statement}
 use Rattle.reading.proofs.spelling.put_symbols.Tie as tie
 use borrow.Author.Needs.{needs}
@@ -30,7 +31,7 @@ returns : tie.Need-returns
 returns c =
     let p = c .before .before in
     let s = p .before .before .before in
-    puts-as (p .put-all .ensures) (λ behind. ap (λ l. l ++ behind) (symbols-first (s .before .before .before .args .format) _ (s .states .ensures .0)))
+    puts-as (p .put-all .ensures) (λ behind. ap (λ l. l ++ behind) (states-taken (s .before .before .before .args .format) _ (s .states .ensures .0)))
 
 pub put-symbols-spec : {M : Type 1} → statement M
 put-symbols-spec =

@@ -1,7 +1,8 @@
 -- The function `put_members` meets its contract. A turn puts one state of the set. The measure is what is left of the bytes. Assumes nothing.
 use Prim.Native.Nat.{_-_, _≤_}
+use Rattle.lexer.proofs.ListLaws.{some-within}
 use Rattle.writing.proofs.MembersPut.{Members, members-end, members-none, members-start, members-turn}
-use Rattle.writing.proofs.SignsRead.{byte-within, sign-ahead}
+use Rattle.writing.proofs.SignsRead.{sign-ahead}
 use Rattle.writing.proofs.cells.put_members.Statement.{statement}
 use Rattle.writing.proofs.cells.put_members.Tie as tie
 use borrow.Author.Needs.{needs}
@@ -25,8 +26,8 @@ sign-at-requires c κs = search needs
 put-requires : tie.Need-put-requires Inv-loop μ-loop
 put-requires c κs = search needs
 
-byte-at-requires : tie.Need-byte-at-requires Inv-loop μ-loop
-byte-at-requires c κs = search needs
+byte-or-zero-requires : tie.Need-byte-or-zero-requires Inv-loop μ-loop
+byte-or-zero-requires c κs = search needs
 
 same-length : tie.Need-same-length Inv-loop μ-loop
 same-length c = let p = c .before .before .before .before in p .put .ensures .kept ∙ p .before .before .before .before .loop .inv .1
@@ -36,18 +37,18 @@ returns c =
     let p = c .before .before .before .before in
     let s = p .before .before in
     let l = s .before .before .loop in
-    (omega (arith, sign-ahead _ _ _ _ (s .sign-at .ensures)), members-end _ _ _ _ _ _ _ _ (l .inv .2) _ (s .sign-at .ensures) _ _ (p .put .ensures) (λ e. c .if1 .taken (c .before .byte-at .ensures ∙ e)))
+    (omega (arith, sign-ahead _ _ _ _ (s .sign-at .ensures)), members-end _ _ _ _ _ _ _ _ (l .inv .2) _ (s .sign-at .ensures) _ _ (p .put .ensures) (λ e. c .if1 .taken (c .before .byte-or-zero .ensures ∙ e)))
 
 add-at : tie.Need-add-at Inv-loop μ-loop
 add-at c =
-    let dot = sym (c .before .byte-at .ensures) ∙ c .if1 .left in
-    omega (arith, byte-within (now (c .before .before .before .before .before .before .before .before .before .before .before .args .source)) (c .before .before .before .before .before .before .sign-at .result .at) (λ z. omega arith))
+    let dot = sym (c .before .byte-or-zero .ensures) ∙ c .if1 .left in
+    omega (arith, some-within (now (c .before .before .before .before .before .before .before .before .before .before .before .args .source)) (c .before .before .before .before .before .before .sign-at .result .at) (λ z. omega arith))
 
 loop-less : tie.Need-loop-less Inv-loop μ-loop
 loop-less c =
-    let dot = sym (c .before .byte-at .ensures) ∙ c .if1 .left in
+    let dot = sym (c .before .byte-or-zero .ensures) ∙ c .if1 .left in
     let s = c .before .before .before .before .before .before in
-    omega (arith, byte-within (now (s .before .before .before .before .before .args .source)) (s .sign-at .result .at) (λ z. omega arith), sign-ahead _ _ _ _ (s .sign-at .ensures))
+    omega (arith, some-within (now (s .before .before .before .before .before .args .source)) (s .sign-at .result .at) (λ z. omega arith), sign-ahead _ _ _ _ (s .sign-at .ensures))
 
 loop-again : tie.Need-loop-again Inv-loop μ-loop
 loop-again c =
@@ -56,7 +57,7 @@ loop-again c =
     let l = s .before .before .loop in (
       omega (arith, sign-ahead _ _ _ _ (s .sign-at .ensures)),
       p .put .ensures .kept ∙ l .inv .1,
-      members-turn _ _ _ _ _ _ _ _ (l .inv .2) _ (s .sign-at .ensures) _ _ (p .put .ensures) (sym (c .before .byte-at .ensures) ∙ c .if1 .left),
+      members-turn _ _ _ _ _ _ _ _ (l .inv .2) _ (s .sign-at .ensures) _ _ (p .put .ensures) (sym (c .before .byte-or-zero .ensures) ∙ c .if1 .left),
     )
 
 same-length-2 : tie.Need-same-length-2 Inv-loop μ-loop
@@ -74,7 +75,7 @@ put-members-spec =
     loop-holds
     sign-at-requires
     put-requires
-    byte-at-requires
+    byte-or-zero-requires
     same-length
     returns
     add-at

@@ -23,14 +23,14 @@ shared-slice-read-if3 c = search needs
 returns-3 : tie.Need-returns-3
 returns-3 c = λ some. absurd (some refl)
 
-shared-slice-read-sign-of : tie.Need-shared-slice-read-sign-of
-shared-slice-read-sign-of c = search needs
+shared-slice-read-entry-of : tie.Need-shared-slice-read-entry-of
+shared-slice-read-entry-of c = search needs
 
-sign-of-requires : tie.Need-sign-of-requires
-sign-of-requires c κs = search needs
+entry-of-requires : tie.Need-entry-of-requires
+entry-of-requires c κs = search needs
 
 returns-4 : tie.Need-returns-4
-returns-4 c = λ some. record { inside = omega (arith, c .before .before .before .before .if2 .left); blank = c .before .before .if3 .left; sign = c .sign-of .ensures }
+returns-4 c = λ some. record { inside = omega (arith, c .before .before .before .before .if2 .left); blank = c .before .before .if3 .left; sign = c .entry-of .ensures }
 
 pub short-sign-spec : {M : Type 1} → statement M
 short-sign-spec =
@@ -42,6 +42,6 @@ short-sign-spec =
     add-if3
     shared-slice-read-if3
     returns-3
-    shared-slice-read-sign-of
-    sign-of-requires
+    shared-slice-read-entry-of
+    entry-of-requires
     returns-4)

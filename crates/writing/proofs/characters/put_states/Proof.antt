@@ -4,11 +4,11 @@ use Rattle.writing.proofs.characters.put_states.Statement.{statement}
 use Rattle.writing.proofs.characters.put_states.Tie as tie
 use borrow.Author.Needs.{needs}
 
-byte-at-requires : tie.Need-byte-at-requires
-byte-at-requires c κs = search needs
+byte-or-zero-requires : tie.Need-byte-or-zero-requires
+byte-or-zero-requires c κs = search needs
 
 returns : tie.Need-returns
-returns c = slash-none _ _ _ (c .before .byte-at .ensures) (c .if1 .taken)
+returns c = slash-none _ _ _ (c .before .byte-or-zero .ensures) (c .if1 .taken)
 
 slice-aggregate-put-all : tie.Need-slice-aggregate-put-all
 slice-aggregate-put-all c = search needs
@@ -23,13 +23,13 @@ same-length : tie.Need-same-length
 same-length c = search needs
 
 returns-2 : tie.Need-returns-2
-returns-2 c = slash-some _ _ _ (c .before .before .before .before .before .before .before .before .before .before .byte-at .ensures) (c .before .before .before .before .before .before .before .before .before .if1 .left) (c .before .before .before .before .before .before .put-all .ensures) (c .before .before .put-each .ensures)
+returns-2 c = slash-some _ _ _ (c .before .before .before .before .before .before .before .before .before .before .byte-or-zero .ensures) (c .before .before .before .before .before .before .before .before .before .if1 .left) (c .before .before .before .before .before .before .put-all .ensures) (c .before .before .put-each .ensures)
 
 pub put-states-spec : {M : Type 1} → statement M
 put-states-spec =
     tie.close
     (tie.spec
-    byte-at-requires
+    byte-or-zero-requires
     returns
     slice-aggregate-put-all
     put-all-requires

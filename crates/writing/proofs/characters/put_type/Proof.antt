@@ -5,8 +5,8 @@ use Rattle.writing.proofs.characters.put_type.Statement.{statement}
 use Rattle.writing.proofs.characters.put_type.Tie as tie
 use borrow.Author.Needs.{needs}
 
-byte-at-requires : tie.Need-byte-at-requires
-byte-at-requires c κs = search needs
+byte-or-zero-requires : tie.Need-byte-or-zero-requires
+byte-or-zero-requires c κs = search needs
 
 slice-aggregate-put-all : tie.Need-slice-aggregate-put-all
 slice-aggregate-put-all c = search needs
@@ -19,7 +19,7 @@ same-length c = search needs
 
 returns : tie.Need-returns
 unfolding bytes
-returns c = ordered-put _ _ _ (c .before .before .before .before .before .before .byte-at .ensures) (c .before .before .before .before .before .if1 .taken) (c .before .before .put-all .ensures)
+returns c = ordered-put _ _ _ (c .before .before .before .before .before .before .byte-or-zero .ensures) (c .before .before .before .before .before .if1 .taken) (c .before .before .put-all .ensures)
 
 slice-aggregate-put-all-2 : tie.Need-slice-aggregate-put-all-2
 slice-aggregate-put-all-2 c = search needs
@@ -32,13 +32,13 @@ same-length-2 c = search needs
 
 returns-2 : tie.Need-returns-2
 unfolding bytes
-returns-2 c = unordered-put _ _ _ (c .before .before .before .before .before .before .byte-at .ensures) (c .before .before .before .before .before .if1 .left) (c .before .before .put-all2 .ensures)
+returns-2 c = unordered-put _ _ _ (c .before .before .before .before .before .before .byte-or-zero .ensures) (c .before .before .before .before .before .if1 .left) (c .before .before .put-all2 .ensures)
 
 pub put-type-spec : {M : Type 1} → statement M
 put-type-spec =
     tie.close
     (tie.spec
-    byte-at-requires
+    byte-or-zero-requires
     slice-aggregate-put-all
     put-all-requires
     same-length

@@ -28,7 +28,7 @@ use denote.Triple.Entry.{onEntry}
 use denote.Triple.Spec.{tripleOf}
 use denote.Triple.Table.{cited}
 use denote.Triple.Walked.{needs}
-use Rattle.lexer.specs.Positions.{passed·comment, Reaches}
+use Rattle.lexer.specs.Positions.{passed·comment, Bounded}
 use Rattle.lexer.specs.declared.lexer_of.Lexer.{Lexer}
 use Rattle.lexer.specs.declared.lexer_of.Passed.{Passed}
 use Rattle.lexer.proofs.HeldText.{slice, Own, numbers, words, handed, answered, calls-fm, Typed, fits, Post, method-ends, method-enters}
@@ -50,7 +50,7 @@ module _ {M : Type 1} (𝓤 : URA M) (H : Heap 𝓤) (A : Atoms 𝓤) (mem : Mem
   CommentAt = tripleOf 𝓤 H A comment-at.signature (comment-at.spec 𝓤 H A mem run)
 
 module _ {M : Type 1} (𝓤 : URA M) (H : Heap 𝓤) (A : Atoms 𝓤) (W : Given 𝓤 H A) (mem : Memory → SProp 𝓤) (run : Routine → Fun 𝓤)
-    (κ : Lft) (q : Share) (d : Lexer) (wt : Typed d) (ok : (d .at < length (now (d .text))) × Reaches (now (d .text)) (d .at) (d .line) (d .column) (length (now (d .text)))) where
+    (κ : Lft) (q : Share) (d : Lexer) (wt : Typed d) (ok : (d .at < length (now (d .text))) × Bounded (now (d .text)) (d .line) (d .column)) where
   abbrev mach : Val
   mach = T′.lowered d
 

@@ -34,7 +34,7 @@ use denote.Triple.Spec.{tripleOf}
 use denote.Triple.Table.{cited}
 use denote.Triple.Walked.{says, needs, Stays, stay-none, walkOf, goes-none, ends-at, walked}
 use denote.Exit.{yes}
-use Rattle.lexer.specs.Positions.{Reaches, moved·to, lexer·at}
+use Rattle.lexer.specs.Positions.{Bounded, moved·to, lexer·at}
 use Rattle.lexer.specs.declared.lexer_of.Lexer.{Lexer}
 use Rattle.lexer.specs.declared.lexer_of.Position.{Position}
 use Rattle.lexer.proofs.HeldText.{slice, Fit, Own, Text, text-apart, text-held, numbers, words, numbers-owned, handed, answered, calls-fm, walk-enters, self, self-vals, self-tells, Typed, typed, fits}
@@ -59,7 +59,7 @@ module _ {M : Type 1} (𝓤 : URA M) (H : Heap 𝓤) (A : Atoms 𝓤) (mem : Mem
   MovedTo = tripleOf 𝓤 H A moved-to.signature (moved-to.spec 𝓤 H A mem run)
 
 module _ {M : Type 1} (𝓤 : URA M) (H : Heap 𝓤) (A : Atoms 𝓤) (W : Given 𝓤 H A) (mem : Memory → SProp 𝓤) (run : Routine → Fun 𝓤)
-    (κ : Lft) (q : Share) (d : Lexer) (n : ℕ) (wt : Typed d) (n-fits : n < 2 ^ 64) (ok : Reaches (now (d .text)) (d .at) (d .line) (d .column) n) where
+    (κ : Lft) (q : Share) (d : Lexer) (n : ℕ) (wt : Typed d) (n-fits : n < 2 ^ 64) (ok : Bounded (now (d .text)) (d .line) (d .column)) where
   abbrev mach : Val
   mach = T′.lowered d
 
