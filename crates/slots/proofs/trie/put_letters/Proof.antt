@@ -7,6 +7,7 @@ use Rattle.slots.specs.Trie.{letters·left}
 use borrow.Author.Needs.{needs}
 use borrow.Author.Tests.{not-false}
 use lib.ListN.{length, length-set}
+use mathlib.Core.Path.{_∙_}
 use native.Mathlib.Omega.{arith}
 
 abbrev Inv-loop : tie.InvT-loop
@@ -103,7 +104,7 @@ same-length-2 c =
     let l = t .before .before in
     let room = t .before .node-room .ensures (not-false _ (t .if1 .left)) in
     let size = put-size _ _ _ _ _ (l .loop .inv) (n .before .before .letter-at .ensures) (room .0) (n .put-node .ensures) in
-    growing-end _ _ _ _ _ (growing-last _ _ _ _ _ (l .loop .inv) (n .before .before .letter-at .ensures) (room .0) (n .put-node .ensures) (c .if2 .taken)) (l .before .before .before .pre .1) (omega (arith, size, room .0, l .loop .inv .size, l .before .before .before .pre .0 .space)) (omega (arith, size, room .0, l .loop .inv .size, l .before .before .before .pre .0 .space)) .size
+    simp length-set (size ∙ l .loop .inv .size)
 
 returns-2 : tie.Need-returns-2 Inv-loop μ-loop
 returns-2 c =
