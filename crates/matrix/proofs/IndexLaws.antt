@@ -13,8 +13,7 @@ use Rattle.matrix.specs.RowIndex.{row·alike, Indexed, Row·room, Row·p
 use Rattle.slots.proofs.EnteringLaws.{entered-same, slot-behind}
 use Rattle.slots.proofs.HashLaws.{alike-hash}
 use Rattle.slots.proofs.LetterLaws.{alike-letters}
-use Rattle.slots.proofs.SeekingLaws.{First}
-use Rattle.slots.proofs.SoughtLaws.{Sought, sought-start, sought-turn, sought-end, sought-none, sought-value}
+use Rattle.slots.proofs.SoughtLaws.{First, Sought, sought-start, sought-turn, sought-end, sought-none, sought-value}
 use Rattle.slots.specs.Entering.{Entered·from, Entered, Name·entered, window·end}
 use Rattle.slots.specs.Filling.{slot·of}
 use Rattle.slots.specs.Hashes.{hash}

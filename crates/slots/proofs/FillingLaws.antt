@@ -67,16 +67,6 @@ none-kept work p end v h free some k =
     (λ e. omega (arith, k .taken p (omega arith) (ltb-true p (k .place) e)))
     (λ e. let n = ltb-false p (k .place) e in let same : k .place ≡ p = omega (arith, k .ahead) in omega (arith, rw same at (k .holds (omega arith))))
 
--- What is kept is so in any work memory that is the same from its slot on.
-pub kept-same : (work other : List ℕ) (base from end v : ℕ) → base ≤ from → ((q : ℕ) → base ≤ q → getD other q 0 ≡ getD work q 0) → Kept work from end v → Kept other from end v
-kept-same work other base from end v l same k =
-    record {
-      place = k .place;
-      ahead = k .ahead;
-      taken = λ q a b. rw (same q (omega arith)) (k .taken q a b);
-      holds = λ a. same (k .place) (omega (arith, k .ahead)) ∙ k .holds a;
-    }
-
 -- A slot behind the front of a table is cleared.
 pub cleared-more : (before work : List ℕ) (base p v : ℕ) → Cleared before work base → base ≤ p → Cleared before (set work p v) base
 cleared-more before work base p v k h = record { size = length-set work p v ∙ k .size; front = take-set-le base work p v h ∙ k .front }

@@ -1,7 +1,6 @@
 -- What the proofs of this crate rest on, and what other crates may cite.
 pub mod HashLaws
 pub mod FillingLaws
-pub mod SeekingLaws
 pub mod LetterLaws
 pub mod TrieLaws
 pub mod ReachLaws

@@ -2,17 +2,22 @@
 use Prim.Native.Nat.{ℕ, _+_, _≤_, _<_}
 use Rattle.lexer.proofs.Basics.{by-test}
 use Rattle.slots.proofs.FillingLaws.{none-kept}
-use Rattle.slots.proofs.SeekingLaws.{First}
 use Rattle.slots.specs.Entering.{Entered·from}
 use Rattle.slots.specs.Seeking.{Nearer}
 use Rattle.slots.specs.Trie.{Led}
 use borrow.Author.Tests.{ltb-true, ltb-false}
 use lib.Dec.{ltb}
 use lib.ListN.{getD}
-use mathlib.Core.Bool.{Bool, true}
+use mathlib.Core.Bool.{Bool, true, false}
 use mathlib.Core.List.{List}
 use mathlib.Core.Path.{_≡_, sym, _∙_}
 use native.Mathlib.Omega.{arith}
+
+-- The first of so many things of which the test holds, or their count where it holds of none.
+pub record First (test : ℕ → Bool) (count r : ℕ) : Type 0 where
+  pub few : r ≤ count
+  pub hit : r < count → test r ≡ true
+  pub miss : (k : ℕ) → k < r → test k ≡ false
 
 -- What is entered from a slot on that is taken by another number is entered from the next on.
 pub entered-next : {work : List ℕ} {p stop head v : ℕ} {ls : List ℕ} → p < stop → (getD work p 0 ≡ v → ⊥) → Entered·from work p stop head ls v → Entered·from work (p + 1) stop head ls v
