@@ -1,6 +1,6 @@
-// The names of rows, whether no two are alike, ASCII case ignored. Up to some thousand are entered into a table. A name is looked for from its slot on up
-// to a free one; where the table ends first, all names that were entered are looked at. More names are sifted (filter.rt), and those that this cannot
-// tell are kept in order (ordered.rt).
+// The names of rows, whether no two are alike, ASCII case ignored. Up to two hundred are entered into a table. A name is looked for from its slot on up to
+// a free one; where the table ends first, all names that were entered are looked at. More names are sifted (filter.rt), and those that this cannot tell
+// are kept in order (ordered.rt).
 
 ghost use Prim.Native.Nat.{_≤_};
 ghost use Rattle.block.specs.Names.{known};
@@ -228,16 +228,6 @@ fn few_differ(source: &[u8], at: usize, taxa: TaxonNumber, characters: Character
     entered_differ(source, at, taxa, characters, &mut slots, &mut places)
 }
 
-// The same with room for some thousand names.
-fn many_differ(source: &[u8], at: usize, taxa: TaxonNumber, characters: CharacterNumber) -> bool
-    requires { ⌜ taxa .0 ≤ 5200 ⌝ }
-    ensures { λ r. ⌜ Names·judged (now (source .entry)) at (taxa .0) (characters .0) r ⌝ }
-{
-    let mut slots = [0u32; 16384];
-    let mut places = [0usize; 5200];
-    entered_differ(source, at, taxa, characters, &mut slots, &mut places)
-}
-
 // Do the names of so many rows at a place, with so many cells each, differ, ASCII case ignored?
 pub fn names_differ(
     source: &[u8],
@@ -249,9 +239,6 @@ pub fn names_differ(
 {
     if taxa.0 <= 200 {
         return few_differ(source, at, taxa, characters);
-    }
-    if taxa.0 <= 5200 {
-        return many_differ(source, at, taxa, characters);
     }
     match compare_names(source, at, taxa, characters) {
         Compared::Differ => {

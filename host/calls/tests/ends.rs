@@ -1,6 +1,7 @@
 //! The order of refusals, the lengths of texts, and texts near the limit.
 
 use calls::{Checker, Met};
+use inputs::taxa::{self, Declared};
 use inputs::{MEGABYTE, example};
 use nexus::{Refusal, read_into, work_needed};
 use oracle::answer::Answer;
@@ -142,6 +143,29 @@ fn late_faults() {
             let text = String::from_utf8_lossy(&text).replace(from, to);
             checked(to, text.as_bytes());
         }
+    }
+}
+
+/// Names whose slots lie together, declared and not: all differ, or two are alike, or one has no row.
+#[test]
+#[cfg_attr(not(archive), ignore = "no archive; tools/test-calls makes it")]
+fn names_that_collide() {
+    const TAXA: usize = 2_000;
+    let names = taxa::colliding(TAXA, 4 * TAXA + 1);
+    for declared in [Declared::No, Declared::InOrder, Declared::Reversed] {
+        let text = taxa::text(&names, 1, declared);
+        assert_eq!(checked("names", &text), Met::Taken);
+        for (first, second) in [(0, 1), (0, TAXA - 1), (15, 17), (1_000, 1_900)] {
+            let mut twice = names.clone();
+            twice[second] = names[first].to_ascii_uppercase();
+            let text = taxa::text(&twice, 1, declared);
+            assert_eq!(checked("a name twice", &text), Met::Refused(18));
+        }
+        let text = String::from_utf8(text).expect("UTF-8");
+        let other = text.replace(&format!("{} ", names[1_234]), "other ");
+        let met = checked("another name", other.as_bytes());
+        let refused = declared != Declared::No;
+        assert_eq!(met == Met::Refused(25), refused, "{met:?}");
     }
 }
 

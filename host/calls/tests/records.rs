@@ -2,6 +2,7 @@
 //! records at the limits.
 
 use calls::{Checker, Met, Question, explained};
+use inputs::taxa::{self, Declared};
 use inputs::{MEGABYTE, example};
 use nexus::{Refusal, lookup, write_into};
 use oracle::answer::{self, Answer, ENOUGH};
@@ -437,6 +438,32 @@ fn a_name_twice_anywhere() {
             format!("\nname={second:x}\n"),
             format!("\nname={first:X}\n"),
         );
+        let record = record.replace(&own, &other);
+        assert_eq!(lent(record.as_bytes(), 0), Err(31), "{first} and {second}");
+    }
+}
+
+/// The same where names crowd the words by which they are sifted, so that they are kept in order.
+#[test]
+#[cfg_attr(not(archive), ignore = "no archive; tools/test-calls makes it")]
+fn a_name_twice_in_a_crowd() {
+    const TAXA: usize = 20_000;
+    let names = taxa::crowding(TAXA);
+    let record = String::from_utf8(record_of(&taxa::text(&names, 1, Declared::No)));
+    let record = record.expect("UTF-8");
+    assert_eq!(lent(record.as_bytes(), MEGABYTE).map(|_| ()), Ok(()));
+    let last = TAXA - 1;
+    for (first, second) in [
+        (0, 1),
+        (0, last),
+        (last - 1, last),
+        (7_999, 8_000),
+        (15_999, 16_000),
+        (16_000, last),
+        (123, 17_000),
+    ] {
+        let own = format!("\nname={}\n", names[second]);
+        let other = format!("\nname={}\n", names[first].to_ascii_uppercase());
         let record = record.replace(&own, &other);
         assert_eq!(lent(record.as_bytes(), 0), Err(31), "{first} and {second}");
     }

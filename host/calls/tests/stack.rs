@@ -53,7 +53,10 @@ fn a_small_stack_is_enough() {
             named(9_000, taxa::commented, Declared::InOrder),
         ),
         ("names that collide", together(2_000, 8_001)),
-        ("names that collide in a record", together(9_000, 16_001)),
+        (
+            "names that crowd a record",
+            taxa::text(&taxa::crowding(9_000), 1, Declared::No),
+        ),
         ("pages", inputs::pages(50, 1_200, 60)),
         ("pages of many taxa", inputs::pages(9_000, 4, 2)),
         ("sets", inputs::standard(50, 500, true)),

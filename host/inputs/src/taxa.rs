@@ -85,18 +85,42 @@ pub fn colliding(taxa: usize, slots: usize) -> Vec<String> {
     const ALL: usize = 26usize.pow(5);
     let stretch = slots * taxa / ALL + 1;
     let near = (0..ALL).filter(|taxon| hash(five_letters(*taxon)) % slots < stretch);
-    let names = near.take(taxa).map(five_letters);
-    names
-        .map(|name| name.map(char::from).iter().collect())
+    near.take(taxa)
+        .map(|taxon| word(five_letters(taxon)))
         .collect()
+}
+
+/// So many names of six letters whose bits stand in few of the words by which the names of a record
+/// are sifted (crates/naming, filter.rt), so that most of them are suspects. They are as few words as
+/// leave so many names.
+pub fn crowding(taxa: usize) -> Vec<String> {
+    const ALL: usize = 26usize.pow(6);
+    const WORDS: usize = 16_384;
+    let share = (taxa as f64 / ALL as f64).sqrt();
+    let few = (1.1 * share * WORDS as f64) as usize + 1;
+    let marked = |h: usize| h / 262_144 < few && h * MIXED % (1 << 32) / 262_144 < few;
+    let near = (0..ALL).filter(|taxon| marked(hash(six_letters(*taxon))));
+    near.take(taxa)
+        .map(|taxon| word(six_letters(taxon)))
+        .collect()
+}
+
+fn word<const N: usize>(letters: [u8; N]) -> String {
+    letters.map(char::from).iter().collect()
 }
 
 fn five_letters(taxon: usize) -> [u8; 5] {
     [1, 26, 676, 17_576, 456_976].map(|unit| LETTERS[taxon / unit % 26])
 }
 
+fn six_letters(taxon: usize) -> [u8; 6] {
+    [1, 26, 676, 17_576, 456_976, 11_881_376].map(|unit| LETTERS[taxon / unit % 26])
+}
+
+const MIXED: usize = 2_654_435_761;
+
 /// The number of a name, as crates/slots/specs/Hashes.antt defines it.
-fn hash(name: [u8; 5]) -> usize {
-    let mixed = |h: usize, byte: u8| (h + usize::from(byte)) * 2_654_435_761 % (1 << 32);
+fn hash<const N: usize>(name: [u8; N]) -> usize {
+    let mixed = |h: usize, byte: u8| (h + usize::from(byte)) * MIXED % (1 << 32);
     name.into_iter().fold(0, mixed)
 }

@@ -9,26 +9,20 @@ few-differ-requires c κs = search needs
 returns : tie.Need-returns
 returns c = search needs
 
-many-differ-requires : tie.Need-many-differ-requires
-many-differ-requires c κs = search needs
-
-returns-2 : tie.Need-returns-2
-returns-2 c = search needs
-
 compare-names-requires : tie.Need-compare-names-requires
 compare-names-requires c κs = search needs
 
 enum-told : tie.Need-enum-told
 enum-told c = search needs
 
-returns-3 : tie.Need-returns-3
-returns-3 c = c .before .before .compare-names .ensures .differ (c .enum-told .given .1)
+returns-2 : tie.Need-returns-2
+returns-2 c = c .before .before .compare-names .ensures .differ (c .enum-told .given .1)
 
 enum-told-2 : tie.Need-enum-told-2
 enum-told-2 c = search needs
 
-returns-4 : tie.Need-returns-4
-returns-4 c = c .before .before .compare-names .ensures .twice (c .enum-told2 .given .1)
+returns-3 : tie.Need-returns-3
+returns-3 c = c .before .before .compare-names .ensures .twice (c .enum-told2 .given .1)
 
 enum-told-3 : tie.Need-enum-told-3
 enum-told-3 c = search needs
@@ -36,8 +30,8 @@ enum-told-3 c = search needs
 ordered-differ-requires : tie.Need-ordered-differ-requires
 ordered-differ-requires c κs = search needs
 
-returns-5 : tie.Need-returns-5
-returns-5 c = search needs
+returns-4 : tie.Need-returns-4
+returns-4 c = search needs
 
 pub names-differ-spec : {M : Type 1} → statement M
 names-differ-spec =
@@ -45,13 +39,11 @@ names-differ-spec =
     (tie.spec
     few-differ-requires
     returns
-    many-differ-requires
-    returns-2
     compare-names-requires
     enum-told
-    returns-3
+    returns-2
     enum-told-2
-    returns-4
+    returns-3
     enum-told-3
     ordered-differ-requires
-    returns-5)
+    returns-4)

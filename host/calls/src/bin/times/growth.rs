@@ -73,8 +73,8 @@ const MORE: &[Shape] = &[
     ("colliding names, 70,000 declared", 70_000, |n| {
         taxa::text(&taxa::colliding(n, 4 * n + 1), 1, Declared::InOrder)
     }),
-    ("names colliding in a record, 120,000", 120_000, |n| {
-        taxa::text(&taxa::colliding(n, 16_001), 1, Declared::No)
+    ("names that crowd a record, 110,000", 110_000, |n| {
+        taxa::text(&taxa::crowding(n), 1, Declared::No)
     }),
 ];
 
