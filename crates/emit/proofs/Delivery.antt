@@ -1,6 +1,6 @@
 -- A piece delivered: the place behind it, where it is put into a scratch, measures it, and where it has room it stands in the buffer whole. Assumes
 -- nothing.
-use Prim.Native.Nat.{ℕ, _≤_, _<_, _^_}
+use Prim.Native.Nat.{ℕ, _≤_, _<_, _^_, min}
 use Rattle.emit.proofs.PutLaws.{puts-measured, puts-whole}
 use Rattle.emit.specs.Delivered.{Delivered}
 use Rattle.emit.specs.Puts.{Puts, last·place}
@@ -16,6 +16,17 @@ use mathlib.Core.Bool.{true, false}
 use mathlib.Core.List.{List, []}
 use mathlib.Core.Path.{_≡_, sym, ap, _∙_}
 use native.Mathlib.Omega.{arith}
+
+-- A piece that is known to have room is put, and the place behind it is its length.
+pub roomy-delivered : (piece : List ℕ → List ℕ) (buffer : List ℕ) → length buffer < 2 ^ 63 → min last·place (length (piece [])) ≤ length buffer → {left : List ℕ} {m : ℕ} → Puts buffer 0 piece left m
+    → Delivered (bytes·of (piece [])) buffer left (Answer.Length m)
+unfolding answer leaves pick last·place
+roomy-delivered piece buffer small room {left} {m} put =
+    let fits : length (piece []) ≤ length buffer = omega arith in
+    let whole = puts-whole buffer left piece m put fits small in
+    let size : m ≡ length (piece []) = omega (arith, put .reached []) in
+    let test : leb (length (piece [])) (length buffer) ≡ true = le-leb (length (piece [])) (length buffer) fits in
+    record { answered = rw test (ap Answer.Length size); left = rw test (whole .0) }
 
 module _ (piece : List ℕ → List ℕ) (buffer : List ℕ) (small : length buffer < 2 ^ 63) {scratch after : List ℕ} {n : ℕ} (measured : Puts scratch 0 piece after n) where
   -- The place behind a piece tells whether it fits.

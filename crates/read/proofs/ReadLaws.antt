@@ -110,13 +110,16 @@ module _ (text before after : List ℕ) (n : ℕ) (so : Lexed·so text before n)
     unfolding placed parsed·held
     held-read = parsed-read ∙ ap (λ x. placed text (parsed·held text after n x)) e
 
+    held-sound : Sound (reading·held text after n h)
+    held-sound = reading-sound text (reading·held text after n h) held-read
+
     held-few : length (format·held text (take n after) (h .style) .symbols) ≤ 74
     unfolding reading·held untyped·held with·types
-    held-few = let bound = symbols-bound (reading·held text after n h) (reading-sound text (reading·held text after n h) held-read) in omega arith
+    held-few = let bound = symbols-bound (reading·held text after n h) held-sound in omega arith
 
     pub held-delivered : (buffer left : List ℕ) (a : Answer) → Held·delivered text after n h buffer left a → Delivered (recorded (read text)) buffer left a
     unfolding recorded
-    held-delivered buffer left a d = rw held-read (d held-few)
+    held-delivered buffer left a d = rw held-read (d held-few held-sound)
 
 -- The call: what lexing counts is left to the tokens, and its refusal is the call's.
 pub lexed-so : (text work after : List ℕ) (n : ℕ) (l : Lexed) → l ≡ lexed text (length work) → ((m : ℕ) → l ≡ Lexed.Tokens m → Stored text after m)

@@ -17,6 +17,7 @@ use lexer::lex;
 use lexer::place_at;
 use lexer::start_of;
 use parser::parse::parse;
+use reading::longest_record;
 use reading::put_record;
 use record::Answer;
 
@@ -28,11 +29,15 @@ fn refused_at(text: &[u8], starts: &[u32], n: Refusal, i: usize) -> Answer
     Answer::Refused(n, place_at(text, start_of(starts, i)))
 }
 
-// The record of a matrix that is held: it is measured first, and put only where it has room.
+// The record of a matrix that is held. Where the longest that it can be has room it is put at once; else it is measured first, and put only where it has
+// room.
 fn deliver(text: &[u8], work: &[u32], count: usize, held: Held, buffer: &mut [u8]) -> Answer
     requires { ⌜ map·fits (length (now work)) count (held .lines) (held .taxa) (held .characters) ≡ true ⌝ }
     ensures { λ r. ⌜ Held·delivered (now (text .entry)) (now (work .entry)) count held (now (buffer .entry)) (now (buffer .exit)) r ⌝ }
 {
+    if longest_record(text, work, count, held) <= buffer.len() {
+        return Answer::Length(put_record(text, work, count, held, buffer, 0));
+    }
     let mut scratch = [0u8; 1];
     let size = put_record(text, work, count, held, &mut scratch, 0);
     if buffer.len() < size {

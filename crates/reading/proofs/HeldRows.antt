@@ -73,6 +73,9 @@ module _ (size count lines taxa characters : ℕ) (fit : map·fits size count li
 pub order-few : (size count lines taxa characters : ℕ) → map·fits size count lines taxa characters ≡ true → (count ≤ 1048576) × (lines ≤ 1048576) × (taxa ≤ 1048576)
 order-few size count lines taxa characters fit = let p = fitting size count lines taxa characters fit in (p .few·tokens, p .few·lines, p .few·taxa)
 
+pub characters-few : (size count lines taxa characters : ℕ) → map·fits size count lines taxa characters ≡ true → characters ≤ 1048576
+characters-few size count lines taxa characters fit = fitting size count lines taxa characters fit .few·characters
+
 pub order-at : (size count lines taxa characters : ℕ) → map·fits size count lines taxa characters ≡ true → (order j : ℕ) → order ≡ order·place count lines taxa → j < taxa → order + j < 4194304
 unfolding order·place
 order-at size count lines taxa characters fit order j e l = let p = order-few size count lines taxa characters fit in omega (arith, p .0, p .1, p .2)
@@ -117,9 +120,12 @@ module _ (text work codes : List ℕ) (count : ℕ) (h : Held) (fit : map·fits 
     abbrev Told : Type 0
     Told = Format·told text front codes (h .style) interleave
 
-    pub rows-length : Told → length rows ≡ counted
+    pub rows-laid : f .interleave ≡ interleave → length rows ≡ counted
     unfolding rows·of
-    rows-length t = rows-counted text front f (h .to) starts (h .taxa) (h .characters) interleave (t .layout) ∙ ap (λ n. row·count interleave n (h .taxa)) stored-length
+    rows-laid l = rows-counted text front f (h .to) starts (h .taxa) (h .characters) interleave l ∙ ap (λ n. row·count interleave n (h .taxa)) stored-length
+
+    rows-length : Told → length rows ≡ counted
+    rows-length t = rows-laid (t .layout)
 
     module _ (rc r : ℕ) (e : rc ≡ counted) where
       pub row-none : {b : List ℕ} {n : ℕ} → rc ≤ r → Told → Puts b n (spell·on false (cells·at rows r)) b n

@@ -1,4 +1,5 @@
 -- What the proofs of this crate rest on.
+mod CellSizes
 mod CharacterPuts
 mod CharacterWalk
 mod CodesRead
@@ -14,6 +15,7 @@ mod PlainTens
 mod PutWalks
 mod PutsOver
 mod RecordPieces
+mod RecordSizes
 mod RowCounts
 mod RowLaws
 mod RowPieces

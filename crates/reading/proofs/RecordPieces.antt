@@ -19,7 +19,7 @@ use Rattle.lexer.specs.Stored.{range}
 use Rattle.matrix.specs.OrderHeld.{ordered}
 use Rattle.parser.proofs.HeldLaws.{held-retypes}
 use Rattle.parser.specs.Storing.{symbols·few}
-use Rattle.reading.proofs.HeldRows.{rows-length}
+use Rattle.reading.proofs.HeldRows.{rows-laid}
 use Rattle.reading.specs.RecordPut.{head·piece, record·piece}
 use Rattle.reading.specs.RowLines.{Format·told, names·count, row·count, taxa·count}
 use Rattle.record.specs.Spell.{spell·characters, spell·head, spell·taxa}
@@ -51,21 +51,21 @@ module _ (text work codes : List ℕ) (count : ℕ) (h : Held) (fit : map·fits 
   front = take count work
 
   -- There are as many taxa as the code counts, and as many characters as are held.
-  module _ (interleave : Bool) (told : Format·told text front codes (h .style) interleave) where
+  module _ (interleave : Bool) (layout : format·held text front (h .style) .interleave ≡ interleave) where
     names-counted : (names : Names) → length (order·held text front work (order·place count (h .lines) (h .taxa)) (h .taxa) names (rows·of text work count h))
         ≡ names·count text front (row·count interleave (h .lines) (h .taxa)) (h .taxa) names
     unfolding order·held names·count names·of
-    names-counted Names.None = rows-length text work codes count h fit interleave told
+    names-counted Names.None = rows-laid text work codes count h fit interleave layout
     names-counted (Names.Words from to) =
         let ws = words (range text front from to) in
         ordered-length (rows·of text work count h) work (order·place count (h .lines) (h .taxa)) (take (h .taxa) (names·of ws))
         ∙ length-take (h .taxa) (names·of ws) ∙ ap (min (h .taxa)) (length-map ws _) ∙ smaller (h .taxa) (length ws)
 
-    taxa-counted : length (reading·held text work count h .taxa) ≡ taxa·count text front h interleave
+    pub taxa-counted : length (reading·held text work count h .taxa) ≡ taxa·count text front h interleave
     unfolding reading·held with·types untyped·held taxa·count
     taxa-counted = names-counted (h .names)
 
-  characters-counted : length (reading·held text work count h .characters) ≡ h .characters
+  pub characters-counted : length (reading·held text work count h .characters) ≡ h .characters
   unfolding held
   characters-counted = held-retypes text work count .counted h
 
@@ -77,7 +77,7 @@ module _ (text work codes : List ℕ) (count : ℕ) (h : Held) (fit : map·fits 
 
   -- The code's format, where it has few symbols, is that of the matrix, and so are its codes and its layout.
   module _ (format : Format) (same : symbols·few text front (h .style) ≡ true → meant format ≡ format·held text front (h .style)) (few : length (format·held text front (h .style) .symbols) ≤ 74) where
-    format-held : meant format ≡ format·held text front (h .style)
+    pub format-held : meant format ≡ format·held text front (h .style)
     unfolding symbols·few
     format-held = same (le-leb _ 74 few)
 
@@ -97,7 +97,7 @@ module _ (text work codes : List ℕ) (count : ℕ) (h : Held) (fit : map·fits 
         go behind =
             let rest = spell·taxa (untyped·held text work count h .taxa) (spell·characters 1 (reading·held text work count h .characters) behind) in
             ap (λ f. head·piece f taxa (h .characters) rest) format-held
-            ∙ ap (λ t. head·piece (format·held text front (h .style)) t (h .characters) rest) (e ∙ sym (taxa-counted (format .interleave) told))
+            ∙ ap (λ t. head·piece (format·held text front (h .style)) t (h .characters) rest) (e ∙ sym (taxa-counted (format .interleave) (told .layout)))
             ∙ ap (λ s. head·piece (format·held text front (h .style)) (length (reading·held text work count h .taxa)) s rest) (sym characters-counted)
             ∙ head-held rest
             ∙ same-taxa behind

@@ -7,3 +7,4 @@ pub mod ShortCells
 pub mod RowLines
 pub mod RowWalk
 pub mod RecordPut
+pub mod RecordSizes

@@ -7,7 +7,9 @@ pub mod lines;
 pub mod names;
 pub mod plain;
 pub mod sets;
+pub mod sizes;
 pub mod spelling;
 pub mod taxa;
 
+pub use sizes::longest_record;
 pub use spelling::put_record;

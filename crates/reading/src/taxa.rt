@@ -27,7 +27,7 @@ use emit::put_all;
 use lexer::start_of;
 
 // How many rows so many lines make, with so many lines to a page.
-fn row_count(interleave: bool, lines: usize, taxa: usize) -> usize
+pub fn row_count(interleave: bool, lines: usize, taxa: usize) -> usize
     ensures { λ r. ⌜ r ≡ row·count interleave lines taxa ⌝ }
 {
     if !interleave {
