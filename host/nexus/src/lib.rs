@@ -123,23 +123,15 @@ pub fn read(text: &[u8]) -> Result<Record, Refusal> {
     // A text that is too long is refused for that, whatever it is lent.
     let read = if text.len() > TEXT_LIMIT { &[] } else { text };
     let mut work = vec![0; work_needed(read)];
-    let most = longest_record(read.len());
-    let mut room = usual_record(read);
-    // Only 30 asks for another turn, and only while the buffer is shorter than `most`.
-    loop {
-        let mut buffer = vec![0; room];
-        if room > LONG {
-            functions::large_pages(&mut buffer);
-        }
-        match read_into(text, &mut work, &mut buffer) {
-            Ok(length) => {
-                buffer.truncate(length);
-                return Ok(Record { bytes: buffer });
-            }
-            Err(refusal) if refusal.number == Refusal::NO_ROOM && room < most => room = most,
-            Err(refusal) => return Err(refusal),
-        }
+    let mut buffer = vec![0; longest_record(read.len())];
+    let usual = usual_record(read);
+    if usual > LONG {
+        functions::large_pages(&mut buffer[..usual]);
     }
+    let length = read_into(text, &mut work, &mut buffer)?;
+    buffer.truncate(length);
+    buffer.shrink_to_fit();
+    Ok(Record { bytes: buffer })
 }
 
 /// Records for which a buffer in large pages is lent are longer.
@@ -148,7 +140,16 @@ const LONG: usize = 8 << 20;
 /// No record of a text of so many bytes is longer. A byte of a row gives at most 9 (an `N` of DNA is `u0.1.2.3` and
 /// a blank); each character, which has such a byte in each row, 46 in its own lines; a byte of a
 /// name or label, with its share of that line, 9; and what is left is shorter than 256.
-fn longest_record(length: usize) -> usize {
+///
+/// Most records are much shorter, and what nothing is written to takes no memory where the system hands
+/// out zeros (`vec![0; ...]`). A buffer of this length saves time: where the longest that a record can be
+/// has room, it is put without being measured first.
+///
+#[doc = example!()]
+/// # use inputs::example::{RECORD, TEXT};
+/// assert!(RECORD.len() <= nexus::longest_record(TEXT.len()));
+/// ```
+pub fn longest_record(length: usize) -> usize {
     64 * length + 256
 }
 

@@ -5,7 +5,7 @@ use std::hint::black_box;
 use inputs::MEGABYTE;
 use inputs::clock::timed;
 use inputs::taxa::{self, Declared};
-use nexus::{Record, lookup, read_into, work_needed, write_into};
+use nexus::{Record, longest_record, lookup, read_into, work_needed, write_into};
 
 use crate::records::ABSENT;
 use crate::{SHAPES, Shape, Turns, begin};
@@ -198,7 +198,7 @@ struct Input {
 impl Input {
     fn of(text: Vec<u8>) -> Self {
         let record = nexus::read(&text).ok().map(Record::into_bytes);
-        let room = record.as_ref().map_or(0, Vec::len).max(MEGABYTE);
+        let room = longest_record(text.len()).max(MEGABYTE);
         Self {
             work: vec![0; work_needed(&text)],
             buffer: vec![0; room],

@@ -3,7 +3,7 @@
 
 use std::hint::black_box;
 
-use nexus::{read_into, work_needed};
+use nexus::{longest_record, read_into, work_needed};
 
 use crate::records::Times;
 use crate::{TURNS, Turns, begin};
@@ -80,7 +80,10 @@ fn line(name: &str, input: Input, limit: Limit) {
 /// The best time for reading a text, and its record.
 fn reading(text: &[u8]) -> (f64, Vec<u8>) {
     let record = nexus::read(text).expect("the text is read").into_bytes();
-    let (mut work, mut buffer) = (vec![0; work_needed(text)], vec![0; record.len()]);
+    let (mut work, mut buffer) = (
+        vec![0; work_needed(text)],
+        vec![0; longest_record(text.len())],
+    );
     let mut turns = Turns::new();
     for _ in 0..TURNS {
         turns.turn(|| read_into(black_box(text), &mut work, &mut buffer));

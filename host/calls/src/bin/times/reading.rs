@@ -3,7 +3,7 @@
 use std::hint::black_box;
 
 use inputs::MEGABYTE;
-use nexus::{Refusal, read_into, work_needed};
+use nexus::{Refusal, longest_record, read_into, work_needed};
 use oracle::data::Matrix;
 use oracle::nexus::{Error, parse};
 use oracle::record::spell;
@@ -48,7 +48,7 @@ pub fn best(name: &str, text: &[u8]) -> Both {
     let characters = std::str::from_utf8(text).expect("long inputs are ASCII");
     let parsed = rust.turn(|| parse(black_box(characters)));
     let expected = answer(parsed.expect("a first turn"));
-    let room = expected.as_ref().map_or(0, Vec::len) + 64;
+    let room = longest_record(text.len());
     let (mut work, mut buffer) = (vec![0; work_needed(text)], vec![0; room]);
     let first = proved.turn(|| read_into(black_box(text), &mut work, &mut buffer));
     let given = first.expect("a first turn");
