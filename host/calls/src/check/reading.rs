@@ -1,7 +1,7 @@
 //! The check of one text.
 
 use nexus::archive::nexus_read;
-use nexus::work_needed;
+use nexus::{longest_record, work_needed};
 use oracle::answer::{self, Answer, ENOUGH, Refusal};
 
 use super::difference::{compared, judged, shown, words};
@@ -26,12 +26,14 @@ struct Given {
 
 impl Checker {
     /// All calls for a text, each with two kinds of rubbish: work memory just long enough, longer
-    /// and one number short; buffers long enough, full, one byte short and empty. Then, if it is read,
-    /// its record is written, and what is written read again.
+    /// and one number short; buffers long enough for any record, so that nothing is measured, long
+    /// enough, full, one byte short and empty. Then, if it is read, its record is written, and what is
+    /// written read again.
     pub fn check(&mut self, text: &[u8]) -> Result<Met, Difference> {
         let needed = work_needed(text);
         self.check_with(text, |enough| {
             vec![
+                (needed, longest_record(text.len())),
                 (needed, enough + 9),
                 (needed, enough),
                 (needed, enough.saturating_sub(1)),
