@@ -1,4 +1,4 @@
--- The walk that puts the characters, ten at once: those that have neither a label, state labels nor a type of their own are plain lines. Assumes nothing.
+-- The walk that puts the characters, ten or a hundred at once: those that have neither a label, state labels nor a type of their own are plain lines. Assumes nothing.
 use Prim.Native.Nat.{ℕ, zero, suc, _+_, _*_, _≤_, _<_}
 use Rattle.block.specs.declared.model.CharacterOrdering.{CharacterOrdering}
 use Rattle.emit.specs.Puts.{Puts}
@@ -7,7 +7,7 @@ use Rattle.reading.proofs.CharacterPuts.{character-plain, plain-behind,
 use Rattle.reading.proofs.CharacterWalk.{Spelling, characters·behind, turned}
 use Rattle.reading.proofs.PutWalks.{putting-turn}
 use Rattle.reading.specs.CharactersHeld.{plain·bytes, slot·type}
-use Rattle.reading.specs.PlainLines.{Ten·plain, Zeros, plain·lines}
+use Rattle.reading.specs.PlainLines.{Run·plain, Zeros, plain·lines}
 use borrow.Author.Tests.{eqb-true, ltb-false, ltb-true}
 use lib.Dec.{eqb, ltb}
 use lib.ListN.{getD}
@@ -64,12 +64,12 @@ module _ (text front work : List ℕ) (at characters : ℕ) (typed : Bool) (o : 
       plain-one k (omega arith) (zeros-first work (at + k) count labels) (zeros-first work (at + characters + k) count states) behind
       ∙ rw (number, end) (ap (λ l. plain·bytes (k + 1) o ++ l) (plain-some count (k + 1) (omega arith) more-labels more-states behind))
 
--- Ten of them are put.
+-- A run of them is put.
 module _ (text front work : List ℕ) (at characters : ℕ) (typed : Bool) (o : CharacterOrdering) (before : List ℕ) (n : ℕ) (whole : List ℕ → List ℕ) where
-  pub spelling-ten : {buffer after : List ℕ} {m next k : ℕ} → Spelling text front work at characters typed o before n whole buffer m k → Ten·plain work at characters typed k
-      → Puts buffer m (plain·lines (k + 1) 10 o) after next → Spelling text front work at characters typed o before n whole after next (k + 10)
-  spelling-ten {k = k} w t p =
+  pub spelling-run : {buffer after : List ℕ} {m next k : ℕ} (count : ℕ) → Spelling text front work at characters typed o before n whole buffer m k → Run·plain work at characters typed k count
+      → Puts buffer m (plain·lines (k + 1) count o) after next → Spelling text front work at characters typed o before n whole after next (k + count)
+  spelling-run {k = k} count w t p =
       record {
         below = t .within;
-        walk = putting-turn (w .walk) p (plain-some text front work at characters typed o (t .untyped) 10 k (t .within) (t .labels) (t .states));
+        walk = putting-turn (w .walk) p (plain-some text front work at characters typed o (t .untyped) count k (t .within) (t .labels) (t .states));
       }

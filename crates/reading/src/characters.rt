@@ -15,11 +15,13 @@ ghost use mathlib.Core.Path.{_≡_};
 use super::label_lines::put_label;
 use super::label_lines::put_state_labels;
 use super::names::put_number;
+use super::plain::hundred_plain;
 use super::plain::plain_size;
+use super::plain::put_hundred;
 use super::plain::put_plain;
 use super::plain::put_ten;
+use super::plain::room_or_none;
 use super::plain::ten_plain;
-use super::plain::ten_room;
 use assumptions::TypeWord;
 use block::CharacterOrdering;
 use commands::Held;
@@ -109,7 +111,12 @@ fn put_each(
     let mut m = n;
     let mut k = 0;
     while k < characters {
-        if ten_plain(work, at, characters, typed, k) & ten_room(buffer.len(), m) {
+        if hundred_plain(work, at, characters, typed, k) & room_or_none(buffer.len(), m, 4800) {
+            m = put_hundred(buffer, m, k + 1, o);
+            k += 100;
+            continue;
+        }
+        if ten_plain(work, at, characters, typed, k) & room_or_none(buffer.len(), m, 480) {
             m = put_ten(buffer, m, k + 1, o);
             k += 10;
             continue;

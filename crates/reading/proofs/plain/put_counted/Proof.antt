@@ -44,10 +44,12 @@ loop-again c =
     )
 
 returns : tie.Need-returns Inv-loop μ-loop
-returns c = putting-end (c .before .loop .inv .3) (counted-end _ _ _ (c .loop-test .left))
+returns c =
+    let i = c .before .loop .inv in
+    (putting-end (i .3) (counted-end _ _ _ (c .loop-test .left)), omega (arith, i .1, i .2))
 
 same-length : tie.Need-same-length Inv-loop μ-loop
-same-length c = returns c .kept
+same-length c = returns c .0 .kept
 
 pub put-counted-spec : {M : Type 1} → statement M
 put-counted-spec =

@@ -83,7 +83,7 @@ returns-2 c =
     let s = p .before .before .before .before in
     let number = s .args .number in
     let made = line-made number (s .args .ordering) _ _ _ (s .pre .2) refl (p .put-plain .ensures) in
-    puts-as (c .before .before .put-counted .ensures)
+    puts-as (c .before .before .put-counted .ensures .0)
     (λ behind.
     ap (λ l. counted·lines l (9 + d .digits-of .result) 48 10 behind) (made .0)
     ∙ ap (λ k. counted·lines (plain·bytes number (s .args .ordering)) (9 + k) 48 10 behind) (d .digits-of .ensures)

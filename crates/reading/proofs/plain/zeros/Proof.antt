@@ -1,8 +1,8 @@
--- The function `ten_zeros` meets its contract: a turn looks at one number more. The measure is how many are left. Assumes nothing.
+-- The function `zeros` meets its contract: a turn looks at one number more. The measure is how many are left. Assumes nothing.
 use Prim.Native.Nat.{_-_, _≤_}
 use Rattle.reading.proofs.TenWalk.{zeros-more, zeros-none}
-use Rattle.reading.proofs.plain.ten_zeros.Statement.{statement}
-use Rattle.reading.proofs.plain.ten_zeros.Tie as tie
+use Rattle.reading.proofs.plain.zeros.Statement.{statement}
+use Rattle.reading.proofs.plain.zeros.Tie as tie
 use Rattle.reading.specs.PlainLines.{Zeros}
 use borrow.Author.Needs.{needs}
 use mathlib.Core.Bool.{true}
@@ -10,10 +10,10 @@ use mathlib.Core.Path.{_≡_}
 use native.Mathlib.Omega.{arith}
 
 abbrev Inv-loop : tie.InvT-loop
-Inv-loop work at zero₀ i₀ zero i = (i ≤ 10) × (zero ≡ true → Zeros work at i)
+Inv-loop work at count zero₀ i₀ zero i = (i ≤ count) × (zero ≡ true → Zeros work at i)
 
 abbrev μ-loop : tie.MeasureT-loop
-μ-loop work at zero₀ i₀ zero i = 10 - i
+μ-loop work at count zero₀ i₀ zero i = count - i
 
 loop-holds : tie.Need-loop-holds Inv-loop μ-loop
 loop-holds c = (omega arith, λ t. zeros-none _ _)
@@ -40,11 +40,11 @@ returns : tie.Need-returns Inv-loop μ-loop
 returns c =
     λ t.
     let l = c .before .loop in
-    let all : l .i ≡ 10 = omega (arith, l .inv .0, c .loop-test .left) in
+    let all : l .i ≡ c .before .before .args .count = omega (arith, l .inv .0, c .loop-test .left) in
     rw all at (l .inv .1 t)
 
-pub ten-zeros-spec : {M : Type 1} → statement M
-ten-zeros-spec =
+pub zeros-spec : {M : Type 1} → statement M
+zeros-spec =
     tie.close
     (tie.spec
     Inv-loop
