@@ -8,6 +8,7 @@ mod CellModeLaws
 mod CellsFit
 mod CellsJudged
 mod CellsRun
+mod CharacterApart
 mod CharactersTold
 mod HollowTexts
 mod KeyLaws
@@ -22,6 +23,8 @@ mod ReadingParts
 mod RecordParts
 mod RecordReads
 mod RowsTold
+mod RunBytes
+mod RunsTold
 mod SymbolRuns
 mod TellLaws
 mod Utf8Bytes

@@ -7,6 +7,7 @@ mod keys;
 mod names;
 mod numbers;
 mod rows;
+mod runs;
 mod symbols;
 mod whole;
 
