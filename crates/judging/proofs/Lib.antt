@@ -10,6 +10,7 @@ mod CellsJudged
 mod CellsRun
 mod CharacterApart
 mod CharactersTold
+mod DigitRuns
 mod HollowTexts
 mod KeyLaws
 mod LinesTold

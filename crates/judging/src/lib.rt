@@ -2,6 +2,7 @@
 
 mod cells;
 mod characters;
+mod digits;
 mod heads;
 mod keys;
 mod names;
