@@ -1,4 +1,5 @@
 -- What the proofs of this crate rest on, and what other crates may cite.
+pub mod DigitWords
 pub mod ItemLaws
 pub mod ListTyped
 pub mod ListWalks

@@ -23,7 +23,9 @@ use super::assumptions::next_word;
 use super::items::item_turn;
 use super::parts::NextPart;
 use super::parts::Part;
+use super::parts::number_part;
 use super::parts::whole_part;
+use super::parts::word_number;
 use super::parts::word_part;
 use super::types::type_range;
 use block::CharacterOrdering;
@@ -192,7 +194,7 @@ fn cut_word(
     }
 }
 
-// One word more of a list.
+// One word more of a list. Most are numbers that are told by their bytes at once.
 fn list_word(
     text: &[u8],
     work: &mut [u32],
@@ -207,7 +209,13 @@ fn list_word(
     ensures front { λ r. ⌜ take at (now (work .exit)) ≡ take at (now (work .entry)) ⌝ }
     ensures answer { λ r. ⌜ ((rs : List R.Range) (ts : Types) → typed ordering rs ts ≡ unless·twice twice (types·held (now (work .entry)) at count) → Follows ordering ts (types·held (now (work .exit)) at count) (list·turn count (listed rs item) (word·of (now (text .entry)) (now (work .entry)) i)) r) ⌝ }
 {
-    match kind_at(text, start_of(work, i)) {
+    let start = start_of(work, i);
+    let n = word_number(text, start);
+    if n != 0 {
+        let part = number_part(i, count as u64, n);
+        return part_turn(work, at, count, ordering, item, twice, part);
+    }
+    match kind_at(text, start) {
         Kind::Word => cut_word(text, work, i, at, count, ordering, item, twice),
         _ => {
             let part = whole_part(text, work, i, count as u64);
