@@ -126,9 +126,9 @@ unfolding positive unsigned pick
 positive-digits b r n v some small = sym (rw (no-digit 0 b r (rw v some) 43 (omega arith), v, small) refl)
 
 module _ (count : ℕ) (w : Numbered) (n : ℕ) (s : Spells (w .token) n) where
-  word : word? (w .token .kind) ≡ true
+  pub spelled-word : word? (w .token .kind) ≡ true
   unfolding word?
-  word = rw (s .word) refl
+  spelled-word = rw (s .word) refl
 
   some-digits : 0 < digits 0 (w .token .text)
   some-digits = rw (s .value) (s .some)
@@ -141,11 +141,11 @@ module _ (count : ℕ) (w : Numbered) (n : ℕ) (s : Spells (w .token) n) where
       go [] e h v = absurd (omega arith)
       go (b ∷ r) e h v =
           let other : is (bytes "ALL") w ≡ false = rw (e, not-all b r h) (and-false (word? (w .token .kind))) in
-          plain-told count w false other word b r n (λ d. let f = digit-first 0 b r h in omega arith) (positive-digits b r n v (s .some) (s .small)) ∙ rw (no-digit 0 b r h 46 (omega arith)) refl
+          plain-told count w false other spelled-word b r n (λ d. let f = digit-first 0 b r h in omega arith) (positive-digits b r n v (s .some) (s .small)) ∙ rw (no-digit 0 b r h 46 (omega arith)) refl
 
   list-turn-number : (l : Listed) → list·turn count l w ≡ part·turn count l (part w (w .token .text))
   unfolding list·turn parts pick fold
-  list-turn-number l = rw (word, one-part w (w .token .text) some-digits) (then-done (part·turn count l (part w (w .token .text))))
+  list-turn-number l = rw (spelled-word, one-part w (w .token .text) some-digits) (then-done (part·turn count l (part w (w .token .text))))
 
   pub number-follows : (o : CharacterOrdering) (ts us : Types) (l : Listed) (r : WordAnswer) → Follows o ts us (part·turn count l (part w (w .token .text))) r → Follows o ts us (list·turn count l w) r
   number-follows o ts us l r f = rw (list-turn-number l) f

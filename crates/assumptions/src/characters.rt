@@ -25,8 +25,9 @@ use super::parts::NextPart;
 use super::parts::Part;
 use super::parts::number_part;
 use super::parts::whole_part;
-use super::parts::word_number;
 use super::parts::word_part;
+use super::runs::pass_numbers;
+use super::told::word_number;
 use super::types::type_range;
 use block::CharacterOrdering;
 use block::Further;
@@ -66,7 +67,7 @@ pub enum ListAnswer {
 }
 
 // Types a range that is complete, unless a character was typed twice before: was one now?
-fn type_next(
+pub fn type_next(
     work: &mut [u32],
     at: usize,
     count: usize,
@@ -235,7 +236,7 @@ fn end_at_comma(verdict: Judged, behind: usize) -> ListAnswer
     }
 }
 
-// A list, word by word, up to a comma or the end.
+// A list, up to a comma or the end: a run of numbers, then another word, and so on.
 fn list_walk(
     text: &[u8],
     work: &mut [u32],
@@ -255,16 +256,19 @@ fn list_walk(
     let mut twice = false;
     let mut i = from;
     loop {
-        let j = next_word(text, work, i, to);
+        let run = pass_numbers(text, work, i, to, at, count, ordering, item, twice);
+        let place = run.item;
+        let again = run.twice;
+        let j = next_word(text, work, run.next, to);
         if to <= j {
-            let end = list_end(work, at, count, ordering, word, item, twice);
+            let end = list_end(work, at, count, ordering, word, place, again);
             return ListAnswer::Judged(end);
         }
         if punct(text, work, j, b',') {
-            let end = list_end(work, at, count, ordering, word, item, twice);
+            let end = list_end(work, at, count, ordering, word, place, again);
             return end_at_comma(end, j + 1);
         }
-        match list_word(text, work, j, at, count, ordering, item, twice) {
+        match list_word(text, work, j, at, count, ordering, place, again) {
             WordAnswer::On(m, t) => {
                 item = m;
                 twice = t;

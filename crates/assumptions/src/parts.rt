@@ -1,12 +1,10 @@
 // The parts of a character list's tokens: a word is cut at each `-`, and any other token is one part.
 
-ghost use Prim.Native.Nat.{_<_};
 ghost use Rattle.assumptions.specs.ListParts.{Part·end, Parted, Spells, digits·value, told};
 ghost use Rattle.block.specs.CharacterList.{part, to·dash};
 ghost use Rattle.lexer.specs.Base.{bytes, empty?, pick, same};
 ghost use Rattle.lexer.specs.Bytes.{left};
 ghost use Rattle.lexer.specs.Lexing.{token·at};
-ghost use Rattle.lexer.specs.PlainWords.{ends?};
 ghost use Rattle.lexer.specs.Stored.{word·of};
 ghost use Rattle.lexer.specs.Words.{Numbered, is, quoted?, string?, word?};
 ghost use lib.Dec.{eqb, leb};
@@ -158,38 +156,6 @@ pub fn word_part(text: &[u8], index: usize, all: bool, count: u64, c: Cursor) ->
         }
         Item::End => NextPart::End,
     }
-}
-
-// Does the byte end a word, whatever comes next? Not all that do are told.
-fn ends_word(b: u8) -> bool
-    ensures { λ r. ⌜ (r ≡ true → ends? b ≡ true) ⌝ }
-{
-    (b == 32) | (b == 10) | (b == 13) | (b == 44) | (b == 59)
-}
-
-// The number that the word at a place spells, if the word is told by its bytes at once and is of digits alone; else 0. It may be 0 also where
-// the number has nearly 64 bits.
-pub fn word_number(text: &[u8], start: usize) -> u64
-    ensures { λ r. ⌜ (0 < r → Spells (token·at (now (text .entry)) start) r) ⌝ }
-{
-    let mut n: u64 = 0;
-    let mut i = start;
-    while i < text.len() {
-        let b = text[i];
-        let digit = (48 <= b) & (b <= 57);
-        if !digit {
-            if ends_word(b) {
-                return n;
-            }
-            return 0;
-        }
-        if 1844674407370955160 <= n {
-            return 0;
-        }
-        n = n * 10 + (b - 48) as u64;
-        i += 1;
-    }
-    0
 }
 
 // A word of digits alone, as the one part that it is.

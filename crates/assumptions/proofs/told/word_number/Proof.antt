@@ -1,8 +1,8 @@
 -- The function `word_number` meets its contract. A turn passes one digit. The measure is what is left of the text. Assumes nothing.
 use Prim.Native.Nat.{_-_, _≤_}
 use Rattle.assumptions.proofs.DigitWords.{Spelling, spelling-start, spelling-turn, spelling-end}
-use Rattle.assumptions.proofs.parts.word_number.Statement.{statement}
-use Rattle.assumptions.proofs.parts.word_number.Tie as tie
+use Rattle.assumptions.proofs.told.word_number.Statement.{statement}
+use Rattle.assumptions.proofs.told.word_number.Tie as tie
 use Rattle.lexer.proofs.Basics.{and-left, and-right}
 use borrow.Author.Needs.{needs}
 use borrow.Author.Tests.{leb-true, not-false}

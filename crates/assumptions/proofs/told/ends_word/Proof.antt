@@ -1,7 +1,7 @@
 -- The function `ends_word` meets its contract. Assumes nothing.
 use Rattle.assumptions.proofs.DigitWords.{ends-told}
-use Rattle.assumptions.proofs.parts.ends_word.Statement.{statement}
-use Rattle.assumptions.proofs.parts.ends_word.Tie as tie
+use Rattle.assumptions.proofs.told.ends_word.Statement.{statement}
+use Rattle.assumptions.proofs.told.ends_word.Tie as tie
 
 returns : tie.Need-returns
 returns c = ends-told _
