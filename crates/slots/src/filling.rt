@@ -31,13 +31,13 @@ fn table_for(base: usize, count: usize, length: usize) -> Table
 }
 
 // The slot at which the search for a name begins, by its number.
-fn slot_of(table: Table, h: u64) -> usize
-    requires { ⌜ Table·sound table ⌝ }
+pub fn slot_of(table: Table, h: u64) -> usize
+    requires { ⌜ Table·sound table × (h < 4294967296) ⌝ }
     ensures { λ r. ⌜ r ≡ slot·of table h ⌝ }
 {
     let size = table.size as u64;
     let base = table.base;
-    base + (h % size) as usize
+    base + (h * size / 4294967296) as usize
 }
 
 // The slot at which the search for the name of a word begins.

@@ -10,6 +10,7 @@ pub use filling::fill_slot;
 pub use filling::free_table;
 pub use filling::name_slot;
 pub use filling::name_table;
+pub use filling::slot_of;
 pub use filling::window_end;
 pub use trie::name_entry;
 
