@@ -5,6 +5,7 @@ pub mod filling;
 pub mod hashes;
 pub mod trie;
 
+pub use filling::enter_at;
 pub use filling::enter_name;
 pub use filling::fill_slot;
 pub use filling::free_table;
