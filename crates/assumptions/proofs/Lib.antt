@@ -1,8 +1,11 @@
 -- What the proofs of this crate rest on, and what other crates may cite.
+pub mod DigitWords
 pub mod ItemLaws
+pub mod KeyWords
 pub mod ListTyped
 pub mod ListWalks
 pub mod NextWordLaws
+pub mod NumberRuns
 pub mod PartLaws
 pub mod PartWalks
 pub mod RangeTyped

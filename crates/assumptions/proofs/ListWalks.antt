@@ -25,7 +25,7 @@ use mathlib.Core.List.{List, []}
 use mathlib.Core.Path.{_≡_, refl, _∙_}
 use native.Mathlib.Omega.{arith}
 
-then-done : {A : Type 0} (o : Outcome A) → then o (λ a. done a) ≡ o
+pub then-done : {A : Type 0} (o : Outcome A) → then o (λ a. done a) ≡ o
 unfolding then
 then-done (done a) = refl
 then-done (refused n i) = refl

@@ -106,7 +106,7 @@ module _ (count : ℕ) (w : Numbered) (all : Bool) (a : is (bytes "ALL") w ≡ a
     dash-told = rw (word-unmarked 92 (w .token .kind) h, a, word-unquoted (w .token .kind) h, pick-zero (leb 0 count))
 
     -- another part of a word
-    plain-told : (b : ℕ) (t : List ℕ) (n : ℕ) → (b ≡ 45 → ⊥) → n ≡ positive (b ∷ t)
+    pub plain-told : (b : ℕ) (t : List ℕ) (n : ℕ) → (b ≡ 45 → ⊥) → n ≡ positive (b ∷ t)
         → told count (part w (b ∷ t)) ≡ record { index = w .index; dash = false; stride = false; all = all; character = pick (eqb b 46 && empty? t) count (pick (leb n count) n 0); number = n }
     unfolding told part dash? stride? all? punct character·number same number pick
     plain-told b t n o e = rw (ne-eqb b 45 o, word-unmarked 92 (w .token .kind) h, a, word-unquoted (w .token .kind) h, same-none t, ← e)

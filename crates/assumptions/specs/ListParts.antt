@@ -5,8 +5,10 @@ use Rattle.assumptions.specs.declared.parts.Part as Code
 use Rattle.block.specs.CharacterList.{Part, part, to·dash, cut·from, dash?, stride?, all?, character·number}
 use Rattle.lexer.specs.Base.{pick, byte}
 use Rattle.lexer.specs.Bytes.{left}
+use Rattle.lexer.specs.Tokens.{Token}
 use Rattle.lexer.specs.Words.{Numbered, number, digits, largest}
 use Rattle.lexer.specs.declared.Cursor.{Cursor}
+use Rattle.lexer.specs.declared.Kind.{Kind}
 use lib.Dec.{leb, eqb}
 use lib.ListN.{length}
 use mathlib.Core.Bool.{true, false}
@@ -51,3 +53,10 @@ pub record Part·end (text : List ℕ) (c r : Cursor) : Type 0 where
   pub rest : (w : Numbered) → cut·from w true (left text c) ≡ cut·from w false (left text r)
   pub onward : c .at ≤ r .at
   pub within : c .at ≤ length text → r .at ≤ length text
+
+-- A word of digits alone, which spells a number from 1 on that has at most 64 bits.
+pub record Spells (t : Token) (n : ℕ) : Type 0 where
+  pub word : t .kind ≡ Kind.Word
+  pub value : digits 0 (t .text) ≡ n
+  pub some : 0 < n
+  pub small : leb n largest ≡ true

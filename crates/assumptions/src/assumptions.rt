@@ -9,12 +9,14 @@ ghost use Rattle.block.specs.Typeset.{ordering};
 ghost use Rattle.lexer.specs.Stored.{word·of, range};
 ghost use Rattle.lexer.specs.declared.refusal.Refusal as R;
 ghost use mathlib.Core.Path.{_≡_};
+use super::told::key_told;
 use block::CharacterOrdering;
 use block::Form;
 use block::is;
 use block::punct;
 use block::skip_newlines;
 use lexer::Refusal;
+use lexer::start_of;
 
 // The type that a word is, or none.
 pub enum TypeWord {
@@ -53,10 +55,17 @@ pub fn next_word(text: &[u8], work: &[u32], from: usize, to: usize) -> usize
     skip_newlines(text, work, from, to)
 }
 
-// The type that a word is: ORD or UNORD.
+// The type that a word is: ORD or UNORD. Most are told by their bytes at once.
 pub fn ordering(text: &[u8], work: &[u32], i: usize) -> TypeWord
     ensures { λ r. ⌜ type·word r ≡ ordering (word·of (now (text .entry)) (now (work .entry)) i) ⌝ }
 {
+    let start = start_of(work, i);
+    if key_told(text, start, b"ORD") {
+        return TypeWord::Type(CharacterOrdering::Ordered);
+    }
+    if key_told(text, start, b"UNORD") {
+        return TypeWord::Type(CharacterOrdering::Unordered);
+    }
     if is(text, work, i, b"ORD") {
         return TypeWord::Type(CharacterOrdering::Ordered);
     }

@@ -23,8 +23,11 @@ use super::assumptions::next_word;
 use super::items::item_turn;
 use super::parts::NextPart;
 use super::parts::Part;
+use super::parts::number_part;
 use super::parts::whole_part;
 use super::parts::word_part;
+use super::runs::pass_numbers;
+use super::told::word_number;
 use super::types::type_range;
 use block::CharacterOrdering;
 use block::Further;
@@ -64,7 +67,7 @@ pub enum ListAnswer {
 }
 
 // Types a range that is complete, unless a character was typed twice before: was one now?
-fn type_next(
+pub fn type_next(
     work: &mut [u32],
     at: usize,
     count: usize,
@@ -192,7 +195,7 @@ fn cut_word(
     }
 }
 
-// One word more of a list.
+// One word more of a list. Most are numbers that are told by their bytes at once.
 fn list_word(
     text: &[u8],
     work: &mut [u32],
@@ -207,7 +210,13 @@ fn list_word(
     ensures front { λ r. ⌜ take at (now (work .exit)) ≡ take at (now (work .entry)) ⌝ }
     ensures answer { λ r. ⌜ ((rs : List R.Range) (ts : Types) → typed ordering rs ts ≡ unless·twice twice (types·held (now (work .entry)) at count) → Follows ordering ts (types·held (now (work .exit)) at count) (list·turn count (listed rs item) (word·of (now (text .entry)) (now (work .entry)) i)) r) ⌝ }
 {
-    match kind_at(text, start_of(work, i)) {
+    let start = start_of(work, i);
+    let n = word_number(text, start);
+    if n != 0 {
+        let part = number_part(i, count as u64, n);
+        return part_turn(work, at, count, ordering, item, twice, part);
+    }
+    match kind_at(text, start) {
         Kind::Word => cut_word(text, work, i, at, count, ordering, item, twice),
         _ => {
             let part = whole_part(text, work, i, count as u64);
@@ -227,7 +236,7 @@ fn end_at_comma(verdict: Judged, behind: usize) -> ListAnswer
     }
 }
 
-// A list, word by word, up to a comma or the end.
+// A list, up to a comma or the end: a run of numbers, then another word, and so on.
 fn list_walk(
     text: &[u8],
     work: &mut [u32],
@@ -247,16 +256,19 @@ fn list_walk(
     let mut twice = false;
     let mut i = from;
     loop {
-        let j = next_word(text, work, i, to);
+        let run = pass_numbers(text, work, i, to, at, count, ordering, item, twice);
+        let place = run.item;
+        let again = run.twice;
+        let j = next_word(text, work, run.next, to);
         if to <= j {
-            let end = list_end(work, at, count, ordering, word, item, twice);
+            let end = list_end(work, at, count, ordering, word, place, again);
             return ListAnswer::Judged(end);
         }
         if punct(text, work, j, b',') {
-            let end = list_end(work, at, count, ordering, word, item, twice);
+            let end = list_end(work, at, count, ordering, word, place, again);
             return end_at_comma(end, j + 1);
         }
-        match list_word(text, work, j, at, count, ordering, item, twice) {
+        match list_word(text, work, j, at, count, ordering, place, again) {
             WordAnswer::On(m, t) => {
                 item = m;
                 twice = t;

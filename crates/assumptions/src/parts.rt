@@ -1,6 +1,6 @@
 // The parts of a character list's tokens: a word is cut at each `-`, and any other token is one part.
 
-ghost use Rattle.assumptions.specs.ListParts.{Part·end, Parted, digits·value, told};
+ghost use Rattle.assumptions.specs.ListParts.{Part·end, Parted, Spells, digits·value, told};
 ghost use Rattle.block.specs.CharacterList.{part, to·dash};
 ghost use Rattle.lexer.specs.Base.{bytes, empty?, pick, same};
 ghost use Rattle.lexer.specs.Bytes.{left};
@@ -155,6 +155,20 @@ pub fn word_part(text: &[u8], index: usize, all: bool, count: u64, c: Cursor) ->
             NextPart::Part(plain, part_end(text, d))
         }
         Item::End => NextPart::End,
+    }
+}
+
+// A word of digits alone, as the one part that it is.
+pub fn number_part(index: usize, count: u64, n: u64) -> Part
+    ensures { λ r. ⌜ ((w : Numbered) → w .index ≡ index → Spells (w .token) n → r ≡ told count (part w (w .token .text))) ⌝ }
+{
+    Part {
+        index,
+        dash: false,
+        stride: false,
+        all: false,
+        character: character(count, false, false, n),
+        number: n,
     }
 }
 

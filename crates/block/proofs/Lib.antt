@@ -47,6 +47,7 @@ pub mod ReadCommands
 pub mod ReadingSmall
 pub mod ReadingSound
 pub mod RisingLaws
+pub mod RowsDiffer
 pub mod RowsSmall
 pub mod RowsSound
 pub mod SoundParts

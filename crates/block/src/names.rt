@@ -6,7 +6,9 @@ ghost use Rattle.block.specs.Names.{known};
 ghost use Rattle.block.specs.NamesHeld.{name·of, names·of};
 ghost use Rattle.block.specs.NamesKept.{Name·put, Names·judged, Names·kept, Names·room, Slot·alike};
 ghost use Rattle.lexer.specs.Stored.{word·of, range};
-ghost use Rattle.slots.specs.Filling.{Table·sound};
+ghost use Rattle.lexer.specs.Words.{spaced};
+ghost use Rattle.slots.specs.Filling.{slot·of};
+ghost use Rattle.slots.specs.Hashes.{hash};
 ghost use lib.ListN.{length};
 ghost use mathlib.Core.Path.{_≡_};
 use super::Judged;
@@ -17,7 +19,7 @@ use lexer::Refusal;
 use lexer::start_of;
 use slots::Entry;
 use slots::Table;
-use slots::enter_name;
+use slots::enter_at;
 use slots::name_entry;
 use slots::name_slot;
 use slots::name_table;
@@ -56,12 +58,12 @@ fn slot_alike(text: &[u8], work: &[u32], from: usize, i: usize, value: usize) ->
 
 // Is the name of a word among those of the words from an index up to it, which a table has? The slots of its window are looked at, then the trie; where
 // that was given up, all words are.
-fn found_name(text: &[u8], work: &[u32], from: usize, i: usize, table: Table) -> bool
-    requires { ⌜ Table·sound table × Names·kept (now text) (now work) from i table ⌝ }
+fn found_name(text: &[u8], work: &[u32], from: usize, i: usize, table: Table, slot: usize) -> bool
+    requires { ⌜ (slot ≡ slot·of table (hash (spaced (word·of (now text) (now work) i .token .text)))) × Names·kept (now text) (now work) from i table ⌝ }
     ensures { λ r. ⌜ r ≡ known (name·of (word·of (now (text .entry)) (now (work .entry)) i)) (names·of (words (range (now (text .entry)) (now (work .entry)) from i))) ⌝ }
 {
-    let mut p = name_slot(text, work, i, table);
-    let stop = window_end(table, p);
+    let mut p = slot;
+    let stop = window_end(table, slot);
     while p < stop {
         let value = start_of(work, p);
         if value == 0 {
@@ -90,11 +92,11 @@ fn slot_value(i: usize) -> u32
 }
 
 // A word is put into the table by its name.
-fn keep_name(text: &[u8], work: &mut [u32], i: usize, table: Table)
-    requires { ⌜ Table·sound table × (table .base ≤ table .end) × (table .end ≤ length (now work)) ⌝ }
+fn keep_name(text: &[u8], work: &mut [u32], i: usize, table: Table, slot: usize)
+    requires { ⌜ (slot ≡ slot·of table (hash (spaced (word·of (now text) (now work) i .token .text)))) × (table .base ≤ table .end) × (table .end ≤ length (now work)) ⌝ }
     ensures { λ r. ⌜ Name·put (now (text .entry)) (now (work .entry)) (now (work .exit)) i table ⌝ }
 {
-    enter_name(text, work, i, slot_value(i), table);
+    enter_at(text, work, i, slot_value(i), table, slot);
 }
 
 // Are the words of TAXLABELS names, no two of them alike? A table behind them has those that were judged.
@@ -111,10 +113,11 @@ fn unique_by(text: &[u8], work: &mut [u32], from: usize, to: usize, table: Table
         if !named(text, work, i) {
             return Judged::Refused(Refusal::NotName, i);
         }
-        if found_name(text, work, from, i, table) {
+        let slot = name_slot(text, work, i, table);
+        if found_name(text, work, from, i, table, slot) {
             return Judged::Refused(Refusal::TaxonTwice, i);
         }
-        keep_name(text, work, i, table);
+        keep_name(text, work, i, table, slot);
         i += 1;
     }
     Judged::Good

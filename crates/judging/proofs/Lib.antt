@@ -8,7 +8,9 @@ mod CellModeLaws
 mod CellsFit
 mod CellsJudged
 mod CellsRun
+mod CharacterApart
 mod CharactersTold
+mod DigitRuns
 mod HollowTexts
 mod KeyLaws
 mod LinesTold
@@ -22,6 +24,8 @@ mod ReadingParts
 mod RecordParts
 mod RecordReads
 mod RowsTold
+mod RunBytes
+mod RunsTold
 mod SymbolRuns
 mod TellLaws
 mod Utf8Bytes

@@ -3,10 +3,12 @@ pub mod Judges
 pub mod NameRest
 pub mod CellModes
 pub mod CellsJudged
+pub mod DigitRuns
 pub mod Numbers
 pub mod Shapes
 pub mod Tells
 pub mod Lists
 pub mod Parts
+pub mod Runs
 pub mod Opening
 pub mod Whole

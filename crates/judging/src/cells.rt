@@ -8,6 +8,8 @@ ghost use lib.Dec.{eqb, ltb};
 ghost use lib.ListN.{length, getD};
 ghost use mathlib.Core.Bool.{true};
 ghost use mathlib.Core.Path.{_≡_};
+use super::digits::digits_run;
+use super::digits::top_digit;
 use block::CharacterNumber;
 
 // The cells of a row end at a place, and whether a gap is among them; or there are none.
@@ -234,6 +236,29 @@ fn walk_on(source: &[u8], walk: Walk, symbols: usize) -> Walk
     }
 }
 
+// The walk with the next byte read, or many at once: behind seven cells, and each eight further on, cells of one digit are passed together.
+fn walk_far(source: &[u8], walk: Walk, symbols: usize) -> Walk
+    requires inside { ⌜ walk .at < length (now source) ⌝ }
+    requires few { ⌜ walk .blanks ≤ walk .at ⌝ }
+    requires line { ⌜ (getD (now source) (walk .at) 0 ≡ 10 → ⊥) ⌝ }
+    ensures { λ r. ⌜ (walk .at < r .at) × Moves (now (source .entry)) symbols walk r ⌝ }
+{
+    let at = walk.at;
+    let mode = walk.mode;
+    if is_fresh(mode) & (walk.blanks % 8 == 7) {
+        let end = digits_run(source, at, top_digit(symbols));
+        if at < end {
+            return Walk {
+                at: end,
+                mode: Mode::Fresh,
+                blanks: walk.blanks + (end - at) / 2,
+                gap: walk.gap,
+            };
+        }
+    }
+    walk_on(source, walk, symbols)
+}
+
 // What a row that was read up to its LF is: as many cells as there are characters, or none.
 fn end_row(end: usize, walk: Walk, characters: CharacterNumber) -> Cells
     ensures { λ r. ⌜ r ≡ row·end end (walk .mode) (walk .blanks) (walk .gap) (characters .0) ⌝ }
@@ -263,7 +288,7 @@ pub fn cells_line(source: &[u8], i: usize, characters: CharacterNumber, symbols:
         if source[at] == 10 {
             return end_row(at + 1, walk, characters);
         }
-        walk = walk_on(source, walk, symbols);
+        walk = walk_far(source, walk, symbols);
     }
     Cells::Wrong
 }

@@ -10,6 +10,7 @@ use super::names::label_line;
 use super::numbers::Number;
 use super::numbers::decimal_at;
 use super::numbers::keyed_number;
+use super::runs::alike_run;
 use block::CharacterNumber;
 use lexer::byte_or_zero;
 
@@ -122,7 +123,8 @@ fn character(source: &[u8], i: usize, k: CharacterNumber, most: usize) -> Charac
     }
 }
 
-// So many characters from a place on, each with at most so many state labels.
+// So many characters from a place on, each with at most so many state labels. Those that follow one with the same bytes but for two digits of their
+// number are as good as it.
 pub fn character_lines(
     source: &[u8],
     i: usize,
@@ -136,9 +138,12 @@ pub fn character_lines(
     let mut ordered = false;
     let mut left = characters.0;
     while 0 < left {
-        match character(source, at, CharacterNumber(characters.0 - left + 1), most) {
+        let k = CharacterNumber(characters.0 - left + 1);
+        match character(source, at, k, most) {
             Characters::Behind(j, l, o) => {
-                at = j;
+                let run = alike_run(source, at, j, k, left - 1);
+                at = run.behind;
+                left -= run.count;
                 labelled = labelled | l;
                 ordered = ordered | o;
             }

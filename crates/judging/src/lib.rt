@@ -2,11 +2,13 @@
 
 mod cells;
 mod characters;
+mod digits;
 mod heads;
 mod keys;
 mod names;
 mod numbers;
 mod rows;
+mod runs;
 mod symbols;
 mod whole;
 

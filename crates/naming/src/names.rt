@@ -24,6 +24,7 @@ use lexer::start_of;
 use slots::Table;
 use slots::fill_slot;
 use slots::free_table;
+use slots::slot_of;
 
 // What entering the names of rows comes to: where the rows behind them begin, or that two are alike.
 pub enum Entered {
@@ -52,9 +53,7 @@ fn line_slot(source: &[u8], at: usize, table: Table) -> usize
     requires { ⌜ Table·sound table ⌝ }
     ensures { λ r. ⌜ r ≡ slot·of table (hash (line·at (now (source .entry)) at)) ⌝ }
 {
-    let size = table.size as u64;
-    let base = table.base;
-    base + (line_hash(source, at) % size) as usize
+    slot_of(table, line_hash(source, at))
 }
 
 // Is the line at a place like one of those at so many others?

@@ -1,5 +1,5 @@
--- Names that are alike have one number. Assumes nothing.
-use Prim.Native.Nat.{ℕ, suc, _+_, _-_, _≤_, _<_}
+-- Names that are alike have one number, which has 32 bits. Assumes nothing.
+use Prim.Native.Nat.{ℕ, suc, _+_, _*_, _-_, _≤_, _<_}
 use Rattle.lexer.proofs.Basics.{and-left, and-right}
 use Rattle.lexer.proofs.ListLaws.{drop-next}
 use Rattle.lexer.proofs.Yielded.{Yields·byte}
@@ -15,6 +15,7 @@ use lib.ListN.{length, getD}
 use mathlib.Core.Bool.{true, false≢true}
 use mathlib.Core.List.{List, [], _∷_}
 use mathlib.Core.Path.{_≡_, refl, sym, _∙_}
+use native.Mathlib.Nat.{mod-lt}
 use native.Mathlib.Omega.{arith}
 
 alike-mixed : (h a b : ℕ) → lower a ≡ lower b → mixed h a ≡ mixed h b
@@ -33,6 +34,16 @@ alike-from h (a ∷ l) (b ∷ r) e =
 pub alike-hash : (n m : List ℕ) → alike n m ≡ true → hash n ≡ hash m
 unfolding hash
 alike-hash n m e = alike-from 0 n m e
+
+-- The number of a name has 32 bits.
+small-from : (h : ℕ) (n : List ℕ) → h < 4294967296 → hash·from h n < 4294967296
+unfolding hash·from mixed
+small-from h [] l = l
+small-from h (b ∷ r) l = small-from (mixed h b) r (mod-lt ((h + lower b) * 2654435761) (omega arith))
+
+pub hash-small : (n : List ℕ) → hash n < 4294967296
+unfolding hash
+hash-small n = small-from 0 n (omega arith)
 
 -- The number of what is left of a token's text, behind that of its front, is the number of all of it.
 pub record Hashing (text : List ℕ) (c d : Cursor) (h : ℕ) : Type 0 where

@@ -1,18 +1,18 @@
 -- The slots of a table. A number is kept from a slot on where it stands at the first slot from there on that is free, or before it; or where none is
 -- free up to the end of the table.
-use Prim.Native.Nat.{ℕ, _+_, _%_, _^_, _≤_, _<_}
+use Prim.Native.Nat.{ℕ, _+_, _*_, _/_, _^_, _≤_, _<_}
 use Rattle.slots.specs.declared.Table.{Table}
 use lib.ListN.{length, getD, take}
 use mathlib.Core.List.{List}
 use mathlib.Core.Path.{_≡_}
 
--- The slot at which the search for a name begins, by its number.
+-- The slot at which the search for a name begins, by its number, which has 32 bits: it stands among the slots as the number does among all of 32 bits.
 unfoldable pub slot·of : Table → ℕ → ℕ
-slot·of t h = t .base + h % t .size
+slot·of t h = t .base + h * t .size / 4294967296
 
 -- A search can begin in a table.
 pub record Table·sound (t : Table) : Type 0 where
-  pub some : 0 < t .size
+  pub few : t .size ≤ 4294967296
   pub small : t .base + t .size ≤ 2 ^ 63
 
 -- A table that begins at an index and fits into so many numbers.

@@ -31,13 +31,13 @@ fn table_for(base: usize, count: usize, length: usize) -> Table
 }
 
 // The slot at which the search for a name begins, by its number.
-fn slot_of(table: Table, h: u64) -> usize
-    requires { ⌜ Table·sound table ⌝ }
+pub fn slot_of(table: Table, h: u64) -> usize
+    requires { ⌜ Table·sound table × (h < 4294967296) ⌝ }
     ensures { λ r. ⌜ r ≡ slot·of table h ⌝ }
 {
     let size = table.size as u64;
     let base = table.base;
-    base + (h % size) as usize
+    base + (h * size / 4294967296) as usize
 }
 
 // The slot at which the search for the name of a word begins.
@@ -147,12 +147,11 @@ pub fn window_end(table: Table, from: usize) -> usize
     from + 16
 }
 
-// A number is entered for the name of a word: at the first free slot of its window or, where none is free, in the trie.
-pub fn enter_name(text: &[u8], work: &mut [u32], i: usize, value: u32, table: Table)
-    requires { ⌜ Table·sound table × (table .base ≤ table .end) × (table .end ≤ length (now work)) × (0 < value) ⌝ }
+// A number is entered for the name of a word, whose slot is known: at the first free slot of its window or, where none is free, in the trie.
+pub fn enter_at(text: &[u8], work: &mut [u32], i: usize, value: u32, table: Table, from: usize)
+    requires { ⌜ (from ≡ slot·of table (hash (spaced (word·of (now text) (now work) i .token .text)))) × (table .base ≤ table .end) × (table .end ≤ length (now work)) × (0 < value) ⌝ }
     ensures { λ r. ⌜ Name·entered (now (work .entry)) (now (work .exit)) table (spaced (word·of (now (text .entry)) (now (work .entry)) i .token .text)) value ⌝ }
 {
-    let from = name_slot(text, work, i, table);
     let stop = window_end(table, from);
     let p = free_slot(work, from, stop);
     if p < stop {
@@ -161,4 +160,13 @@ pub fn enter_name(text: &[u8], work: &mut [u32], i: usize, value: u32, table: Ta
     }
     let start = start_of(work, i);
     put_path(text, start, work, table.end, value);
+}
+
+// A number is entered for the name of a word.
+pub fn enter_name(text: &[u8], work: &mut [u32], i: usize, value: u32, table: Table)
+    requires { ⌜ Table·sound table × (table .base ≤ table .end) × (table .end ≤ length (now work)) × (0 < value) ⌝ }
+    ensures { λ r. ⌜ Name·entered (now (work .entry)) (now (work .exit)) table (spaced (word·of (now (text .entry)) (now (work .entry)) i .token .text)) value ⌝ }
+{
+    let from = name_slot(text, work, i, table);
+    enter_at(text, work, i, value, table, from);
 }

@@ -5,11 +5,13 @@ pub mod filling;
 pub mod hashes;
 pub mod trie;
 
+pub use filling::enter_at;
 pub use filling::enter_name;
 pub use filling::fill_slot;
 pub use filling::free_table;
 pub use filling::name_slot;
 pub use filling::name_table;
+pub use filling::slot_of;
 pub use filling::window_end;
 pub use trie::name_entry;
 

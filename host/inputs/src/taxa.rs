@@ -84,7 +84,8 @@ pub fn commented(taxon: usize) -> String {
 pub fn colliding(taxa: usize, slots: usize) -> Vec<String> {
     const ALL: usize = 26usize.pow(5);
     let stretch = slots * taxa / ALL + 1;
-    let near = (0..ALL).filter(|taxon| hash(five_letters(*taxon)) % slots < stretch);
+    let slot = |taxon: usize| hash(five_letters(taxon)) * slots / (1 << 32);
+    let near = (0..ALL).filter(|taxon| slot(*taxon) < stretch);
     near.take(taxa)
         .map(|taxon| word(five_letters(taxon)))
         .collect()

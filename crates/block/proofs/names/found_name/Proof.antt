@@ -9,13 +9,10 @@ use borrow.Author.Needs.{needs}
 use mathlib.Core.Path.{refl}
 
 abbrev Inv-loop : tie.InvT-loop
-Inv-loop text work from i table p₀ stop p = Passing text work from i stop (table .end) p₀ p
+Inv-loop text work from i table slot p₀ stop p = Passing text work from i stop (table .end) slot p
 
 abbrev μ-loop : tie.MeasureT-loop
-μ-loop text work from i table p₀ stop p = stop - p
-
-name-slot-requires : tie.Need-name-slot-requires Inv-loop μ-loop
-name-slot-requires c κs = search needs
+μ-loop text work from i table slot p₀ stop p = stop - p
 
 window-end-requires : tie.Need-window-end-requires Inv-loop μ-loop
 window-end-requires c κs = search needs
@@ -31,7 +28,7 @@ unfolding name·of
 returns c =
     let l = c .before .before .before in
     let w = l .before in
-    passing-free _ _ _ _ _ _ _ (l .loop .inv) _ (w .before .name-slot .ensures) (w .window-end .ensures) refl (w .before .before .before .before .pre .1) (c .before .before .loop-test .taken) (c .before .start-of .ensures) (c .if1 .taken)
+    passing-free _ _ _ _ _ _ _ (l .loop .inv) _ (w .before .before .before .pre .0) (w .window-end .ensures) refl (w .before .before .before .pre .1) (c .before .before .loop-test .taken) (c .before .start-of .ensures) (c .if1 .taken)
 
 slot-alike-requires : tie.Need-slot-alike-requires Inv-loop μ-loop
 slot-alike-requires c κs = search needs
@@ -78,7 +75,7 @@ returns-4 c =
     let l = n .before .before in
     let w = l .before in
     let told = rw (c .enum-told2 .given .1) at (n .name-entry .ensures) in
-    passing-none _ _ _ _ _ _ _ (l .loop .inv) _ (w .before .name-slot .ensures) (w .window-end .ensures) refl (w .before .before .before .before .pre .1) (n .before .loop-test .left) told
+    passing-none _ _ _ _ _ _ _ (l .loop .inv) _ (w .before .before .before .pre .0) (w .window-end .ensures) refl (w .before .before .before .pre .1) (n .before .loop-test .left) told
 
 returns-5 : tie.Need-returns-5 Inv-loop μ-loop
 unfolding name·of
@@ -87,7 +84,7 @@ returns-5 c =
     let l = n .before .before in
     let w = l .before in
     let told = rw (c .before .before .value .given .1) at (n .name-entry .ensures) in
-    passing-value _ _ _ _ _ _ _ (l .loop .inv) _ (w .before .name-slot .ensures) (w .window-end .ensures) refl (w .before .before .before .before .pre .1) (n .before .loop-test .left) (told .0) (told .1) (c .slot-alike2 .ensures)
+    passing-value _ _ _ _ _ _ _ (l .loop .inv) _ (w .before .before .before .pre .0) (w .window-end .ensures) refl (w .before .before .before .pre .1) (n .before .loop-test .left) (told .0) (told .1) (c .slot-alike2 .ensures)
 
 pub found-name-spec : {M : Type 1} → statement M
 found-name-spec =
@@ -95,7 +92,6 @@ found-name-spec =
     (tie.spec
     Inv-loop
     μ-loop
-    name-slot-requires
     window-end-requires
     loop-holds
     start-of-requires

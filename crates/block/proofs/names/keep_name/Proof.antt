@@ -8,8 +8,8 @@ use borrow.Author.Needs.{needs}
 slot-value-requires : tie.Need-slot-value-requires
 slot-value-requires c κs = search needs
 
-enter-name-requires : tie.Need-enter-name-requires
-enter-name-requires c κs = search needs
+enter-at-requires : tie.Need-enter-at-requires
+enter-at-requires c κs = search needs
 
 same-length : tie.Need-same-length
 same-length c = search needs
@@ -19,7 +19,7 @@ unfolding name·of
 returns c =
     let s = c .before .before .before in
     let p = s .before .before .before .before .pre in
-    name-put _ _ _ _ _ _ (s .slot-value .ensures) (p .1) (p .2) (c .before .before .enter-name .ensures)
+    name-put _ _ _ _ _ _ (s .slot-value .ensures) (p .1) (p .2) (c .before .before .enter-at .ensures)
 
 pub keep-name-spec : {M : Type 1} → statement M
-keep-name-spec = tie.close (tie.spec slot-value-requires enter-name-requires same-length returns)
+keep-name-spec = tie.close (tie.spec slot-value-requires enter-at-requires same-length returns)

@@ -50,16 +50,19 @@ returns c =
     names-judged (l .before .before .before .before .pre) k
     (walking-refused _ _ _ _ (k .naming .walk) _ _ (l .loop-test .taken) (sym (n .before .newline .ensures) ∙ n .if1 .left) (nameless _ _ (sym (c .before .named .ensures) ∙ not-true _ (c .if2 .taken))))
 
+name-slot-requires : tie.Need-name-slot-requires Inv-loop μ-loop
+name-slot-requires c κs = c .before .before .before .before .before .before .before .before .before .before .before .pre .sound
+
 found-name-requires : tie.Need-found-name-requires Inv-loop μ-loop
-found-name-requires c κs = let l = c .before .before .before .before .before .before .before .before in (l .before .before .before .pre .sound, l .loop .inv .kept)
+found-name-requires c κs = (c .before .name-slot .ensures, c .before .before .before .before .before .before .before .before .before .before .loop .inv .kept)
 
 same-length-2 : tie.Need-same-length-2 Inv-loop μ-loop
-same-length-2 c = c .before .before .before .before .before .before .before .before .before .before .loop .inv .size
+same-length-2 c = c .before .before .before .before .before .before .before .before .before .before .before .before .loop .inv .size
 
 returns-2 : tie.Need-returns-2 Inv-loop μ-loop
 unfolding judged word·of
 returns-2 c =
-    let m = c .before .before .before in
+    let m = c .before .before .before .before .before in
     let n = m .before .before .before in
     let l = n .before .before .before in
     let k = l .before .loop .inv in
@@ -69,20 +72,20 @@ returns-2 c =
 
 keep-name-requires : tie.Need-keep-name-requires Inv-loop μ-loop
 keep-name-requires c κs =
-    let l = c .before .before .before .before .before .before .before .before .before .before .before in
+    let l = c .before .before .before .before .before .before .before .before .before .before .before .before .before in
     let p = l .before .before .before .pre in
-    (p .sound, p .order, omega (arith, p .table, l .loop .inv .size))
+    (c .before .before .before .before .name-slot .ensures, p .order, omega (arith, p .table, l .loop .inv .size))
 
 add-i-2 : tie.Need-add-i-2 Inv-loop μ-loop
-add-i-2 c = omega (arith, c .before .before .before .before .before .before .before .before .before .before .before .before .before .loop-test .taken)
+add-i-2 c = omega (arith, c .before .before .before .before .before .before .before .before .before .before .before .before .before .before .before .loop-test .taken)
 
 loop-less-2 : tie.Need-loop-less-2 Inv-loop μ-loop
-loop-less-2 c = omega (arith, c .before .before .before .before .before .before .before .before .before .before .before .before .before .loop-test .taken)
+loop-less-2 c = omega (arith, c .before .before .before .before .before .before .before .before .before .before .before .before .before .before .before .loop-test .taken)
 
 loop-again-2 : tie.Need-loop-again-2 Inv-loop μ-loop
 loop-again-2 c =
     let f = c .before .before .before .before in
-    let m = f .before .before .before in
+    let m = f .before .before .before .before .before in
     let n = m .before .before .before in
     let l = n .before .before .before in
     kept-naming-turn (l .before .before .before .before .pre) (l .before .loop .inv) (l .loop-test .taken) (sym (n .before .newline .ensures) ∙ n .if1 .left) (sym (m .before .named .ensures) ∙ not-false _ (m .if2 .left)) (sym (f .before .found-name .ensures) ∙ f .if3 .left) (c .before .before .keep-name .ensures)
@@ -110,6 +113,7 @@ unique-by-spec =
     named-requires
     same-length
     returns
+    name-slot-requires
     found-name-requires
     same-length-2
     returns-2

@@ -1,7 +1,4 @@
 -- The function `enter_name` meets its contract. Assumes nothing.
-use Rattle.lexer.specs.Stored.{word·of}
-use Rattle.slots.proofs.EnteringLaws.{window-within, name-set, name-put}
-use native.Mathlib.Omega.{arith}
 use borrow.Author.Needs.{needs}
 use Rattle.slots.proofs.filling.enter_name.Statement.{statement}
 use Rattle.slots.proofs.filling.enter_name.Tie as tie
@@ -9,64 +6,14 @@ use Rattle.slots.proofs.filling.enter_name.Tie as tie
 name-slot-requires : tie.Need-name-slot-requires
 name-slot-requires c κs = search needs
 
-window-end-requires : tie.Need-window-end-requires
-window-end-requires c κs = search needs
-
-free-slot-requires : tie.Need-free-slot-requires
-free-slot-requires c κs = search needs
-
-mul-work : tie.Need-mul-work
-mul-work c =
-    let w = c .before .before .before in
-    let s = w .before .before .before .before .before in
-    omega (arith, window-within (s .args .table .end) (w .before .name-slot .result), w .window-end .ensures, s .pre .2)
-
-slice-write-work : tie.Need-slice-write-work
-slice-write-work c =
-    let w = c .before .before .before in
-    let s = w .before .before .before .before .before in
-    omega (arith, window-within (s .args .table .end) (w .before .name-slot .result), w .window-end .ensures, s .pre .2)
+enter-at-requires : tie.Need-enter-at-requires
+enter-at-requires c κs = search needs
 
 same-length : tie.Need-same-length
 same-length c = search needs
 
 returns : tie.Need-returns
-returns c =
-    let w = c .before .before .before in
-    let s = w .before .before .before .before .before in
-    let free = rw (w .window-end .ensures, w .before .name-slot .ensures) at (c .before .free-slot .ensures) in
-    name-set _ _ _ _ _ (s .pre .3) (s .pre .1) free (rw (w .window-end .ensures, w .before .name-slot .ensures) at (c .if1 .taken)) (s .pre .2)
-
-start-of-requires : tie.Need-start-of-requires
-start-of-requires c κs = search needs
-
-put-path-requires : tie.Need-put-path-requires
-put-path-requires c κs = search needs
-
-same-length-2 : tie.Need-same-length-2
-same-length-2 c = search needs
-
-returns-2 : tie.Need-returns-2
-unfolding word·of
-returns-2 c =
-    let f = c .before .before .before .before .before .before .before in
-    let w = f .before .before in
-    let s = w .before .before .before .before .before in
-    let free = rw (w .window-end .ensures, w .before .name-slot .ensures) at (f .free-slot .ensures) in
-    name-put _ _ _ _ _ (s .pre .3) (s .pre .1) free (rw (w .window-end .ensures, w .before .name-slot .ensures) at (c .before .before .before .before .before .before .if1 .left)) (rw (c .before .before .before .before .start-of .ensures) at (c .before .before .put-path .ensures))
+returns c = search needs
 
 pub enter-name-spec : {M : Type 1} → statement M
-enter-name-spec =
-    tie.close
-    (tie.spec
-    name-slot-requires
-    window-end-requires
-    free-slot-requires
-    mul-work
-    slice-write-work
-    same-length
-    returns
-    start-of-requires
-    put-path-requires
-    same-length-2
-    returns-2)
+enter-name-spec = tie.close (tie.spec name-slot-requires enter-at-requires same-length returns)

@@ -1,0 +1,151 @@
+-- Words of digits alone that are told by their bytes at once: the number that one spells, and the one part of a list that it is. Assumes nothing.
+use Prim.Native.Nat.{ℕ, suc, _+_, _*_, _-_, _≤_, _<_}
+use Rattle.assumptions.proofs.ListWalks.{then-done}
+use Rattle.assumptions.proofs.PartLaws.{plain-told}
+use Rattle.assumptions.specs.ListCode.{Follows}
+use Rattle.assumptions.specs.ListParts.{Spells, told}
+use Rattle.assumptions.specs.declared.characters.WordAnswer.{WordAnswer}
+use Rattle.block.specs.CharacterList.{part, parts, to·dash, cut·from, Listed, part·turn, list·turn}
+use Rattle.block.specs.Outcome.{fold}
+use Rattle.block.specs.Typeset.{Types}
+use Rattle.block.specs.declared.model.CharacterOrdering.{CharacterOrdering}
+use Rattle.lexer.proofs.Basics.{and-false, and-left, and-right, by-test}
+use Rattle.lexer.proofs.ListLaws.{drop-next}
+use Rattle.lexer.proofs.WordsTold.{Plain·to, plain-start, plain-turn, word-told}
+use Rattle.lexer.specs.Base.{alike, bytes, lower, pick}
+use Rattle.lexer.specs.ByteBlocks.{plain?}
+use Rattle.lexer.specs.Lexing.{token·at}
+use Rattle.lexer.specs.PlainWords.{alone?, ends?}
+use Rattle.lexer.specs.Words.{Numbered, digits, is, largest, positive, unsigned, word?}
+use borrow.Author.Tests.{eqb-true, leb-true, le-leb, lt-leb, ne-eqb}
+use lib.Dec.{eqb, leb}
+use lib.ListN.{length, getD, take, drop}
+use mathlib.Core.Bool.{true, false, _&&_, _||_, false≢true}
+use mathlib.Core.List.{List, [], _∷_}
+use mathlib.Core.Path.{_≡_, refl, sym, ap, _∙_}
+use native.Mathlib.Omega.{arith}
+
+-- Some bytes that end a word
+pub ends-told : (b : ℕ) → eqb b 32 || eqb b 10 || eqb b 13 || eqb b 44 || eqb b 59 ≡ true → ends? b ≡ true
+unfolding ends? alone?
+ends-told b t =
+    by-test (eqb b 32) (λ e. rw (eqb-true b 32 e) refl) (λ f1.
+    by-test (eqb b 10) (λ e. rw (eqb-true b 10 e) refl) (λ f2.
+    by-test (eqb b 13) (λ e. rw (eqb-true b 13 e) refl) (λ f3.
+    by-test (eqb b 44) (λ e. rw (eqb-true b 44 e) refl) (λ f4.
+    by-test (eqb b 59) (λ e. rw (eqb-true b 59 e) refl) (λ f5. absurd (false≢true (rw (f1, f2, f3, f4, f5) at t)))))))
+
+digit-plain : (b : ℕ) → 48 ≤ b → b ≤ 57 → plain? b ≡ true
+unfolding plain?
+digit-plain b low high = rw (le-leb 45 b (omega arith), le-leb b 57 high, ne-eqb b 47 (λ e. omega arith)) refl
+
+-- Digits from a place up to another, and the number that they spell.
+pub record Spelling (text : List ℕ) (start n i : ℕ) : Type 0 where
+  pub plain : Plain·to text start i
+  pub begun : 0 < n → start < i
+  pub small : n ≤ 18446744073709551615
+  pub rest : (end : ℕ) → i ≤ end → digits 0 (take (end - start) (drop start text)) ≡ digits n (take (end - i) (drop i text))
+
+pub spelling-start : (text : List ℕ) (start : ℕ) → Spelling text start 0 start
+spelling-start text start = record { plain = plain-start text start; begun = λ h. absurd (omega arith); small = omega arith; rest = λ end h. refl }
+
+module _ (text : List ℕ) (start n i : ℕ) (k : Spelling text start n i) (h : i < length text) where
+  module _ (low : 48 ≤ getD text i 0) (high : getD text i 0 ≤ 57) where
+    digits-next : (end : ℕ) → i + 1 ≤ end → digits n (take (end - i) (drop i text)) ≡ digits (n * 10 + (getD text i 0 - 48)) (take (end - (i + 1)) (drop (i + 1) text))
+    unfolding digits pick
+    digits-next end l =
+        let more : end - i ≡ suc (end - (i + 1)) = omega arith in
+        rw (more, drop-next text i h, le-leb 48 (getD text i 0) low, le-leb (getD text i 0) 57 high) refl
+
+    pub spelling-turn : n * 10 + (getD text i 0 - 48) ≤ 18446744073709551615 → Spelling text start (n * 10 + (getD text i 0 - 48)) (i + 1)
+    spelling-turn l =
+        let ahead = k .plain .ahead in
+        record {
+          plain = plain-turn text start i (k .plain) (digit-plain (getD text i 0) low high);
+          begun = λ _. omega arith;
+          small = l;
+          rest = λ end e. k .rest end (omega arith) ∙ digits-next end e;
+        }
+
+  pub spelling-end : ends? (getD text i 0) ≡ true → 0 < n → Spells (token·at text start) n
+  unfolding digits largest
+  spelling-end e some =
+      let word = word-told text start i (k .begun some) h (k .plain .each) e in
+      let none : i - i ≡ 0 = omega arith in
+      record {
+        word = ap (λ t. t .kind) (word .told);
+        value = ap (λ t. digits 0 (t .text)) (word .told) ∙ k .rest i (omega arith) ∙ rw none refl;
+        some = some;
+        small = le-leb n 18446744073709551615 (k .small);
+      }
+
+-- Where digits spell a number that is not 0, the first byte is a digit, and the others spell one behind it.
+module _ (m b : ℕ) (r : List ℕ) (h : 0 < digits m (b ∷ r)) where
+  digit-test : leb 48 b && leb b 57 ≡ true
+  unfolding digits pick
+  digit-test = by-test (leb 48 b && leb b 57) (λ t. t) (λ f. let z : 0 < 0 = rw f at h in absurd (omega arith))
+
+  digit-first : (48 ≤ b) × (b ≤ 57)
+  digit-first = (leb-true 48 b (and-left (leb 48 b) (leb b 57) digit-test), leb-true b 57 (and-right (leb 48 b) (leb b 57) digit-test))
+
+  digit-rest : 0 < digits (m * 10 + (b - 48)) r
+  unfolding digits pick
+  digit-rest = rw digit-test at h
+
+  no-digit : (a : ℕ) → (a < 48) → eqb b a ≡ false
+  no-digit a l = let d = digit-first in ne-eqb b a (λ e. omega (arith, d .0))
+
+-- So there is no dash among them, and the word is one part.
+to-dash-digits : (m : ℕ) (l : List ℕ) → 0 < digits m l → to·dash l ≡ l
+unfolding to·dash pick
+to-dash-digits m [] h = refl
+to-dash-digits m (b ∷ r) h = rw (no-digit m b r h 45 (omega arith)) (ap (λ t. b ∷ t) (to-dash-digits (m * 10 + (b - 48)) r (digit-rest m b r h)))
+
+no-more-parts : (w : Numbered) (m : ℕ) (l : List ℕ) → 0 < digits m l → cut·from w true l ≡ []
+unfolding cut·from pick
+no-more-parts w m [] h = refl
+no-more-parts w m (b ∷ r) h = rw (no-digit m b r h 45 (omega arith)) (no-more-parts w (m * 10 + (b - 48)) r (digit-rest m b r h))
+
+one-part : (w : Numbered) (l : List ℕ) → 0 < digits 0 l → cut·from w false l ≡ part w l ∷ []
+unfolding cut·from digits pick
+one-part w [] h = absurd (omega arith)
+one-part w (b ∷ r) h =
+    let more = digit-rest 0 b r h in
+    rw (no-digit 0 b r h 45 (omega arith), to-dash-digits (0 * 10 + (b - 48)) r more, no-more-parts w (0 * 10 + (b - 48)) r more) refl
+
+-- They are not ALL.
+not-all : (b : ℕ) (r : List ℕ) → 0 < digits 0 (b ∷ r) → alike (bytes "ALL") (b ∷ r) ≡ false
+unfolding alike bytes lower pick
+not-all b r h =
+    let d = digit-first 0 b r h in
+    rw (lt-leb 65 b (omega arith), ne-eqb 97 b (λ e. omega arith)) refl
+
+-- They spell the number by any rule.
+positive-digits : (b : ℕ) (r : List ℕ) (n : ℕ) → digits 0 (b ∷ r) ≡ n → 0 < n → leb n largest ≡ true → n ≡ positive (b ∷ r)
+unfolding positive unsigned pick
+positive-digits b r n v some small = sym (rw (no-digit 0 b r (rw v some) 43 (omega arith), v, small) refl)
+
+module _ (count : ℕ) (w : Numbered) (n : ℕ) (s : Spells (w .token) n) where
+  pub spelled-word : word? (w .token .kind) ≡ true
+  unfolding word?
+  spelled-word = rw (s .word) refl
+
+  some-digits : 0 < digits 0 (w .token .text)
+  some-digits = rw (s .value) (s .some)
+
+  pub number-told : told count (part w (w .token .text)) ≡ record { index = w .index; dash = false; stride = false; all = false; character = pick (leb n count) n 0; number = n }
+  unfolding is digits pick
+  number-told = go (w .token .text) refl some-digits (s .value)
+    where
+      go : (l : List ℕ) → w .token .text ≡ l → 0 < digits 0 l → digits 0 l ≡ n → told count (part w l) ≡ record { index = w .index; dash = false; stride = false; all = false; character = pick (leb n count) n 0; number = n }
+      go [] e h v = absurd (omega arith)
+      go (b ∷ r) e h v =
+          let other : is (bytes "ALL") w ≡ false = rw (e, not-all b r h) (and-false (word? (w .token .kind))) in
+          plain-told count w false other spelled-word b r n (λ d. let f = digit-first 0 b r h in omega arith) (positive-digits b r n v (s .some) (s .small)) ∙ rw (no-digit 0 b r h 46 (omega arith)) refl
+
+  list-turn-number : (l : Listed) → list·turn count l w ≡ part·turn count l (part w (w .token .text))
+  unfolding list·turn parts pick fold
+  list-turn-number l = rw (spelled-word, one-part w (w .token .text) some-digits) (then-done (part·turn count l (part w (w .token .text))))
+
+  pub number-follows : (o : CharacterOrdering) (ts us : Types) (l : Listed) (r : WordAnswer) → Follows o ts us (part·turn count l (part w (w .token .text))) r → Follows o ts us (list·turn count l w) r
+  number-follows o ts us l r f = rw (list-turn-number l) f

@@ -1,0 +1,76 @@
+-- Keywords that are told by their bytes at once: letters alike a key's, and behind them a byte that ends a word. Assumes nothing.
+use Prim.Native.Nat.{ℕ, suc, _+_, _-_, _≤_, _<_}
+use Rattle.lexer.proofs.Basics.{and-false, and-left, and-right, by-test, or-true}
+use Rattle.lexer.proofs.ListLaws.{drop-next}
+use Rattle.lexer.proofs.WordsTold.{Plain·to, plain-start, plain-turn, word-told}
+use Rattle.lexer.specs.Base.{alike, bytes, lower, pick}
+use Rattle.lexer.specs.ByteBlocks.{plain?}
+use Rattle.lexer.specs.Lexing.{token·at, word·at}
+use Rattle.lexer.specs.PlainWords.{ends?}
+use Rattle.lexer.specs.Stored.{word·of}
+use Rattle.lexer.specs.Words.{Numbered, is, word?}
+use borrow.Author.Tests.{eq-eqb, eqb-true}
+use lib.Dec.{eqb, leb}
+use lib.ListN.{length, getD, take, drop, drop-of-length-le}
+use mathlib.Core.Bool.{true, false, _&&_, _||_, false≢true}
+use mathlib.Core.List.{List, [], _∷_}
+use mathlib.Core.Path.{_≡_, refl, sym, _∙_}
+use native.Mathlib.Omega.{arith}
+
+letter-plain : (b : ℕ) → (leb 97 b && leb b 122) || (leb 65 b && leb b 90) ≡ true → plain? b ≡ true
+unfolding plain?
+letter-plain b h =
+    by-test (leb 97 b && leb b 122)
+    (λ t. rw (t, or-true) refl)
+    (λ f. let t : leb 65 b && leb b 90 ≡ true = rw f at h in rw (t, or-true) refl)
+
+-- So many bytes of a key, and as many of a text that are alike.
+pub record Matching (text key : List ℕ) (start k i : ℕ) : Type 0 where
+  pub plain : Plain·to text start i
+  pub there : i ≡ start + k
+  pub within : k ≤ length key
+  pub rest : (end : ℕ) → i ≤ end → alike key (take (end - start) (drop start text)) ≡ alike (drop k key) (take (end - i) (drop i text))
+
+pub matching-start : (text key : List ℕ) (start : ℕ) → Matching text key start 0 start
+matching-start text key start = record { plain = plain-start text start; there = omega arith; within = omega arith; rest = λ end h. refl }
+
+module _ (text key : List ℕ) (start k i : ℕ) (s : Matching text key start k i) (h : i < length text) where
+  module _ (more : k < length key) (letter : (leb 97 (getD text i 0) && leb (getD text i 0) 122) || (leb 65 (getD text i 0) && leb (getD text i 0) 90) ≡ true) (e : lower (getD text i 0) ≡ lower (getD key k 0)) where
+    one : (end : ℕ) → i + 1 ≤ end → alike (drop k key) (take (end - i) (drop i text)) ≡ alike (drop (k + 1) key) (take (end - (i + 1)) (drop (i + 1) text))
+    unfolding alike
+    one end l =
+        let left : end - i ≡ suc (end - (i + 1)) = omega arith in
+        rw (left, drop-next key k more, drop-next text i h, eq-eqb (lower (getD key k 0)) (lower (getD text i 0)) (sym e)) refl
+
+    pub matching-turn : Matching text key start (k + 1) (i + 1)
+    matching-turn =
+        let there = s .there in
+        record {
+          plain = plain-turn text start i (s .plain) (letter-plain (getD text i 0) letter);
+          there = omega arith;
+          within = omega arith;
+          rest = λ end l. s .rest end (omega arith) ∙ one end l;
+        }
+
+  pub matching-end : length key ≤ k → 0 < length key → ends? (getD text i 0) ≡ true → is key (word·at text start) ≡ true
+  unfolding is word·at word? alike
+  matching-end over some e =
+      let there = s .there in
+      let word = word-told text start i (omega arith) h (s .plain .each) e in
+      let none : i - i ≡ 0 = omega arith in
+      rw (word .told) (s .rest i (omega arith) ∙ rw (drop-of-length-le key over, none) refl)
+
+-- By the word of an index
+pub told-key : (key text work : List ℕ) (i start : ℕ) → start ≡ getD work i 0 → is key (word·at text start) ≡ true → is key (word·of text work i) ≡ true
+unfolding is word·at word·of
+told-key key text work i start e h = rw (← e) h
+
+-- What is UNORD is not ORD.
+unord-other : (l : List ℕ) → alike (bytes "UNORD") l ≡ true → alike (bytes "ORD") l ≡ false
+unfolding alike bytes lower pick
+unord-other [] h = absurd (false≢true h)
+unord-other (b ∷ r) h = let e = eqb-true 117 (pick (leb 65 b && leb b 90) (b + 32) b) (and-left (eqb 117 (pick (leb 65 b && leb b 90) (b + 32) b)) (alike (bytes "NORD") r) h) in rw (← e) refl
+
+pub not-ord : (w : Numbered) → is (bytes "UNORD") w ≡ true → is (bytes "ORD") w ≡ false
+unfolding is
+not-ord w h = rw (unord-other (w .token .text) (and-right (word? (w .token .kind)) (alike (bytes "UNORD") (w .token .text)) h)) (and-false (word? (w .token .kind)))
