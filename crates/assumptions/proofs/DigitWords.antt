@@ -126,7 +126,7 @@ unfolding positive unsigned pick
 positive-digits b r n v some small = sym (rw (no-digit 0 b r (rw v some) 43 (omega arith), v, small) refl)
 
 module _ (count : ℕ) (w : Numbered) (n : ℕ) (s : Spells (w .token) n) where
-  pub spelled-word : word? (w .token .kind) ≡ true
+  spelled-word : word? (w .token .kind) ≡ true
   unfolding word?
   spelled-word = rw (s .word) refl
 

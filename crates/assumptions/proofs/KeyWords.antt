@@ -5,7 +5,7 @@ use Rattle.lexer.proofs.ListLaws.{drop-next}
 use Rattle.lexer.proofs.WordsTold.{Plain·to, plain-start, plain-turn, word-told}
 use Rattle.lexer.specs.Base.{alike, bytes, lower, pick}
 use Rattle.lexer.specs.ByteBlocks.{plain?}
-use Rattle.lexer.specs.Lexing.{token·at, word·at}
+use Rattle.lexer.specs.Lexing.{word·at}
 use Rattle.lexer.specs.PlainWords.{ends?}
 use Rattle.lexer.specs.Stored.{word·of}
 use Rattle.lexer.specs.Words.{Numbered, is, word?}

@@ -25,7 +25,7 @@ use Rattle.lexer.specs.Stored.{word·of}
 use Rattle.lexer.specs.Words.{Numbered, line·end?, mark?, punct}
 use borrow.Author.Tests.{le-leb}
 use lib.ListN.{length, take}
-use mathlib.Core.Bool.{Bool, true, false}
+use mathlib.Core.Bool.{Bool, false}
 use mathlib.Core.List.{List}
 use mathlib.Core.Path.{_≡_, refl, sym, _∙_}
 use native.Mathlib.Omega.{arith}
