@@ -8,6 +8,7 @@ use Rattle.block.specs.NamesHeld.{name·of, names·of}
 use Rattle.block.specs.Outcome.{Outcome, done, refused, then, need}
 use Rattle.block.specs.Reading.{Taxon}
 use Rattle.block.specs.Sequential.{names}
+use Rattle.block.specs.Sound.{names·differ}
 use Rattle.block.specs.declared.Judged.{Judged}
 use Rattle.lexer.proofs.Basics.{by-test}
 use Rattle.lexer.proofs.RangeLaws.{word-kept, range-kept}
@@ -16,10 +17,11 @@ use Rattle.lexer.specs.Stored.{word·of, range}
 use Rattle.lexer.specs.declared.refusal.Refusal.{Refusal}
 use Rattle.matrix.proofs.BelowLaws.{below-each, below-further, stored-below}
 use Rattle.matrix.proofs.IndexLaws.{name-same, indexed-kept}
+use Rattle.matrix.proofs.PlaceWalk.{row-placed}
 use Rattle.matrix.proofs.StoredRows.{stored-kept, cleared-front, names-kept}
 use Rattle.matrix.specs.Lines.{name·at, names·stored, stored}
 use Rattle.matrix.specs.OrderHeld.{Arranged, place·from, place·of, cells·at, ordered, all·below}
-use Rattle.matrix.specs.RowIndex.{Indexed, Rows·put}
+use Rattle.matrix.specs.RowIndex.{Indexed, Rows·put, row·alike}
 use Rattle.slots.specs.Filling.{Cleared, Table·fits}
 use Rattle.slots.specs.declared.Table.{Table}
 use borrow.Author.Tests.{ltb-true, ltb-false}
@@ -66,11 +68,11 @@ ordered-append rows work (m ∷ ns) n at =
     rw (next, ordered-append rows work ns n (suc at)) refl
 
 -- The words of TAXLABELS stand in front of the stored rows, and these in front of what is stored here.
-module _ (text before : List ℕ) (lines rows from to at head : ℕ) (t : Table) where
+module _ (text before : List ℕ) (lines rows from to at head : ℕ) where
   declared : ℕ → ℕ → List (List ℕ)
   declared i end = names·of (words (range text before i end))
 
-  -- What a turn keeps: work memory in front, how many names have passed, and that a table has the rows; and what the rest comes to behind them.
+  -- What a turn keeps: work memory in front, and how many names have passed; and what the rest comes to behind them.
   pub record Arranging (work : List ℕ) (i k : ℕ) : Type 0 where
     pub size : length work ≡ length before
     pub kept : take at work ≡ take at before
@@ -78,8 +80,7 @@ module _ (text before : List ℕ) (lines rows from to at head : ℕ) (t : Table)
     pub within : to < i → i ≤ from
     pub count : k ≡ at + length (names·of (words (range text before from i)))
     pub few : length (names·of (words (range text before from i))) ≤ i
-    pub indexed : all·below at (stored before lines rows) → Indexed text work lines rows t
-    pub rest : (taken : List Taxon) → names taken ≡ names·stored text before (stored before lines rows) → all·below at (stored before lines rows)
+    pub rest : (taken : List Taxon) → names taken ≡ names·stored text before (stored before lines rows) → all·below at (stored before lines rows) → names·differ (names taken) ≡ true
         → then (arranged head taken (names·of (words (range text before i to)))) (λ ts. done (ordered taken work at (names·of (words (range text before from i))) ++ ts)) ≡ arranged head taken (names·of (words (range text before from to)))
 
   then-same : (o : Outcome (List Taxon)) → then o (λ ts. done ts) ≡ o
@@ -87,9 +88,9 @@ module _ (text before : List ℕ) (lines rows from to at head : ℕ) (t : Table)
   then-same (done ts) = refl
   then-same (refused n i) = refl
 
-  pub arranging-start : (all·below at (stored before lines rows) → Indexed text before lines rows t) → Arranging before from at
+  pub arranging-start : Arranging before from at
   unfolding names·of ordered
-  arranging-start indexed =
+  arranging-start =
       record {
         size = refl;
         kept = refl;
@@ -97,8 +98,7 @@ module _ (text before : List ℕ) (lines rows from to at head : ℕ) (t : Table)
         within = λ l. omega arith;
         count = rw (words-end text before from from (omega arith)) (omega arith);
         few = rw (words-end text before from from (omega arith)) (omega arith);
-        indexed = indexed;
-        rest = λ taken same below. rw (words-end text before from from (omega arith)) (then-same _);
+        rest = λ taken same below differ. rw (words-end text before from from (omega arith)) (then-same _);
       }
 
   module _ (room : (to ≤ lines) × (lines + rows ≤ at) × (at + to ≤ length before) × (rows ≤ 1048576)) (work : List ℕ) (i k : ℕ) (a : Arranging work i k) where
@@ -113,11 +113,17 @@ module _ (text before : List ℕ) (lines rows from to at head : ℕ) (t : Table)
     names-here below = rw (stored-kept work before at lines rows (a .kept) (room .1)) (names-kept text work before at (a .kept) (stored before lines rows) (below-each at (stored before lines rows) below))
 
     -- what was found among the names of stored rows is the place among those of any rows that have them
-    pub found-place : (o : Option ℕ) → i < to → (Indexed text work lines rows t → o ≡ place·of (name·at text work i) (names·stored text work (stored work lines rows)))
-        → (taken : List Taxon) → names taken ≡ names·stored text before (stored before lines rows) → all·below at (stored before lines rows)
-        → place·of (name·of (word·of text before i)) (names taken) ≡ o
+    pub found-place : (o : Option ℕ) → i < to → (taken : List Taxon) → names taken ≡ names·stored text before (stored before lines rows) → all·below at (stored before lines rows)
+        → o ≡ place·of (name·at text work i) (names·stored text work (stored work lines rows)) → place·of (name·of (word·of text before i)) (names taken) ≡ o
     unfolding name·at name·of
-    found-place o h e taken same below = sym (e (a .indexed below) ∙ rw (word-here h, names-here below, ← same) refl)
+    found-place o h taken same below e = sym (e ∙ rw (word-here h, names-here below, ← same) refl)
+
+    -- a row that has the name is its place, where the names differ
+    pub row-place : (j : ℕ) → i < to → (j < rows) × (row·alike text work lines i j ≡ true) → (taken : List Taxon) → names taken ≡ names·stored text before (stored before lines rows) → all·below at (stored before lines rows)
+        → names·differ (names taken) ≡ true → place·of (name·of (word·of text before i)) (names taken) ≡ some j
+    unfolding row·alike
+    row-place j h e taken same below differ =
+        found-place (some j) h taken same below (row-placed text work lines rows j (name·at text work i) (omega (arith, room .1, room .2, a .size)) (e .0) (rw (names-here below, ← same) differ) (e .1))
 
     pub arranging-newline : i < to → newline (word·of text before i) ≡ true → Arranging work (i + 1) k
     unfolding names·of
@@ -129,8 +135,7 @@ module _ (text before : List ℕ) (lines rows from to at head : ℕ) (t : Table)
           within = λ l. omega arith;
           count = rw (words-last-newline text before from i (a .since) e) (a .count);
           few = rw (words-last-newline text before from i (a .since) e) (omega (arith, a .few));
-          indexed = a .indexed;
-          rest = λ taken same below. rw (words-last-newline text before from i (a .since) e) (rw (words-newline text before i to h e) at (a .rest taken same below));
+          rest = λ taken same below differ. rw (words-last-newline text before from i (a .since) e) (rw (words-newline text before i to h e) at (a .rest taken same below differ));
         }
 
     module _ (h : i < to) (e : newline (word·of text before i) ≡ false) where
@@ -140,11 +145,11 @@ module _ (text before : List ℕ) (lines rows from to at head : ℕ) (t : Table)
       unfolding names·of arranged
       split taken = rw (words-next text before i to h e) refl
 
-      pub arranging-absent : (taken : List Taxon) → names taken ≡ names·stored text before (stored before lines rows) → all·below at (stored before lines rows)
+      pub arranging-absent : (taken : List Taxon) → names taken ≡ names·stored text before (stored before lines rows) → all·below at (stored before lines rows) → names·differ (names taken) ≡ true
           → place·of (name·of (word·of text before i)) (names taken) ≡ none
           → refused Refusal.TaxonAbsent head ≡ arranged head taken (names·of (words (range text before from to)))
       unfolding place·of need then
-      arranging-absent taken same below p = rw (split taken, absent-row (name·of (word·of text before i)) taken 0 p) at (a .rest taken same below)
+      arranging-absent taken same below differ p = rw (split taken, absent-row (name·of (word·of text before i)) taken 0 p) at (a .rest taken same below differ)
 
       names-more : names·of (words (range text before from (i + 1))) ≡ names·of (words (range text before from i)) ++ (name·of (word·of text before i) ∷ [])
       unfolding names·of
@@ -172,23 +177,23 @@ module _ (text before : List ℕ) (lines rows from to at head : ℕ) (t : Table)
         joined (done ts) = rw (ordered-more, append-assoc) refl
         joined (refused m q) = refl
 
-        rest-more : names taken ≡ names·stored text before (stored before lines rows) → all·below at (stored before lines rows)
+        rest-more : names taken ≡ names·stored text before (stored before lines rows) → all·below at (stored before lines rows) → names·differ (names taken) ≡ true
             → then (arranged head taken (names·of (words (range text before (i + 1) to)))) (λ ts. done (ordered taken (set work k j) at (names·of (words (range text before from (i + 1)))) ++ ts)) ≡ arranged head taken (names·of (words (range text before from to)))
         unfolding need then
-        rest-more same below = sym (joined (arranged head taken (names·of (words (range text before (i + 1) to))))) ∙ rw (split taken, row-here) at (a .rest taken same below)
+        rest-more same below differ = sym (joined (arranged head taken (names·of (words (range text before (i + 1) to))))) ∙ rw (split taken, row-here) at (a .rest taken same below differ)
 
       -- the number that is stored stands behind the rows and in front of the table
-      store-indexed : (j : ℕ) → at + to ≤ t .base → t .base ≤ t .end → all·below at (stored before lines rows) → Indexed text (set work k j) lines rows t
-      store-indexed j front order below =
+      pub store-indexed : (t : Table) (j : ℕ) → at + to ≤ t .base → t .base ≤ t .end → all·below at (stored before lines rows) → Indexed text work lines rows t → Indexed text (set work k j) lines rows t
+      store-indexed t j front order below indexed =
           indexed-kept text work (set work k j) lines t order rows
           (λ m l. name-same text work (set work k j) at lines m (take-set-le at work k j (omega (arith, a .count))) (omega (arith, room .1, l)) (stored-below at work lines rows (rw (stored-kept work before at lines rows (a .kept) (room .1)) below) m l (omega (arith, room .1, room .2, a .size))))
           (λ q m. getD-set-other work k q j 0 (λ e. omega (arith, a .count, a .few, front, h)))
-          (a .indexed below)
+          indexed
 
       pub arranging-turn : (j : ℕ)
-          → ((taken : List Taxon) → names taken ≡ names·stored text before (stored before lines rows) → all·below at (stored before lines rows) → place·of (name·of (word·of text before i)) (names taken) ≡ some j)
-          → at + to ≤ t .base → t .base ≤ t .end → Arranging (set work k j) (i + 1) (k + 1)
-      arranging-turn j found front order =
+          → ((taken : List Taxon) → names taken ≡ names·stored text before (stored before lines rows) → all·below at (stored before lines rows) → names·differ (names taken) ≡ true → place·of (name·of (word·of text before i)) (names taken) ≡ some j)
+          → Arranging (set work k j) (i + 1) (k + 1)
+      arranging-turn j found =
           let more : length (names·of (words (range text before from (i + 1)))) ≡ length (names·of (words (range text before from i))) + 1 = rw (names-more, length-append) refl in
           record {
             size = length-set work k j ∙ a .size;
@@ -197,15 +202,14 @@ module _ (text before : List ℕ) (lines rows from to at head : ℕ) (t : Table)
             within = λ l. omega arith;
             count = omega (arith, a .count);
             few = omega (arith, a .few);
-            indexed = λ below. store-indexed j front order below;
-            rest = λ taken same below. rest-more taken j (found taken same below) same below;
+            rest = λ taken same below differ. rest-more taken j (found taken same below differ) same below differ;
           }
 
     -- All names have passed.
-    pub arranging-end : to ≤ i → (taken : List Taxon) → names taken ≡ names·stored text before (stored before lines rows) → all·below at (stored before lines rows)
+    pub arranging-end : to ≤ i → (taken : List Taxon) → names taken ≡ names·stored text before (stored before lines rows) → all·below at (stored before lines rows) → names·differ (names taken) ≡ true
         → done (ordered taken work at (names·of (words (range text before from to)))) ≡ arranged head taken (names·of (words (range text before from to)))
     unfolding arranged names·of then
-    arranging-end l taken same below = ap (λ ws. done (ordered taken work at (names·of ws))) (by-test (ltb to i) (λ t. past (ltb-true to i t)) (λ t. met (ltb-false to i t))) ∙ all
+    arranging-end l taken same below differ = ap (λ ws. done (ordered taken work at (names·of ws))) (by-test (ltb to i) (λ t. past (ltb-true to i t)) (λ t. met (ltb-false to i t))) ∙ all
       where
         past : to < i → words (range text before from to) ≡ words (range text before from i)
         past m = let w = a .within m in words-end text before from to (omega (arith, a .since)) ∙ sym (words-end text before from i w)
@@ -214,7 +218,20 @@ module _ (text before : List ℕ) (lines rows from to at head : ℕ) (t : Table)
         met m = let same : i ≡ to = omega arith in rw same refl
 
         all : done (ordered taken work at (names·of (words (range text before from i)))) ≡ arranged head taken (names·of (words (range text before from to)))
-        all = sym (rw (words-end text before i to l, append-nil) refl) ∙ a .rest taken same below
+        all = sym (rw (words-end text before i to l, append-nil) refl) ∙ a .rest taken same below differ
+
+-- What was arranged where work memory was kept in front was arranged as it was before.
+pub arranged-behind : {text before work after : List ℕ} {lines rows from to at head : ℕ} {r : Judged} → (to ≤ lines) × (lines + rows ≤ at) → length work ≡ length before → take at work ≡ take at before
+    → Arranged text work after lines rows from to at head r → Arranged text before after lines rows from to at head r
+arranged-behind {text} {before} {work} {lines = lines} {rows} {from} {to} {at} room size kept k =
+    let starts = stored-kept work before at lines rows kept (room .1) in
+    record {
+      size = k .size ∙ size;
+      kept = k .kept ∙ kept;
+      each = λ taken same below differ.
+          let names = names-kept text work before at kept (stored before lines rows) (below-each at (stored before lines rows) below) in
+          rw (range-kept text work before at kept from to (omega (arith, room .0, room .1))) at (k .each taken (rw (starts, names) same) (rw starts below) differ);
+    }
 
 -- A table was cleared, and the stored rows were put into it, before the names are arranged.
 module _ {text before clear work : List ℕ} {lines rows to at : ℕ} {t : Table} (room : (to ≤ lines) × (lines + rows ≤ at) × (at + to ≤ length before) × (rows ≤ 1048576))
@@ -236,12 +253,4 @@ module _ {text before clear work : List ℕ} {lines rows to at : ℕ} {t : Table
       p .indexed (below-further at (t .base) (omega (arith, fits .begins)) (stored clear lines rows) (rw same at below))
 
   pub arranged-filled : {after : List ℕ} {from head : ℕ} {r : Judged} → Arranged text work after lines rows from to at head r → Arranged text before after lines rows from to at head r
-  arranged-filled {after} {from} k =
-      let starts = stored-kept work before at lines rows filled-kept (room .1) in
-      record {
-        size = k .size ∙ filled-size;
-        kept = k .kept ∙ filled-kept;
-        each = λ taken same below.
-            let names = names-kept text work before at filled-kept (stored before lines rows) (below-each at (stored before lines rows) below) in
-            rw (range-kept text work before at filled-kept from to (omega (arith, room .0, room .1))) at (k .each taken (rw (starts, names) same) (rw starts below));
-      }
+  arranged-filled k = arranged-behind (room .0, room .1) filled-size filled-kept k

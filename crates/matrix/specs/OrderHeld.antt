@@ -7,12 +7,14 @@ use Rattle.block.specs.Judged.{judged}
 use Rattle.block.specs.NamesHeld.{names·of}
 use Rattle.block.specs.Reading.{Taxon}
 use Rattle.block.specs.Sequential.{names}
+use Rattle.block.specs.Sound.{names·differ}
 use Rattle.block.specs.declared.Judged.{Judged}
 use Rattle.block.specs.declared.formats.Index.{Index}
 use Rattle.lexer.specs.Base.{pick, alike}
 use Rattle.lexer.specs.Stored.{range}
 use Rattle.matrix.specs.Lines.{names·stored, stored}
 use lib.ListN.{length, getD, take}
+use mathlib.Core.Bool.{Bool, true}
 use mathlib.Core.List.{List, [], _∷_}
 use mathlib.Core.Option.{Option, none, some}
 use mathlib.Core.Path.{_≡_}
@@ -46,9 +48,15 @@ unfoldable pub all·below : ℕ → List ℕ → Type 0
 all·below bound [] = Unit {0}
 all·below bound (s ∷ r) = (s < bound) × all·below bound r
 
--- What arranging leaves and answers, for any rows that have the stored names, whose tokens stand in front of what is stored.
+-- What arranging leaves and answers, for any rows that have the stored names, which differ and whose tokens stand in front of what is stored.
 pub record Arranged (text before after : List ℕ) (lines rows from to at head : ℕ) (r : Judged) : Type 0 where
   pub size : length after ≡ length before
   pub kept : take at after ≡ take at before
-  pub each : (taken : List Taxon) → names taken ≡ names·stored text before (stored before lines rows) → all·below at (stored before lines rows)
+  pub each : (taken : List Taxon) → names taken ≡ names·stored text before (stored before lines rows) → all·below at (stored before lines rows) → names·differ (names taken) ≡ true
       → judged (ordered taken after at (names·of (words (range text before from to)))) r ≡ arranged head taken (names·of (words (range text before from to)))
+
+-- The declared names were held against the stored rows, one after the other: where each is the name of its row, they are arranged.
+pub record Order·tried (text before after : List ℕ) (lines rows from to at : ℕ) (r : Bool) : Type 0 where
+  pub size : length after ≡ length before
+  pub kept : take at after ≡ take at before
+  pub good : r ≡ true → (head : ℕ) → Arranged text before after lines rows from to at head Judged.Good

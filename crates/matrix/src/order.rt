@@ -1,12 +1,13 @@
 // Rows in declared order, after mod.rs.
 
-ghost use Prim.Native.Nat.{ℕ, _+_, _≤_};
+ghost use Prim.Native.Nat.{ℕ, _+_, _≤_, _<_};
 ghost use Rattle.block.specs.Cells.{index·of};
 ghost use Rattle.matrix.specs.Lines.{name·at, names·stored, stored};
-ghost use Rattle.matrix.specs.OrderHeld.{Arranged, Index·below, all·below, place·of};
-ghost use Rattle.matrix.specs.RowIndex.{Indexed};
+ghost use Rattle.matrix.specs.OrderHeld.{Arranged, Index·below, Order·tried, all·below, place·of};
+ghost use Rattle.matrix.specs.RowIndex.{Indexed, row·alike};
 ghost use Rattle.slots.specs.Filling.{Table·fits};
 ghost use lib.ListN.{getD, length};
+ghost use mathlib.Core.Bool.{true};
 ghost use mathlib.Core.Path.{_≡_};
 use super::index::index_rows;
 use super::index::row_found;
@@ -82,7 +83,7 @@ fn arrange_names(
 }
 
 // The same, with the table behind the rows of the declared names.
-pub fn arrange(
+fn arrange_tabled(
     text: &[u8],
     work: &mut [u32],
     lines: usize,
@@ -98,4 +99,67 @@ pub fn arrange(
     let table = name_table(work, at + to, rows);
     index_rows(text, work, lines, rows, table);
     arrange_names(text, work, lines, rows, from, to, at, head, table)
+}
+
+// Is there a row of a number, counted from 0 on, and has it the name of a word?
+fn row_named(text: &[u8], work: &[u32], at: usize, rows: usize, i: usize, k: usize) -> bool
+    requires { ⌜ at + rows ≤ length (now work) ⌝ }
+    ensures { λ r. ⌜ (r ≡ true → (k < rows) × (row·alike (now (text .entry)) (now (work .entry)) at i k ≡ true)) ⌝ }
+{
+    if rows <= k {
+        return false;
+    }
+    alike(text, work, i, row_name(work, at, TaxonNumber(k + 1)))
+}
+
+// Are the declared names, the words from an index up to another, those of the rows in their order? The number of each is stored from `at` on, up to the
+// first that is another.
+fn in_order(
+    text: &[u8],
+    work: &mut [u32],
+    lines: usize,
+    rows: usize,
+    from: usize,
+    to: usize,
+    at: usize,
+) -> bool
+    requires { ⌜ (to ≤ lines) × (lines + rows ≤ at) × (at + to ≤ length (now work)) × (rows ≤ 1048576) ⌝ }
+    ensures { λ r. ⌜ Order·tried (now (text .entry)) (now (work .entry)) (now (work .exit)) lines rows from to at r ⌝ }
+{
+    let mut i = from;
+    let mut k = 0;
+    while i < to {
+        if newline(text, work, i) {
+            i += 1;
+            continue;
+        }
+        if !row_named(text, work, lines, rows, i, k) {
+            return false;
+        }
+        let place = at + k;
+        work[place] = k as u32;
+        k += 1;
+        i += 1;
+    }
+    true
+}
+
+// For each declared name its row is stored. Most texts declare the names in the order of the rows, so that no table is needed.
+pub fn arrange(
+    text: &[u8],
+    work: &mut [u32],
+    lines: usize,
+    rows: usize,
+    from: usize,
+    to: usize,
+    at: usize,
+    head: usize,
+) -> Judged
+    requires { ⌜ (to ≤ lines) × (lines + rows ≤ at) × (at + to ≤ length (now work)) × (rows ≤ 1048576) ⌝ }
+    ensures { λ r. ⌜ Arranged (now (text .entry)) (now (work .entry)) (now (work .exit)) lines rows from to at head r ⌝ }
+{
+    if in_order(text, work, lines, rows, from, to, at) {
+        return Judged::Good;
+    }
+    arrange_tabled(text, work, lines, rows, from, to, at, head)
 }

@@ -52,7 +52,7 @@ module _ (text before mid : List ℕ) (count lines taxa characters symbols head 
   -- The order was refused.
   pub order-refused : (n : Refusal) (i : ℕ) → Order·made text before mid count lines taxa head (d .names) (Judged.Refused n i) → Labels·made text before mid count lines taxa characters symbols head d (Judged.Refused n i)
   unfolding order·labelled judged then
-  order-refused n i o = record { size = o .size; kept = o .kept; each = λ f taken named below agreed. rw (← o .each taken named below agreed) }
+  order-refused n i o = record { size = o .size; kept = o .kept; each = λ f taken named below differ agreed. rw (← o .each taken named below differ agreed) }
 
   -- The order is stored, and then the labels.
   module _ (o : Order·made text before mid count lines taxa head (d .names) Judged.Good) (after : List ℕ) (same : length after ≡ length mid) (at : ℕ) (p : at ≡ labels·place count lines taxa)
@@ -76,7 +76,7 @@ module _ (text before mid : List ℕ) (count lines taxa characters symbols head 
           size = same ∙ o .size;
           kept = front-kept after mid at front (order·place count lines taxa) (omega (arith, p)) ∙ o .kept;
           each =
-              λ f taken named below agreed.
-              rw (← o .each taken named below agreed, order taken, ← p, ← commands)
+              λ f taken named below differ agreed.
+              rw (← o .each taken named below differ agreed, order taken, ← p, ← commands)
               (labels-judged f _ _ r _ labelled);
         }

@@ -1,11 +1,13 @@
 -- A whole matrix, stored: its rows, then the order of its taxa and its labels. Assumes nothing.
 use Prim.Native.Nat.{ℕ, _+_, _≤_}
+use Rattle.block.proofs.RowsDiffer.{rows-differ}
 use Rattle.block.specs.Blocks.{agrees, matrix·reading, rows}
 use Rattle.block.specs.Format.{Format}
 use Rattle.block.specs.Judged.{judged}
 use Rattle.block.specs.Outcome.{done, then}
 use Rattle.block.specs.Reading.{Taxon}
-use Rattle.block.specs.Sequential.{Shape}
+use Rattle.block.specs.Sequential.{Shape, names}
+use Rattle.block.specs.Sound.{names·differ}
 use Rattle.block.specs.declared.Judged.{Judged}
 use Rattle.commands.specs.MatrixHeld.{format·held, order·held, reading·held, rows·of, untyped·held}
 use Rattle.commands.specs.StateHeld.{Reader, data·of, names·in}
@@ -83,6 +85,11 @@ module _ (text before mid : List ℕ) (count head to taxa characters : ℕ) (d :
     taken : List Taxon
     taken = rows·held text (take count mid) form taxa characters to (stored mid count lines)
 
+    -- Their names differ.
+    taken-differ : names·differ (names taken) ≡ true
+    unfolding rows·answer taken
+    taken-differ = rows-differ whole raw (rows·held text (take count mid) form taxa characters to (stored mid count lines)) (sym (taken-rows (Rows.Done lines) t))
+
     -- The matrix is what its order and its labels come to behind these rows.
     behind-rows : (m : Reader) → order·labelled form head (length (form .symbols)) characters (data·of m text (take count before) d .taxa) (data·of m text (take count before) d .labels) taken ≡ matrix·reading (data·of m text (take count before) d) whole raw
     unfolding order·labelled matrix·reading then rows·answer reading·parts taken
@@ -102,7 +109,7 @@ module _ (text before mid : List ℕ) (count head to taxa characters : ℕ) (d :
           → judged (reading·parts form (order·held text starts after (order·place count lines taxa) taxa (d .names) taken) (labels·held text after (labels·place count lines taxa) characters)) r
           ≡ order·labelled form head (length (form .symbols)) characters (names·in text starts (d .names)) (commands·held text starts (d .labels)) taken
       unfolding taken
-      told-by starts e agreed = rw (← e) (l .each form taken (t .named lines refl) (t .below lines refl) (rw (← e) at agreed))
+      told-by starts e agreed = rw (← e) (l .each form taken (t .named lines refl) (t .below lines refl) taken-differ (rw (← e) at agreed))
 
       -- What is held then is the matrix.
       as-held : reading·held text after count (held·of d head to lines taxa characters)

@@ -42,7 +42,7 @@ module _ (size count lines taxa : ℕ) (h : map·fits size count lines taxa 0 �
 -- Without declared names nothing is stored.
 pub order-none : (text work : List ℕ) (count lines taxa head : ℕ) (names : Names) → names ≡ Names.None → Order·made text work work count lines taxa head names Judged.Good
 unfolding judged order·held in·order names·in
-order-none text work count lines taxa head names e = record { size = refl; kept = refl; each = λ taken named below agreed. rw e }
+order-none text work count lines taxa head names e = record { size = refl; kept = refl; each = λ taken named below differ agreed. rw e }
 
 module _ (text before after : List ℕ) (count lines taxa head from to at : ℕ) (names : Names) (e : names ≡ Names.Words from to) (p : at ≡ order·place count lines taxa) (within : to ≤ count) (r : Judged) where
   pub order-arranged : Arranged text before after count taxa from to at head r → Order·made text before after count lines taxa head names r
@@ -52,10 +52,10 @@ module _ (text before after : List ℕ) (count lines taxa head from to at : ℕ)
         size = a .size;
         kept = rw p at (a .kept);
         each =
-            λ taken named below agreed.
+            λ taken named below differ agreed.
             let ns = names·of (words (range text (take count before) from to)) in
             let front = range-kept text before (take count before) count (sym (take-take count count before (omega arith))) from to within in
             let many : length ns ≡ taxa = eqb-true (length ns) taxa (and-left (eqb (length ns) taxa) (leb taxa largest) (rw e at agreed)) in
             let whole : take taxa ns ≡ ns = take-all taxa ns (omega (arith, many)) in
-            rw (e, whole, ← p) (rw front at (a .each taken named (below-further count at (omega (arith, p)) _ below)));
+            rw (e, whole, ← p) (rw front at (a .each taken named (below-further count at (omega (arith, p)) _ below) differ));
       }

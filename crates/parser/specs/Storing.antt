@@ -9,6 +9,7 @@ use Rattle.block.specs.Labels as L
 use Rattle.block.specs.Outcome.{Outcome, done, refused, then}
 use Rattle.block.specs.Reading.{Reading, Taxon}
 use Rattle.block.specs.Sequential.{Shape, names}
+use Rattle.block.specs.Sound.{names·differ}
 use Rattle.block.specs.declared.Judged.{Judged}
 use Rattle.commands.specs.MatrixHeld.{format·held, held, order·held, reading·held}
 use Rattle.commands.specs.StateHeld.{Reader, data·of, names·in}
@@ -100,7 +101,7 @@ pub record Order·made (text before after : List ℕ) (count lines taxa head : �
   pub size : length after ≡ length before
   pub kept : take (order·place count lines taxa) after ≡ take (order·place count lines taxa) before
   pub each : (taken : List Taxon) → names taken ≡ names·stored text before (stored before count taxa) → all·below count (stored before count taxa)
-      → agrees (names·in text (take count before) declared) taxa ≡ true
+      → names·differ (names taken) ≡ true → agrees (names·in text (take count before) declared) taxa ≡ true
       → judged (order·held text (take count before) after (order·place count lines taxa) taxa declared taken) r ≡ in·order head (names·in text (take count before) declared) taken
 
 -- Storing the order, then the labels.
@@ -108,7 +109,7 @@ pub record Labels·made (text before after : List ℕ) (count lines taxa charact
   pub size : length after ≡ length before
   pub kept : take (order·place count lines taxa) after ≡ take (order·place count lines taxa) before
   pub each : (f : Format) (taken : List Taxon) → names taken ≡ names·stored text before (stored before count taxa) → all·below count (stored before count taxa)
-      → agrees (names·in text (take count before) (d .names)) taxa ≡ true
+      → names·differ (names taken) ≡ true → agrees (names·in text (take count before) (d .names)) taxa ≡ true
       → judged (reading·parts f (order·held text (take count before) after (order·place count lines taxa) taxa (d .names) taken) (labels·held text after (labels·place count lines taxa) characters)) r
       ≡ order·labelled f head symbols characters (names·in text (take count before) (d .names)) (commands·held text (take count before) (d .labels)) taken
 

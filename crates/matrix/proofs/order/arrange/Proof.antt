@@ -1,44 +1,31 @@
--- The function `arrange` meets its contract. Assumes nothing.
-use Rattle.matrix.proofs.ArrangeWalk.{filled-size, filled-fits, filled-indexed, arranged-filled}
+-- The function `arrange` meets its contract: names in the order of the rows are arranged at once, others by a table. Assumes nothing.
+use Rattle.matrix.proofs.ArrangeWalk.{arranged-behind}
 use Rattle.matrix.proofs.order.arrange.Statement.{statement}
 use Rattle.matrix.proofs.order.arrange.Tie as tie
 use borrow.Author.Needs.{needs}
-use native.Mathlib.Omega.{arith}
 
-add-name-table : tie.Need-add-name-table
-add-name-table c = search needs
-
-name-table-requires : tie.Need-name-table-requires
-name-table-requires c κs = search needs
-
-index-rows-requires : tie.Need-index-rows-requires
-index-rows-requires c κs = search needs
-
-arrange-names-requires : tie.Need-arrange-names-requires
-arrange-names-requires c κs =
-    let i = c .before .before .before in
-    let f = i .before .before .before .before in
-    let room = f .before .before .before .before .pre in
-    let e = f .name-table .ensures in
-    let p = i .index-rows .ensures in
-    ((room .0, room .1, omega (arith, room .2, filled-size room (e .0) (e .1) p), room .3), filled-fits room (e .0) (e .1) p, filled-indexed room (e .0) (e .1) p)
+in-order-requires : tie.Need-in-order-requires
+in-order-requires c κs = search needs
 
 same-length : tie.Need-same-length
 same-length c = search needs
 
 returns : tie.Need-returns
-returns c =
-    let i = c .before .before .before .before .before .before in
-    let f = i .before .before .before .before in
-    arranged-filled (f .before .before .before .before .pre) (f .name-table .ensures .0) (f .name-table .ensures .1) (i .index-rows .ensures) (c .before .before .arrange-names .ensures)
+returns c = c .before .before .before .in-order .ensures .good (c .if1 .taken) _
+
+arrange-tabled-requires : tie.Need-arrange-tabled-requires
+arrange-tabled-requires c κs = search needs
+
+same-length-2 : tie.Need-same-length-2
+same-length-2 c = search needs
+
+returns-2 : tie.Need-returns-2
+returns-2 c =
+    let t = c .before .before .before .before .before .before .before .in-order .ensures in
+    let room = c .before .before .before .before .before .before .before .before .before .before .before .pre in
+    arranged-behind (room .0, room .1) (t .size) (t .kept) (c .before .before .arrange-tabled .ensures)
 
 pub arrange-spec : {M : Type 1} → statement M
 arrange-spec =
     tie.close
-    (tie.spec
-    add-name-table
-    name-table-requires
-    index-rows-requires
-    arrange-names-requires
-    same-length
-    returns)
+    (tie.spec in-order-requires same-length returns arrange-tabled-requires same-length-2 returns-2)
