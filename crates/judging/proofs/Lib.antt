@@ -5,12 +5,12 @@ pub mod JudgeLaws
 mod CellBytes
 mod CellCounts
 mod CellModeLaws
+mod CellRuns
 mod CellsFit
 mod CellsJudged
 mod CellsRun
 mod CharacterApart
 mod CharactersTold
-mod DigitRuns
 mod HollowTexts
 mod KeyLaws
 mod LinesTold

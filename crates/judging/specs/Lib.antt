@@ -3,7 +3,7 @@ pub mod Judges
 pub mod NameRest
 pub mod CellModes
 pub mod CellsJudged
-pub mod DigitRuns
+pub mod CellRuns
 pub mod Numbers
 pub mod Shapes
 pub mod Tells

@@ -8,8 +8,7 @@ ghost use lib.Dec.{eqb, ltb};
 ghost use lib.ListN.{length, getD};
 ghost use mathlib.Core.Bool.{true};
 ghost use mathlib.Core.Path.{_≡_};
-use super::digits::digits_run;
-use super::digits::top_digit;
+use super::cell_runs::cells_run;
 use block::CharacterNumber;
 
 // The cells of a row end at a place, and whether a gap is among them; or there are none.
@@ -207,7 +206,7 @@ fn count_blank(blanks: usize, b: u8) -> usize
     blanks
 }
 
-// The walk with the next byte read, which is no LF; or with a cell of one byte and a blank read at once.
+// The walk with the next byte read, which is no LF; or with a cell of one byte and a blank read at once, and those that follow.
 fn walk_on(source: &[u8], walk: Walk, symbols: usize) -> Walk
     requires inside { ⌜ walk .at < length (now source) ⌝ }
     requires few { ⌜ walk .blanks ≤ walk .at ⌝ }
@@ -220,12 +219,7 @@ fn walk_on(source: &[u8], walk: Walk, symbols: usize) -> Walk
     let gap = walk.gap | (b == 103);
     if is_fresh(mode) {
         if whole_at(source, at, symbols) {
-            return Walk {
-                at: at + 2,
-                mode: Mode::Fresh,
-                blanks: walk.blanks + 1,
-                gap: gap,
-            };
+            return cells_run(source, at + 2, walk.blanks + 1, gap, symbols);
         }
     }
     Walk {
@@ -234,29 +228,6 @@ fn walk_on(source: &[u8], walk: Walk, symbols: usize) -> Walk
         blanks: count_blank(walk.blanks, b),
         gap: gap,
     }
-}
-
-// The walk with the next byte read, or many at once: behind seven cells, and each eight further on, cells of one digit are passed together.
-fn walk_far(source: &[u8], walk: Walk, symbols: usize) -> Walk
-    requires inside { ⌜ walk .at < length (now source) ⌝ }
-    requires few { ⌜ walk .blanks ≤ walk .at ⌝ }
-    requires line { ⌜ (getD (now source) (walk .at) 0 ≡ 10 → ⊥) ⌝ }
-    ensures { λ r. ⌜ (walk .at < r .at) × Moves (now (source .entry)) symbols walk r ⌝ }
-{
-    let at = walk.at;
-    let mode = walk.mode;
-    if is_fresh(mode) & (walk.blanks % 8 == 7) {
-        let end = digits_run(source, at, top_digit(symbols));
-        if at < end {
-            return Walk {
-                at: end,
-                mode: Mode::Fresh,
-                blanks: walk.blanks + (end - at) / 2,
-                gap: walk.gap,
-            };
-        }
-    }
-    walk_on(source, walk, symbols)
 }
 
 // What a row that was read up to its LF is: as many cells as there are characters, or none.
@@ -288,7 +259,7 @@ pub fn cells_line(source: &[u8], i: usize, characters: CharacterNumber, symbols:
         if source[at] == 10 {
             return end_row(at + 1, walk, characters);
         }
-        walk = walk_far(source, walk, symbols);
+        walk = walk_on(source, walk, symbols);
     }
     Cells::Wrong
 }

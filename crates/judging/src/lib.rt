@@ -1,8 +1,8 @@
 // A record judged by a walk over its bytes: each part of it is found where it begins, or is none. What each function means stands in specs/.
 
+mod cell_runs;
 mod cells;
 mod characters;
-mod digits;
 mod heads;
 mod keys;
 mod names;

@@ -29,14 +29,14 @@ end-row-requires c κs = search needs
 returns : tie.Need-returns Inv-loop μ-loop
 returns c = judged-row _ _ _ _ _ (c .before .before .before .before .before .loop .inv) (c .before .before .before .if1 .taken) (c .before .if2 .taken) _ (c .end-row .ensures)
 
-walk-far-requires : tie.Need-walk-far-requires Inv-loop μ-loop
-walk-far-requires c κs = (c .before .before .if1 .taken, (moves-few _ _ _ _ (c .before .before .before .before .loop .inv), c .if2 .left))
+walk-on-requires : tie.Need-walk-on-requires Inv-loop μ-loop
+walk-on-requires c κs = (c .before .before .if1 .taken, (moves-few _ _ _ _ (c .before .before .before .before .loop .inv), c .if2 .left))
 
 loop-less : tie.Need-loop-less Inv-loop μ-loop
-loop-less c = omega (arith, c .walk-far .ensures .0, c .before .before .before .if1 .taken)
+loop-less c = omega (arith, c .walk-on .ensures .0, c .before .before .before .if1 .taken)
 
 loop-again : tie.Need-loop-again Inv-loop μ-loop
-loop-again c = moves-then _ _ (c .before .before .before .before .before .loop .inv) (c .walk-far .ensures .1)
+loop-again c = moves-then _ _ (c .before .before .before .before .before .loop .inv) (c .walk-on .ensures .1)
 
 returns-2 : tie.Need-returns-2 Inv-loop μ-loop
 returns-2 c = judged-none _ _ _ _ _ (c .before .before .loop .inv) (c .if1 .left)
@@ -52,7 +52,7 @@ cells-line-spec =
     add-end-row
     end-row-requires
     returns
-    walk-far-requires
+    walk-on-requires
     loop-less
     loop-again
     returns-2)

@@ -1,5 +1,5 @@
 -- The function `walk_on` meets its contract, by one byte or by two. Assumes nothing.
-use Rattle.judging.proofs.CellsJudged.{moves-byte, moves-whole}
+use Rattle.judging.proofs.CellsJudged.{moves-byte, moves-then, moves-whole}
 use Rattle.judging.proofs.cells.walk_on.Statement.{statement}
 use Rattle.judging.proofs.cells.walk_on.Tie as tie
 use borrow.Author.Needs.{needs}
@@ -15,21 +15,27 @@ is-fresh-requires c κs = search needs
 whole-at-requires : tie.Need-whole-at-requires
 whole-at-requires c κs = search needs
 
-add-t13 : tie.Need-add-t13
-add-t13 c = search needs
+add-cells-run : tie.Need-add-cells-run
+add-cells-run c = search needs
 
-add-t15 : tie.Need-add-t15
-add-t15 c = search needs
+add-cells-run-2 : tie.Need-add-cells-run-2
+add-cells-run-2 c = search needs
+
+cells-run-requires : tie.Need-cells-run-requires
+cells-run-requires c κs =
+    let p = c .before .before in
+    (omega (arith, p .whole-at .ensures (c .before .if2 .taken) .inside), omega (arith, p .before .before .before .before .before .before .pre .1 .0))
 
 returns : tie.Need-returns
 returns c =
-    let p = c .before .before in
+    let p = c .before .before .before in
     let f = p .before .before in
     let s = f .before .before .before .before in
-    (omega arith, moves-whole _ _ _ (s .pre .0) (s .pre .1 .1) (f .is-fresh .ensures (p .before .if1 .taken)) (p .whole-at .ensures (c .before .if2 .taken)))
+    let whole = moves-whole _ _ _ (s .pre .0) (s .pre .1 .1) (f .is-fresh .ensures (p .before .if1 .taken)) (p .whole-at .ensures (c .before .before .if2 .taken)) in
+    (omega (arith, c .cells-run .ensures .0), moves-then _ _ whole (c .cells-run .ensures .1))
 
-add-t16 : tie.Need-add-t16
-add-t16 c = search needs
+add-t15 : tie.Need-add-t15
+add-t15 c = search needs
 
 cell-step-requires : tie.Need-cell-step-requires
 cell-step-requires c κs = search needs
@@ -49,10 +55,11 @@ walk-on-spec =
     shared-slice-read-b
     is-fresh-requires
     whole-at-requires
-    add-t13
-    add-t15
+    add-cells-run
+    add-cells-run-2
+    cells-run-requires
     returns
-    add-t16
+    add-t15
     cell-step-requires
     count-blank-requires
     returns-2)
