@@ -11,7 +11,7 @@ mod LinesWalk
 mod MarkLaws
 mod NamePuts
 mod PageCells
-mod PlainTens
+mod PlainHundreds
 mod PutWalks
 mod PutsOver
 mod RecordPieces
@@ -27,7 +27,7 @@ mod SetPieces
 mod ShortLaws
 mod TaxaCounts
 mod TaxonPieces
-mod TenWalk
+mod RunWalk
 mod ToldRows
 mod WholePuts
 mod WordCells

@@ -19,9 +19,7 @@ use super::plain::hundred_plain;
 use super::plain::plain_size;
 use super::plain::put_hundred;
 use super::plain::put_plain;
-use super::plain::put_ten;
 use super::plain::room_or_none;
-use super::plain::ten_plain;
 use assumptions::TypeWord;
 use block::CharacterOrdering;
 use commands::Held;
@@ -114,11 +112,6 @@ fn put_each(
         if hundred_plain(work, at, characters, typed, k) & room_or_none(buffer.len(), m, 4800) {
             m = put_hundred(buffer, m, k + 1, o);
             k += 100;
-            continue;
-        }
-        if ten_plain(work, at, characters, typed, k) & room_or_none(buffer.len(), m, 480) {
-            m = put_ten(buffer, m, k + 1, o);
-            k += 10;
             continue;
         }
         let label = start_of(work, at + k);

@@ -1,5 +1,4 @@
-// Characters that have neither a label nor state labels: one by itself, ten at once whose numbers differ in the last digit alone, and a hundred
-// whose numbers differ in the last two.
+// Characters that have neither a label nor state labels: one by itself, and a hundred at once whose numbers differ in the last two digits alone.
 
 ghost use Prim.Native.Nat.{_*_, _+_, _%_, _<_, _≤_};
 ghost use Rattle.emit.specs.Puts.{Puts};
@@ -74,23 +73,6 @@ fn run_free(work: &[u32], at: usize, characters: usize, k: usize, count: usize) 
     zeros(work, at + k, count) & zeros(work, at + characters + k, count)
 }
 
-// Do ten such characters stand behind so many others, numbered from one on that ends with 0?
-pub fn ten_plain(work: &[u32], at: usize, characters: usize, typed: bool, k: usize) -> bool
-    requires { ⌜ (at + 3 * characters ≤ length (now work)) × (k ≤ characters) ⌝ }
-    ensures { λ r. ⌜ (r ≡ true → Run·plain (now (work .entry)) at characters typed k 10) ⌝ }
-{
-    if typed {
-        return false;
-    }
-    if k % 10 != 9 {
-        return false;
-    }
-    if 999999999 <= k {
-        return false;
-    }
-    run_free(work, at, characters, k, 10)
-}
-
 // Do a hundred such characters stand behind so many others, numbered from one on that ends with 00?
 pub fn hundred_plain(work: &[u32], at: usize, characters: usize, typed: bool, k: usize) -> bool
     requires { ⌜ (at + 3 * characters ≤ length (now work)) × (k ≤ characters) ⌝ }
@@ -144,19 +126,6 @@ fn put_counted(buffer: &mut [u8], n: usize, line: &[u8], place: usize) -> usize
         digit += 1;
     }
     m
-}
-
-// Puts ten such characters, numbered from one on that ends with 0: there is room for all, or for nothing.
-pub fn put_ten(buffer: &mut [u8], n: usize, number: usize, ordering: CharacterOrdering) -> usize
-    requires { ⌜ (n < length (now buffer) → n + 480 ≤ length (now buffer)) × (1 ≤ number) × (number < 1000000000) × (number % 10 ≡ 0) ⌝ }
-    ensures { λ r. ⌜ Puts (now (buffer .entry)) n (plain·lines number 10 ordering) (now (buffer .exit)) r ⌝ }
-{
-    if buffer.len() <= n {
-        return further(n, 10 * plain_size(number, ordering));
-    }
-    let mut line = [0u8; 64];
-    let size = put_plain(&mut line, 0, number, ordering);
-    put_counted(buffer, n, &line[..size], 9 + digits_of(number as u64))
 }
 
 // Puts ten times ten lines, each time with another digit before the place of the last, of a line of so many bytes.

@@ -1,8 +1,8 @@
--- The function `put_each` meets its contract: a turn puts a hundred characters, ten or one. The measure is how many are left. Assumes nothing.
+-- The function `put_each` meets its contract: a turn puts a hundred characters or one. The measure is how many are left. Assumes nothing.
 use Prim.Native.Nat.{_+_, _*_, _-_}
 use Rattle.lexer.proofs.Basics.{and-left, and-right}
 use Rattle.reading.proofs.CharacterWalk.{Spelling, spelling-end, spelling-start, spelling-turn}
-use Rattle.reading.proofs.TenWalk.{spelling-run}
+use Rattle.reading.proofs.RunWalk.{spelling-run}
 use Rattle.reading.proofs.characters.put_each.Statement.{statement}
 use Rattle.reading.proofs.characters.put_each.Tie as tie
 use Rattle.reading.specs.CharactersHeld.{characters·from}
@@ -57,40 +57,6 @@ loop-again c =
     let t = room .before .hundred-plain .ensures (and-left (room .before .hundred-plain .result) (room .room-or-none .result) (c .before .before .before .before .if1 .taken)) in
     spelling-run _ _ _ _ _ _ _ _ _ _ 100 (room .before .before .before .loop .inv) t (c .before .before .put-hundred .ensures)
 
-ten-plain-requires : tie.Need-ten-plain-requires Inv-loop μ-loop
-ten-plain-requires c κs = let l = c .before .before .before .before in (l .before .before .before .before .pre, l .loop .inv .below)
-
-room-or-none-requires-2 : tie.Need-room-or-none-requires-2 Inv-loop μ-loop
-room-or-none-requires-2 c κs = search needs
-
-add-put-ten : tie.Need-add-put-ten Inv-loop μ-loop
-add-put-ten c = search needs
-
-put-ten-requires : tie.Need-put-ten-requires Inv-loop μ-loop
-put-ten-requires c κs =
-    let room = c .before .before .room-or-none2 in
-    let plain = c .before .before .before .ten-plain in
-    let t = plain .ensures (and-left (plain .result) (room .result) (c .before .if2 .taken)) in
-    (room .ensures (and-right (plain .result) (room .result) (c .before .if2 .taken)), omega arith, omega (arith, t .few), t .round)
-
-add-k-2 : tie.Need-add-k-2 Inv-loop μ-loop
-add-k-2 c =
-    let room = c .before .before .before .before .before in
-    let t = room .before .ten-plain .ensures (and-left (room .before .ten-plain .result) (room .room-or-none2 .result) (c .before .before .before .before .if2 .taken)) in
-    omega (arith, t .within)
-
-loop-less-2 : tie.Need-loop-less-2 Inv-loop μ-loop
-loop-less-2 c =
-    let room = c .before .before .before .before .before in
-    let t = room .before .ten-plain .ensures (and-left (room .before .ten-plain .result) (room .room-or-none2 .result) (c .before .before .before .before .if2 .taken)) in
-    omega (arith, t .within)
-
-loop-again-2 : tie.Need-loop-again-2 Inv-loop μ-loop
-loop-again-2 c =
-    let room = c .before .before .before .before .before in
-    let t = room .before .ten-plain .ensures (and-left (room .before .ten-plain .result) (room .room-or-none2 .result) (c .before .before .before .before .if2 .taken)) in
-    spelling-run _ _ _ _ _ _ _ _ _ _ 10 (room .before .before .before .before .before .before .loop .inv) t (c .before .before .put-ten .ensures)
-
 add-start-of : tie.Need-add-start-of Inv-loop μ-loop
 add-start-of c = search needs
 
@@ -120,7 +86,7 @@ type-at-requires c κs = search needs
 
 slice-aggregate-put-character : tie.Need-slice-aggregate-put-character Inv-loop μ-loop
 slice-aggregate-put-character c =
-    let s = c .before .before .before .before .before .before .before .before .before .before .before .before .before .before .before in
+    let s = c .before .before .before .before .before .before .before .before .before .before .before .before in
     sym (length-take-le _ (s .args .work .now) (omega (arith, s .pre)))
 
 add-put-character : tie.Need-add-put-character Inv-loop μ-loop
@@ -129,16 +95,16 @@ add-put-character c = search needs
 put-character-requires : tie.Need-put-character-requires Inv-loop μ-loop
 put-character-requires c κs = search needs
 
-add-k-3 : tie.Need-add-k-3 Inv-loop μ-loop
-add-k-3 c = search needs
+add-k-2 : tie.Need-add-k-2 Inv-loop μ-loop
+add-k-2 c = search needs
 
-loop-less-3 : tie.Need-loop-less-3 Inv-loop μ-loop
-loop-less-3 c = search needs
+loop-less-2 : tie.Need-loop-less-2 Inv-loop μ-loop
+loop-less-2 c = search needs
 
-loop-again-3 : tie.Need-loop-again-3 Inv-loop μ-loop
-loop-again-3 c =
+loop-again-2 : tie.Need-loop-again-2 Inv-loop μ-loop
+loop-again-2 c =
     let t = c .before .before .before .before .before in
-    let l = t .before .before .before .before .before .before .before .before .before in
+    let l = t .before .before .before .before .before .before in
     spelling-turn _ _ _ _ _ _ _ _ _ _ _ _ _ (l .before .loop .inv) _ _ _ _ _ (l .loop-test .taken) (t .before .before .start-of .ensures) (t .before .start-of2 .ensures) (t .type-at .ensures) (c .before .before .put-character .ensures)
 
 same-length : tie.Need-same-length Inv-loop μ-loop
@@ -161,13 +127,6 @@ put-each-spec =
     add-k
     loop-less
     loop-again
-    ten-plain-requires
-    room-or-none-requires-2
-    add-put-ten
-    put-ten-requires
-    add-k-2
-    loop-less-2
-    loop-again-2
     add-start-of
     start-of-requires
     add-start-of-2
@@ -180,8 +139,8 @@ put-each-spec =
     slice-aggregate-put-character
     add-put-character
     put-character-requires
-    add-k-3
-    loop-less-3
-    loop-again-3
+    add-k-2
+    loop-less-2
+    loop-again-2
     same-length
     returns)

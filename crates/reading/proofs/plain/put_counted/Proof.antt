@@ -1,6 +1,6 @@
 -- The function `put_counted` meets its contract: a turn puts the line once more. The measure is how many digits are left. Assumes nothing.
 use Prim.Native.Nat.{_+_, _*_, _-_, _≤_}
-use Rattle.reading.proofs.PlainTens.{counted-end, counted-next}
+use Rattle.reading.proofs.PlainHundreds.{counted-end, counted-next}
 use Rattle.reading.proofs.PutWalks.{Putting, putting-end, putting-start, putting-turn}
 use Rattle.reading.proofs.plain.put_counted.Statement.{statement}
 use Rattle.reading.proofs.plain.put_counted.Tie as tie

@@ -3,7 +3,7 @@
 use Prim.Native.Nat.{_+_}
 use Rattle.emit.proofs.DigitsStored.{digits-most}
 use Rattle.emit.proofs.PutLaws.{puts-as}
-use Rattle.reading.proofs.PlainTens.{hundred-counted, line-made, plain-few, plain-many, tens-past}
+use Rattle.reading.proofs.PlainHundreds.{hundred-counted, line-made, plain-few, plain-many, tens-past}
 use Rattle.reading.proofs.plain.put_hundred.Statement.{statement}
 use Rattle.reading.proofs.plain.put_hundred.Tie as tie
 use Rattle.reading.specs.CharactersHeld.{plain·bytes}

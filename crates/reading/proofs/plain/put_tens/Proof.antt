@@ -1,7 +1,7 @@
 -- The function `put_tens` meets its contract: a turn puts ten lines with one more digit before the last. The measure is how many digits are left. Assumes
 -- nothing.
 use Prim.Native.Nat.{ℕ, _+_, _*_, _-_, _≤_}
-use Rattle.reading.proofs.PlainTens.{digit-set, tens-end, tens-next}
+use Rattle.reading.proofs.PlainHundreds.{digit-set, tens-end, tens-next}
 use Rattle.reading.proofs.PutWalks.{Putting, putting-end, putting-start, putting-turn}
 use Rattle.emit.proofs.PutLaws.{puts-as}
 use Rattle.reading.proofs.plain.put_tens.Statement.{statement}

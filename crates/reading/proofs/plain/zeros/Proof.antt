@@ -1,6 +1,6 @@
 -- The function `zeros` meets its contract: a turn looks at one number more. The measure is how many are left. Assumes nothing.
 use Prim.Native.Nat.{_-_, _≤_}
-use Rattle.reading.proofs.TenWalk.{zeros-more, zeros-none}
+use Rattle.reading.proofs.RunWalk.{zeros-more, zeros-none}
 use Rattle.reading.proofs.plain.zeros.Statement.{statement}
 use Rattle.reading.proofs.plain.zeros.Tie as tie
 use Rattle.reading.specs.PlainLines.{Zeros}

@@ -86,7 +86,7 @@ module _ (number : ℕ) (o : CharacterOrdering) where
         rw (plain-digit i (omega arith), next, more) (ap (λ l. set line place (48 + i) ++ l) (counted-from count (suc i) (omega arith) behind))
 
     -- Ten of them are that line ten times.
-    pub ten-counted : (behind : List ℕ) → counted·lines line place 48 10 behind ≡ plain·lines number 10 o behind
+    ten-counted : (behind : List ℕ) → counted·lines line place 48 10 behind ≡ plain·lines number 10 o behind
     ten-counted behind = let zero-more : number + 0 ≡ number = omega arith in sym (rw zero-more at (counted-from 10 0 (omega arith) behind))
 
 -- Some of them, and the others behind them.
@@ -187,13 +187,6 @@ module _ (line : List ℕ) (place : ℕ) where
   pub counted-end : (b : ℕ) → 58 ≤ b → (behind : List ℕ) → counted·lines line place b (58 - b) behind ≡ behind
   unfolding counted·lines
   counted-end b h behind = let none : 58 - b ≡ 0 = omega arith in rw none refl
-
-  -- Behind the buffer's end they are only counted.
-  pub counted-past : (buffer : List ℕ) (n next size : ℕ) → length buffer ≤ n → size ≡ length line → (next ≡ min last·place (n + 10 * size)) × (n ≤ next)
-      → Puts buffer n (counted·lines line place 48 10) buffer next
-  counted-past buffer n next size h e p =
-      let all : length (counted·lines line place 48 10 []) ≡ 10 * size = counted-size 48 10 ∙ ap (λ k. 10 * k) (sym e) in
-      puts-as (puts-past buffer n (counted·lines line place 48 10 []) next h (rw all p)) (counted-front 48 10)
 
 -- Ten times so many lines, in front of what stands behind, and how many bytes that are.
 module _ (line : List ℕ) (place : ℕ) where
