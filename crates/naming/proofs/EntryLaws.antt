@@ -5,11 +5,11 @@ use Rattle.lexer.proofs.Basics.{by-test, not-both, or-first, or-second, or-both
 use Rattle.lexer.proofs.ListLaws.{drop-next}
 use Rattle.lexer.specs.Base.{pick, alike, lower}
 use Rattle.naming.proofs.LineLaws.{before-end, line-ended, line-more, lower-mark}
-use Rattle.naming.specs.Entries.{lines·at, Lines·kept, Line·sought, Room·for, Slot·like, Line·entered}
+use Rattle.naming.specs.Entries.{lines·at, Lines·kept, Line·sought, Room·for, Slot·like, Line·entered, line·slot}
 use Rattle.naming.specs.Lines.{line·at}
 use Rattle.slots.proofs.FillingLaws.{kept-next, none-kept}
 use Rattle.slots.proofs.HashLaws.{alike-hash}
-use Rattle.slots.specs.Filling.{Filled, slot·of}
+use Rattle.slots.specs.Filling.{Filled}
 use Rattle.slots.specs.Hashes.{mixed, hash·from, hash}
 use Rattle.slots.specs.declared.Table.{Table}
 use borrow.Author.Tests.{eqb-true, eqb-false, ltb-true, ltb-false}
@@ -146,7 +146,7 @@ module _ (b : List ℕ) (at : ℕ) (slots places : List ℕ) (count p end : ℕ)
 
 -- A line is sought from its slot on where a table has the lines at so many places.
 pub line-sought : (b : List ℕ) (at : ℕ) (slots places : List ℕ) (count : ℕ) (t : Table) → count ≤ length places → Lines·kept b slots (take count places) t → {from : ℕ}
-    → from ≡ slot·of t (hash (line·at b at)) → Line·sought b at slots places count from (t .end)
+    → from ≡ line·slot t (hash (line·at b at)) → Line·sought b at slots places count from (t .end)
 line-sought b at slots places count t room kept {from} slot =
     record {
       room = room;
@@ -158,7 +158,7 @@ line-sought b at slots places count t room kept {from} slot =
 
 -- A line is entered at its slot.
 module _ (b : List ℕ) (at : ℕ) (slots places : List ℕ) (count : ℕ) (t : Table) (room : Room·for b slots places count t) (from : ℕ)
-    (slot : from ≡ slot·of t (hash (line·at b at))) where
+    (slot : from ≡ line·slot t (hash (line·at b at))) where
   pub line-known : {r : Bool} → r ≡ known (line·at b at) (lines·at b (take count places)) → r ≡ true → Line·entered b at slots slots places places count t true
   line-known told y =
       record {

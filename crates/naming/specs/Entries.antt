@@ -1,5 +1,5 @@
 -- Names of rows that were entered by their places, and a table that has them.
-use Prim.Native.Nat.{ℕ, suc, _+_, _≤_, _<_}
+use Prim.Native.Nat.{ℕ, suc, _+_, _*_, _/_, _%_, _≤_, _<_}
 use Rattle.block.specs.Names.{known}
 use Rattle.block.specs.Reading.{Taxon}
 use Rattle.block.specs.Sound.{names·differ}
@@ -54,9 +54,14 @@ Rows·judged b characters at rows test r =
 pub record Remains (b : List ℕ) (characters at rows : ℕ) (test : List (List ℕ) → Bool) (here left : ℕ) (other : List (List ℕ) → Bool) : Type 0 where
   pub back : (r : Bool) → Rows·judged b characters here left other r → Rows·judged b characters at rows test r
 
+-- The slot at which the search for a line begins, by its number: the halves of the number change places. Names whose upper bits are alike are suspects
+-- more often than others (Sifting), and would have slots that lie together.
+unfoldable pub line·slot : Table → ℕ → ℕ
+line·slot t h = slot·of t (h % 65536 * 65536 + h / 65536)
+
 -- The table has the lines at some places: the number of each, with 1 added, is kept from the slot of the line on.
 pub record Lines·kept (b slots places : List ℕ) (t : Table) : Type 0 where
-  pub each : (k : ℕ) → k < length places → Kept slots (slot·of t (hash (line·at b (getD places k 0)))) (t .end) (k + 1)
+  pub each : (k : ℕ) → k < length places → Kept slots (line·slot t (hash (line·at b (getD places k 0)))) (t .end) (k + 1)
 
 -- The line that a slot holds, by its number with 1 added, is like the line at a place; or there is none such.
 pub record Slot·like (b : List ℕ) (at : ℕ) (places : List ℕ) (value : ℕ) (r : Bool) : Type 0 where

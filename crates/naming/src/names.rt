@@ -4,10 +4,10 @@
 
 ghost use Prim.Native.Nat.{_≤_};
 ghost use Rattle.block.specs.Names.{known};
-ghost use Rattle.naming.specs.Entries.{Line·entered, Line·sought, Lines·kept, Names·entered, Room·for, Room·of, Rows·judged, Slot·like, few·known, lines·at};
+ghost use Rattle.naming.specs.Entries.{Line·entered, Line·sought, Lines·kept, Names·entered, Room·for, Room·of, Rows·judged, Slot·like, few·known, line·slot, lines·at};
 ghost use Rattle.naming.specs.Lines.{line·at};
 ghost use Rattle.naming.specs.Rows.{Names·judged};
-ghost use Rattle.slots.specs.Filling.{Table·sound, slot·of};
+ghost use Rattle.slots.specs.Filling.{Table·sound};
 ghost use Rattle.slots.specs.Hashes.{hash};
 ghost use lib.ListN.{length, take};
 ghost use mathlib.Core.Path.{_≡_};
@@ -48,12 +48,13 @@ pub fn line_hash(source: &[u8], at: usize) -> u64
     }
 }
 
-// The slot at which the search for the line at a place begins.
+// The slot at which the search for the line at a place begins. The halves of its number change places, since the upper one tells suspects (filter.rt).
 fn line_slot(source: &[u8], at: usize, table: Table) -> usize
     requires { ⌜ Table·sound table ⌝ }
-    ensures { λ r. ⌜ r ≡ slot·of table (hash (line·at (now (source .entry)) at)) ⌝ }
+    ensures { λ r. ⌜ r ≡ line·slot table (hash (line·at (now (source .entry)) at)) ⌝ }
 {
-    slot_of(table, line_hash(source, at))
+    let h = line_hash(source, at);
+    slot_of(table, h % 65536 * 65536 + h / 65536)
 }
 
 // Is the line at a place like one of those at so many others?
