@@ -9,7 +9,7 @@ use Rattle.judging.specs.CellModes.{Moves, Whole, blanks, digit?, ends, 
 use Rattle.judging.specs.CellRuns.{All·held, gaps, held}
 use Rattle.judging.specs.declared.cells.Mode.{Mode}
 use Rattle.judging.specs.declared.cells.Walk.{Walk}
-use Rattle.lexer.proofs.Basics.{and-left, and-right, by-test, or-assoc, or-false}
+use Rattle.lexer.proofs.Basics.{and-left, and-right, by-test, or-assoc}
 use Rattle.lexer.specs.Base.{among, pick}
 use Rattle.record.specs.Decimal.{decimal}
 use Rattle.record.specs.Spell.{spell·cell}
@@ -17,7 +17,7 @@ use borrow.Author.Tests.{eqb-true, leb-true, lt-ltb, ltb-false, ltb-true}
 use lib.Dec.{eqb, leb, ltb}
 use lib.ListN.{length, drop, getD}
 use mathlib.Core.Bool.{Bool, true, false, _&&_, _||_, false≢true}
-use mathlib.Core.List.{List, [], _∷_, _++_}
+use mathlib.Core.List.{List, [], _∷_}
 use mathlib.Core.Path.{_≡_, refl, sym, ap, _∙_}
 use native.Mathlib.Numerals.{add-one}
 use native.Mathlib.Omega.{arith}
@@ -135,7 +135,7 @@ module _ (b : List ℕ) (count top : ℕ) (digit : top ≤ 57) (below : top < 48
           let step = moves-whole b count (past n) (omega (arith, cell .inside)) (λ e. no-line n h e) refl cell in
           moves-then b count so (rw (far, many, gap) at step)
 
-      pub past-eight : Moves b count w (past 8)
+      past-eight : Moves b count w (past 8)
       past-eight = go 8 (omega arith)
         where
           go : (n : ℕ) → n ≤ 8 → Moves b count w (past n)

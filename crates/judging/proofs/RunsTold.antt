@@ -1,6 +1,6 @@
 -- Characters that follow another with the same bytes but for the last two digits of their number: what is told of it is told of each of them. Assumes
 -- nothing.
-use Prim.Native.Nat.{ℕ, zero, suc, _+_, _*_, _-_, _/_, _%_, _≤_, _<_}
+use Prim.Native.Nat.{ℕ, zero, suc, _+_, _-_, _/_, _%_, _≤_, _<_}
 use Rattle.block.specs.Reading.{Character}
 use Rattle.emit.proofs.DecimalMade.{decimal-last}
 use Rattle.judging.proofs.CharacterApart.{behind-same, lines-same, lines·of}
@@ -10,7 +10,7 @@ use Rattle.judging.proofs.TellLaws.{same-told}
 use Rattle.judging.specs.Judges.{Stands}
 use Rattle.judging.specs.Parts.{Character·good, Character·told, character·marks, spell·one}
 use Rattle.judging.specs.Runs.{Again, Counting, Following, Run·told}
-use Rattle.judging.specs.Tells.{Marks, Tells, characters·of, until}
+use Rattle.judging.specs.Tells.{Marks, characters·of, until}
 use Rattle.judging.specs.declared.characters.Characters.{Characters}
 use Rattle.judging.specs.declared.runs.Run.{Run}
 use Rattle.lexer.proofs.ListLaws.{drop-next}
@@ -18,7 +18,7 @@ use Rattle.lexer.specs.Base.{bytes}
 use Rattle.naming.proofs.RowLaws.{drop-behind}
 use Rattle.record.specs.Decimal.{decimal, digit}
 use Rattle.record.specs.Spell.{line}
-use lib.ListN.{length, drop, getD, length-append}
+use lib.ListN.{length, drop, length-append}
 use lib.Seq.{append-snoc}
 use mathlib.Core.Bool.{Bool, true, false, _||_}
 use mathlib.Core.List.{List, [], _∷_, _++_, append-assoc}

@@ -14,9 +14,9 @@ use Rattle.record.specs.Decimal.{decimal}
 use Rattle.record.specs.Spell.{dotted, escaped, line, spell·cell, spell·cells, spell·taxa}
 use Prim.Native.String.{String}
 use borrow.Author.Tests.{eqb-true, leb-true, ltb-true}
-use lib.Dec.{eqb, leb, ltb}
+use lib.Dec.{eqb, leb}
 use lib.ListN.{length, length-append}
-use mathlib.Core.Bool.{true, false, false≢true, not, _&&_}
+use mathlib.Core.Bool.{true, false, false≢true}
 use mathlib.Core.List.{List, [], _∷_, _++_}
 use mathlib.Core.Path.{_≡_, ap, subst, _∙_}
 use native.Mathlib.Nat.{mul-le-mul-right, suc-mul}

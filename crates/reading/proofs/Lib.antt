@@ -22,12 +22,12 @@ mod RowPieces
 mod RowSteps
 mod RowWalks
 mod RunPieces
+mod RunWalk
 mod SetMarks
 mod SetPieces
 mod ShortLaws
 mod TaxaCounts
 mod TaxonPieces
-mod RunWalk
 mod ToldRows
 mod WholePuts
 mod WordCells

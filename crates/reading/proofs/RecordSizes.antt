@@ -1,5 +1,5 @@
 -- The record of a matrix that is held, beside that of its names and characters alone. Assumes nothing.
-use Prim.Native.Nat.{ℕ, zero, suc, _+_, _*_, _≤_, _<_, min}
+use Prim.Native.Nat.{ℕ, suc, _+_, _*_, _≤_, _<_, min}
 use Rattle.block.specs.Blocks.{with·types}
 use Rattle.block.specs.Format.{Format}
 use Rattle.block.specs.Formats.{meant}
@@ -133,7 +133,7 @@ module _ (text work : List ℕ) (count : ℕ) (h : Held) where
       ∙ ap (λ cs. spell·head (reading·held text work count (bare h)) (spell·taxa (reading·held text work count (bare h) .taxa) (spell·characters 1 cs []))) characters-same
 
   -- The record is longer than that of names and characters by no more than its cells.
-  pub record-longer : Sound (reading·held text work count h) → length (reading·held text work count h .symbols) ≤ 74
+  record-longer : Sound (reading·held text work count h) → length (reading·held text work count h .symbols) ≤ 74
       → length (spell (reading·held text work count h))
       ≤ length (spell (reading·held text work count (bare h)))
       + length (reading·held text work count h .taxa) * (length (reading·held text work count h .characters) * widest (length (reading·held text work count h .symbols)))

@@ -1,4 +1,5 @@
--- The walk that puts the characters, a run of them at once: those that have neither a label, state labels nor a type of their own are plain lines. Assumes nothing.
+-- The walk that puts the characters, a run of them at once: those that have neither a label, state labels nor a type of their own are plain lines.
+-- Assumes nothing.
 use Prim.Native.Nat.{ℕ, zero, suc, _+_, _*_, _≤_, _<_}
 use Rattle.block.specs.declared.model.CharacterOrdering.{CharacterOrdering}
 use Rattle.emit.specs.Puts.{Puts}

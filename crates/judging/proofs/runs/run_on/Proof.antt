@@ -1,5 +1,5 @@
 -- The function `run_on` meets its contract: a turn compares one character more. The measure is how many may follow. Assumes nothing.
-use Prim.Native.Nat.{_+_, _-_, _≤_}
+use Prim.Native.Nat.{_-_, _≤_}
 use Rattle.judging.proofs.RunBytes.{counting-more}
 use Rattle.judging.specs.Runs.{Counting}
 use borrow.Author.Needs.{needs}
