@@ -52,9 +52,11 @@ pub fn four_letters(taxon: usize) -> String {
     digits(taxon, LETTERS, 4)
 }
 
-/// Names of three letters, digits and marks, 103,823 of them.
+/// Names of three letters, digits and marks, 103,823 of them. Any number of them has marks as often as any
+/// other: a name with one takes longer than one of letters and digits.
 pub fn three_signs(taxon: usize) -> String {
-    digits(taxon, SIGNS, 3)
+    const ALL: usize = SIGNS.len().pow(3);
+    digits(taxon * 30_011 % ALL, SIGNS, 3)
 }
 
 /// Names that begin alike: those of a species, by number.
