@@ -49,7 +49,19 @@ fn top_digit(symbols: usize) -> u8
     57
 }
 
-// The walk where a cell is to begin, behind so many blanks, with as many cells of one byte read as go by eights: digits not above this one, `m` and `g`.
+// The walk where a cell is to begin, behind so many blanks, with a gap before it or none.
+fn fresh(at: usize, blanks: usize, gap: bool) -> Walk
+    ensures { λ r. ⌜ r ≡ record { at = at; mode = Mode.Fresh; blanks = blanks; gap = gap } ⌝ }
+{
+    Walk {
+        at,
+        mode: Mode::Fresh,
+        blanks,
+        gap,
+    }
+}
+
+// The same, with as many cells of one byte read as go by eights: digits not above this one, `m` and `g`.
 fn eights(source: &[u8], from: usize, blanks: usize, gap: bool, top: u8) -> Walk
     requires { ⌜ (from ≤ length (now source)) × (blanks ≤ from) ⌝ }
     ensures { λ r. ⌜ (from ≤ r .at) × ((count : _) → top ≤ 57 → top < 48 + count → Moves (now (source .entry)) count (record { at = from; mode = Mode.Fresh; blanks = blanks; gap = gap }) r) ⌝ }
@@ -84,26 +96,16 @@ fn eights(source: &[u8], from: usize, blanks: usize, gap: bool, top: u8) -> Walk
             b"m m m m m m m m ",
             b"g g g g g g g g ",
         ) {
-            return Walk {
-                at: at,
-                mode: Mode::Fresh,
-                blanks: many,
-                gap: any,
-            };
+            return fresh(at, many, any);
         }
         any = any | eight_gaps(source, at);
         at += 16;
         many += 8;
     }
-    Walk {
-        at: at,
-        mode: Mode::Fresh,
-        blanks: many,
-        gap: any,
-    }
+    fresh(at, many, any)
 }
 
-// The same behind seven cells, and each eight further on; else the walk as it is.
+// This behind seven cells, and each eight further on; else the walk as it is.
 pub fn cells_run(source: &[u8], from: usize, blanks: usize, gap: bool, symbols: usize) -> Walk
     requires { ⌜ (from ≤ length (now source)) × (blanks ≤ from) ⌝ }
     ensures { λ r. ⌜ (from ≤ r .at) × Moves (now (source .entry)) symbols (record { at = from; mode = Mode.Fresh; blanks = blanks; gap = gap }) r ⌝ }
@@ -111,10 +113,5 @@ pub fn cells_run(source: &[u8], from: usize, blanks: usize, gap: bool, symbols: 
     if blanks % 8 == 7 {
         return eights(source, from, blanks, gap, top_digit(symbols));
     }
-    Walk {
-        at: from,
-        mode: Mode::Fresh,
-        blanks: blanks,
-        gap: gap,
-    }
+    fresh(from, blanks, gap)
 }

@@ -46,8 +46,11 @@ all-held-requires c κs =
     let t = c .before .before .before .before in
     (omega (arith, t .before .loop .inv .1, t .loop-test .taken), refl, refl, refl, refl)
 
+fresh-requires : tie.Need-fresh-requires Inv-loop μ-loop
+fresh-requires c κs = search needs
+
 returns : tie.Need-returns Inv-loop μ-loop
-returns c = let i = c .before .before .before .before .before .before .before .loop .inv in (i .0, i .3)
+returns c = let i = c .before .before .before .before .before .before .before .before .loop .inv in rw (c .fresh .ensures) (i .0, i .3)
 
 eight-gaps-requires : tie.Need-eight-gaps-requires Inv-loop μ-loop
 eight-gaps-requires c κs =
@@ -87,8 +90,11 @@ loop-again c =
       λ count digit below. moves-eight _ _ _ digit below _ (omega (arith, i .1, room)) held _ _ _ (c .eight-gaps .ensures) (i .3 count digit below),
     )
 
+fresh-requires-2 : tie.Need-fresh-requires-2 Inv-loop μ-loop
+fresh-requires-2 c κs = search needs
+
 returns-2 : tie.Need-returns-2 Inv-loop μ-loop
-returns-2 c = let i = c .before .loop .inv in (i .0, i .3)
+returns-2 c = let i = c .before .before .loop .inv in rw (c .fresh2 .ensures) (i .0, i .3)
 
 pub eights-spec : {M : Type 1} → statement M
 eights-spec =
@@ -103,10 +109,12 @@ eights-spec =
     slice-aggregate-all-held-3
     slice-aggregate-all-held-4
     all-held-requires
+    fresh-requires
     returns
     eight-gaps-requires
     add-at
     add-many
     loop-less
     loop-again
+    fresh-requires-2
     returns-2)
