@@ -29,7 +29,8 @@ bare h =
 unfoldable pub widest : ℕ → ℕ
 widest states = pick (leb states 10) (2 * states + 2) (3 * states + 2)
 
--- If the format has no more symbols than the code's format can hold, and what is held is a reading, its record is no longer than this.
+-- If the format has no more symbols than the code's format can hold, and what is held is a reading, its record is no longer than this, or this is the
+-- largest place, behind which no buffer goes.
 abbrev pub Longest : List ℕ → List ℕ → ℕ → Held → ℕ → Type 0
 Longest text work count h r =
     length (format·held text (take count work) (h .style) .symbols) ≤ 74 → Sound (reading·held text work count h)

@@ -59,7 +59,8 @@ fn most_taxa(held: Held, interleave: bool) -> usize
     }
 }
 
-// No record of a matrix that is held is longer: that of its names and characters alone is measured, and for each cell the most that one takes is added.
+// The record of a matrix that is held, if that is a reading, is no longer: that of its names and characters alone is measured, and for each cell the most
+// that one takes is added. It stops at the largest place.
 pub fn longest_record(text: &[u8], work: &[u32], count: usize, held: Held) -> usize
     requires { ⌜ map·fits (length (now work)) count (held .lines) (held .taxa) (held .characters) ≡ true ⌝ }
     ensures { λ r. ⌜ Longest (now (text .entry)) (now (work .entry)) count held r ⌝ }
