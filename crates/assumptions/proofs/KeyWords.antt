@@ -25,40 +25,44 @@ letter-plain b h =
     (λ f. let t : leb 65 b && leb b 90 ≡ true = rw f at h in rw (t, or-true) refl)
 
 -- So many bytes of a key, and as many of a text that are alike.
-pub record Matching (text key : List ℕ) (start k i : ℕ) : Type 0 where
-  pub plain : Plain·to text start i
-  pub there : i ≡ start + k
+pub record Matching (text key : List ℕ) (start k : ℕ) : Type 0 where
+  pub plain : Plain·to text start (start + k)
   pub within : k ≤ length key
-  pub rest : (end : ℕ) → i ≤ end → alike key (take (end - start) (drop start text)) ≡ alike (drop k key) (take (end - i) (drop i text))
+  pub rest : (end : ℕ) → start + k ≤ end → alike key (take (end - start) (drop start text)) ≡ alike (drop k key) (take (end - (start + k)) (drop (start + k) text))
 
-pub matching-start : (text key : List ℕ) (start : ℕ) → Matching text key start 0 start
-matching-start text key start = record { plain = plain-start text start; there = omega arith; within = omega arith; rest = λ end h. refl }
+pub matching-start : (text key : List ℕ) (start : ℕ) → Matching text key start 0
+matching-start text key start =
+    let here : start + 0 ≡ start = omega arith in
+    record { plain = rw here (plain-start text start); within = omega arith; rest = λ end h. rw here refl }
 
-module _ (text key : List ℕ) (start k i : ℕ) (s : Matching text key start k i) (h : i < length text) where
-  module _ (more : k < length key) (letter : (leb 97 (getD text i 0) && leb (getD text i 0) 122) || (leb 65 (getD text i 0) && leb (getD text i 0) 90) ≡ true) (e : lower (getD text i 0) ≡ lower (getD key k 0)) where
-    one : (end : ℕ) → i + 1 ≤ end → alike (drop k key) (take (end - i) (drop i text)) ≡ alike (drop (k + 1) key) (take (end - (i + 1)) (drop (i + 1) text))
+module _ (text key : List ℕ) (start k : ℕ) (s : Matching text key start k) (h : start + k < length text) where
+  abbrev b : ℕ
+  b = getD text (start + k) 0
+
+  module _ (more : k < length key) (letter : (leb 97 b && leb b 122) || (leb 65 b && leb b 90) ≡ true) (e : lower b ≡ lower (getD key k 0)) where
+    one : (end : ℕ) → start + (k + 1) ≤ end
+        → alike (drop k key) (take (end - (start + k)) (drop (start + k) text)) ≡ alike (drop (k + 1) key) (take (end - (start + (k + 1))) (drop (start + (k + 1)) text))
     unfolding alike
     one end l =
-        let left : end - i ≡ suc (end - (i + 1)) = omega arith in
-        rw (left, drop-next key k more, drop-next text i h, eq-eqb (lower (getD key k 0)) (lower (getD text i 0)) (sym e)) refl
+        let left : end - (start + k) ≡ suc (end - (start + (k + 1))) = omega arith in
+        let next : start + k + 1 ≡ start + (k + 1) = omega arith in
+        rw (left, drop-next key k more, drop-next text (start + k) h, next, eq-eqb (lower (getD key k 0)) (lower b) (sym e)) refl
 
-    pub matching-turn : Matching text key start (k + 1) (i + 1)
+    pub matching-turn : Matching text key start (k + 1)
     matching-turn =
-        let there = s .there in
+        let next : start + k + 1 ≡ start + (k + 1) = omega arith in
         record {
-          plain = plain-turn text start i (s .plain) (letter-plain (getD text i 0) letter);
-          there = omega arith;
+          plain = rw next at (plain-turn text start (start + k) (s .plain) (letter-plain b letter));
           within = omega arith;
           rest = λ end l. s .rest end (omega arith) ∙ one end l;
         }
 
-  pub matching-end : length key ≤ k → 0 < length key → ends? (getD text i 0) ≡ true → is key (word·at text start) ≡ true
+  pub matching-end : length key ≤ k → 0 < length key → ends? b ≡ true → is key (word·at text start) ≡ true
   unfolding is word·at word? alike
   matching-end over some e =
-      let there = s .there in
-      let word = word-told text start i (omega arith) h (s .plain .each) e in
-      let none : i - i ≡ 0 = omega arith in
-      rw (word .told) (s .rest i (omega arith) ∙ rw (drop-of-length-le key over, none) refl)
+      let word = word-told text start (start + k) (omega arith) h (s .plain .each) e in
+      let none : start + k - (start + k) ≡ 0 = omega arith in
+      rw (word .told) (s .rest (start + k) (omega arith) ∙ rw (drop-of-length-le key over, none) refl)
 
 -- By the word of an index
 pub told-key : (key text work : List ℕ) (i start : ℕ) → start ≡ getD work i 0 → is key (word·at text start) ≡ true → is key (word·of text work i) ≡ true

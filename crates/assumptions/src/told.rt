@@ -47,13 +47,15 @@ pub fn key_told(text: &[u8], start: usize, key: &[u8]) -> bool
     requires { ⌜ 0 < length (now key) ⌝ }
     ensures { λ r. ⌜ (r ≡ true → is (now (key .entry)) (word·at (now (text .entry)) start) ≡ true) ⌝ }
 {
+    if text.len() <= start {
+        return false;
+    }
+    if text.len() - start <= key.len() {
+        return false;
+    }
     let mut k = 0;
-    let mut i = start;
-    while i < text.len() {
-        let b = text[i];
-        if key.len() <= k {
-            return ends_word(b);
-        }
+    while k < key.len() {
+        let b = text[start + k];
         let small = (97 <= b) & (b <= 122);
         let capital = (65 <= b) & (b <= 90);
         if !(small | capital) {
@@ -63,7 +65,6 @@ pub fn key_told(text: &[u8], start: usize, key: &[u8]) -> bool
             return false;
         }
         k += 1;
-        i += 1;
     }
-    false
+    ends_word(text[start + k])
 }
