@@ -211,25 +211,34 @@ run-told text start end e some within ends =
 
 -- The table of how bytes stand to a word: what its entries say; past its end there is 0.
 module _ (table : List ℕ) (same : table ≡ word·bytes) (b entry : ℕ) (here : entry ≡ getD table b 0) where
-  stands : (n : ℕ) → 0 < n → entry ≡ n → word·byte b ≡ n
-  stands n some is = by-test (ltb b 256) (λ t. sym (tabulated-at word·byte 256 b 0 (ltb-true b 256 t)) ∙ e) (λ f. past (ltb-false b 256 f))
+  stands : 0 < entry → word·byte b ≡ entry
+  stands some = by-test (ltb b 256) (λ t. sym (tabulated-at word·byte 256 b 0 (ltb-true b 256 t)) ∙ e) (λ f. past (ltb-false b 256 f))
     where
-      e : getD word·bytes b 0 ≡ n
-      e = ap (λ t. getD t b 0) (sym same) ∙ sym here ∙ is
+      e : getD word·bytes b 0 ≡ entry
+      e = ap (λ t. getD t b 0) (sym same) ∙ sym here
 
-      past : 256 ≤ b → word·byte b ≡ n
+      past : 256 ≤ b → word·byte b ≡ entry
       past h =
           let long : length word·bytes ≤ b = rw (tabulated-length word·byte 0 256) h in
-          let none : 0 ≡ n = sym (List·getD-eq-default word·bytes 0 long) ∙ e in
+          let none : 0 ≡ entry = sym (List·getD-eq-default word·bytes 0 long) ∙ e in
           absurd (omega arith)
 
-  pub stands-on : entry ≡ 1 → plain? b ≡ true
+  -- By the four kinds of bytes.
+  by-kind : {A : Type 0} → 0 < entry → (plain? b ≡ true → entry ≡ 1 → A) → (alone? b ≡ true → entry ≡ 3 → A) → (ends? b ≡ true → entry ≡ 2 → A) → A
   unfolding word·byte pick
-  stands-on e = by-test (plain? b) (λ t. t) (λ f. let z = rw f at (stands 1 (omega arith) e) in absurd (by-test (ends? b) (λ t. let y : _≡_ {A = ℕ} 2 1 = rw t at z in omega arith) (λ g. let y : _≡_ {A = ℕ} 0 1 = rw g at z in omega arith)))
+  by-kind some plain alone ends =
+      by-test (plain? b) (λ t. plain t (sym (rw t at (stands some)))) (λ f.
+      by-test (alone? b) (λ t. alone t (sym (rw (f, t) at (stands some)))) (λ g.
+      by-test (ends? b) (λ t. ends t (sym (rw (f, g, t) at (stands some)))) (λ h. let none : 0 ≡ entry = rw (f, g, h) at (stands some) in absurd (omega arith))))
 
-  pub stands-end : entry ≡ 2 → ends? b ≡ true
-  unfolding word·byte pick
-  stands-end e = by-test (ends? b) (λ t. t) (λ f. let z = rw f at (stands 2 (omega arith) e) in absurd (by-test (plain? b) (λ t. let y : _≡_ {A = ℕ} 1 2 = rw t at z in omega arith) (λ g. let y : _≡_ {A = ℕ} 0 2 = rw g at z in omega arith)))
+  pub stands-on : entry ≡ 1 → plain? b ≡ true
+  stands-on e = by-kind (omega arith) (λ t _. t) (λ _ o. absurd (omega arith)) (λ _ o. absurd (omega arith))
+
+  pub stands-end : 2 ≤ entry → ends? b ≡ true
+  stands-end h = by-kind (omega arith) (λ _ o. absurd (omega arith)) (λ t _. alone-ends b t) (λ t _. t)
+
+  pub stands-alone : entry ≡ 3 → alone? b ≡ true
+  stands-alone e = by-kind (omega arith) (λ _ o. absurd (omega arith)) (λ t _. t) (λ _ o. absurd (omega arith))
 
 -- Plain bytes from a place up to another.
 pub record Plain·to (text : List ℕ) (start i : ℕ) : Type 0 where

@@ -24,9 +24,9 @@ alone? b =
 unfoldable pub ends? : ℕ → Bool
 ends? b = eqb b (byte " ") || eqb b (byte "\r") || alone? b
 
--- How a byte stands to a word: 1 goes on with it, 2 ends it, and at any other byte one must look at more.
+-- How a byte stands to a word: 1 goes on with it, 2 ends it, 3 ends it and is a token by itself, and at any other byte one must look at more.
 unfoldable pub word·byte : ℕ → ℕ
-word·byte b = pick (plain? b) 1 (pick (ends? b) 2 0)
+word·byte b = pick (plain? b) 1 (pick (alone? b) 3 (pick (ends? b) 2 0))
 
 -- So many entries of a table from a place on become a number.
 unfoldable pub filled : ℕ → ℕ → ℕ → List ℕ → List ℕ

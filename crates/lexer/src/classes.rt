@@ -76,15 +76,15 @@ pub fn word_bytes() -> [u8; 256]
     fill(&mut table, 45, 47, 1);
     table[63] = 1;
     table[95] = 1;
-    table[10] = 2;
     table[13] = 2;
     table[32] = 2;
-    fill(&mut table, 40, 42, 2);
-    table[44] = 2;
-    table[59] = 2;
-    table[61] = 2;
-    table[123] = 2;
-    table[125] = 2;
+    table[10] = 3;
+    fill(&mut table, 40, 42, 3);
+    table[44] = 3;
+    table[59] = 3;
+    table[61] = 3;
+    table[123] = 3;
+    table[125] = 3;
     table
 }
 

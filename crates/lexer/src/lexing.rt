@@ -16,13 +16,13 @@ use super::Scan;
 use super::Step;
 use super::Symbol;
 use super::Walk;
+use super::classes::entry_of;
 use super::classes::symbol_at;
 use super::classes::word_bytes;
 use super::lexer_of::place_at;
 use super::places::no_place;
 use super::scanning::comment_end;
 use super::scanning::quoted_end;
-use super::scanning::stands_alone;
 use super::scanning::string_end;
 use super::scanning::word_end;
 use super::scanning::word_stop_by;
@@ -87,12 +87,12 @@ fn symbol_step(text: &[u8], i: usize) -> Step
     }
 }
 
-// Where the token at i ends, if it is told by its bytes at once; else i itself.
+// Where the token at i ends, if it is told by its bytes at once, by the table; else i itself.
 fn told_end(text: &[u8], i: usize, table: &[u8; 256]) -> usize
     requires { ⌜ (i < length (now text)) × (now table ≡ word·bytes) ⌝ }
     ensures { λ r. ⌜ (i < r → token·step i (drop i (now (text .entry))) ≡ Step.Token r) ⌝ }
 {
-    if stands_alone(text[i]) {
+    if entry_of(table, text[i]) == 3 {
         return i + 1;
     }
     word_stop_by(text, i, table)

@@ -26,6 +26,7 @@ pub use lexer_of::place_at;
 pub use lexing::lex;
 pub use refusal::Refusal;
 pub use refusal::refusal_number;
+pub use scanning::ends_word;
 pub use scanning::word_stop;
 pub use scanning::word_stop_by;
 pub use token::kind_at;

@@ -210,7 +210,7 @@ pub fn stands_alone(b: u8) -> bool
 }
 
 // Does the byte end a word, whatever comes next? Not all that do are told.
-fn ends_word(b: u8) -> bool
+pub fn ends_word(b: u8) -> bool
     ensures { λ r. ⌜ r ≡ ends? b ⌝ }
 {
     (b == 32) | (b == 13) | stands_alone(b)
@@ -238,7 +238,7 @@ pub fn word_stop_by(text: &[u8], start: usize, table: &[u8; 256]) -> usize
     while i < text.len() {
         let stands = entry_of(table, text[i]);
         if stands != 1 {
-            if stands == 2 {
+            if 2 <= stands {
                 return i;
             }
             return start;
