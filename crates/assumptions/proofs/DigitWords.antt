@@ -15,25 +15,15 @@ use Rattle.lexer.proofs.WordsTold.{Plain·to, plain-start, plain-turn, word-tol
 use Rattle.lexer.specs.Base.{alike, bytes, lower, pick}
 use Rattle.lexer.specs.ByteBlocks.{plain?}
 use Rattle.lexer.specs.Lexing.{token·at}
-use Rattle.lexer.specs.PlainWords.{alone?, ends?}
+use Rattle.lexer.specs.PlainWords.{ends?}
 use Rattle.lexer.specs.Words.{Numbered, digits, is, largest, positive, unsigned, word?}
-use borrow.Author.Tests.{eqb-true, leb-true, le-leb, lt-leb, ne-eqb}
+use borrow.Author.Tests.{leb-true, le-leb, lt-leb, ne-eqb}
 use lib.Dec.{eqb, leb}
 use lib.ListN.{length, getD, take, drop}
-use mathlib.Core.Bool.{true, false, _&&_, _||_, false≢true}
+use mathlib.Core.Bool.{true, false, _&&_}
 use mathlib.Core.List.{List, [], _∷_}
 use mathlib.Core.Path.{_≡_, refl, sym, ap, _∙_}
 use native.Mathlib.Omega.{arith}
-
--- Some bytes that end a word
-pub ends-told : (b : ℕ) → eqb b 32 || eqb b 10 || eqb b 13 || eqb b 44 || eqb b 59 ≡ true → ends? b ≡ true
-unfolding ends? alone?
-ends-told b t =
-    by-test (eqb b 32) (λ e. rw (eqb-true b 32 e) refl) (λ f1.
-    by-test (eqb b 10) (λ e. rw (eqb-true b 10 e) refl) (λ f2.
-    by-test (eqb b 13) (λ e. rw (eqb-true b 13 e) refl) (λ f3.
-    by-test (eqb b 44) (λ e. rw (eqb-true b 44 e) refl) (λ f4.
-    by-test (eqb b 59) (λ e. rw (eqb-true b 59 e) refl) (λ f5. absurd (false≢true (rw (f1, f2, f3, f4, f5) at t)))))))
 
 digit-plain : (b : ℕ) → 48 ≤ b → b ≤ 57 → plain? b ≡ true
 unfolding plain?

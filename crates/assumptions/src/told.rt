@@ -3,19 +3,12 @@
 ghost use Prim.Native.Nat.{_<_};
 ghost use Rattle.assumptions.specs.ListParts.{Spells};
 ghost use Rattle.lexer.specs.Lexing.{token·at, word·at};
-ghost use Rattle.lexer.specs.PlainWords.{ends?};
 ghost use Rattle.lexer.specs.Words.{is};
 ghost use lib.ListN.{length};
 ghost use mathlib.Core.Bool.{true};
 ghost use mathlib.Core.Path.{_≡_};
+use lexer::ends_word;
 use lexer::lower;
-
-// Does the byte end a word, whatever comes next? Not all that do are told.
-fn ends_word(b: u8) -> bool
-    ensures { λ r. ⌜ (r ≡ true → ends? b ≡ true) ⌝ }
-{
-    (b == 32) | (b == 10) | (b == 13) | (b == 44) | (b == 59)
-}
 
 // The number that the word at a place spells, if the word is told by its bytes at once and is of digits alone; else 0. It may be 0 also where
 // the number has nearly 64 bits.

@@ -202,7 +202,7 @@ pub fn word_end(text: &[u8], from: usize) -> Scan
 }
 
 // Is the byte a token by itself, whatever comes next? Not all that are are told.
-pub fn stands_alone(b: u8) -> bool
+fn stands_alone(b: u8) -> bool
     ensures { λ r. ⌜ r ≡ alone? b ⌝ }
 {
     let bracket = (b == 40) | (b == 41) | (b == 123) | (b == 125);

@@ -95,7 +95,7 @@ returns-5 c =
     (omega (arith, l .before .loop .inv .within, a .if2 .left, a .before .if1 .left))
     (omega (arith, l .loop-test .left))
     (a .before .before .before .before .pre)
-    (c .ends-word .ensures t)
+    (sym (c .ends-word .ensures) ∙ t)
 
 pub key-told-spec : {M : Type 1} → statement M
 key-told-spec =

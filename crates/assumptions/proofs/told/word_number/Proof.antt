@@ -9,6 +9,7 @@ use borrow.Author.Tests.{leb-true, not-false}
 use lib.Dec.{leb}
 use lib.ListN.{length, getD}
 use mathlib.Core.Bool.{_&&_}
+use mathlib.Core.Path.{sym, _∙_}
 use native.Mathlib.Omega.{arith}
 
 abbrev Inv-loop : tie.InvT-loop
@@ -36,7 +37,7 @@ ends-word-requires c κs = search needs
 returns : tie.Need-returns Inv-loop μ-loop
 returns c =
     let l = c .before .before .before .before in
-    λ some. spelling-end _ _ _ _ (l .before .loop .inv) (l .loop-test .taken) (c .before .ends-word .ensures (c .if2 .taken)) some
+    λ some. spelling-end _ _ _ _ (l .before .loop .inv) (l .loop-test .taken) (sym (c .before .ends-word .ensures) ∙ c .if2 .taken) some
 
 returns-2 : tie.Need-returns-2 Inv-loop μ-loop
 returns-2 c = λ some. absurd (omega arith)
