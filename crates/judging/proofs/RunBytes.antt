@@ -1,6 +1,6 @@
 -- The same bytes at two places: byte by byte, and what stands at one of them stands at the other. Assumes nothing.
 use Prim.Native.Nat.{ℕ, suc, _+_, _-_, _/_, _%_, _≤_, _<_}
-use Rattle.judging.specs.Runs.{Again, Alike, Comparable, Counting}
+use Rattle.judging.specs.Runs.{Again, Alike, Comparable, Counting, Digits}
 use Rattle.lexer.proofs.Basics.{and-left, and-right, by-test}
 use Rattle.lexer.proofs.ListLaws.{drop-next}
 use Rattle.naming.proofs.RowLaws.{drop-behind}
@@ -72,6 +72,13 @@ again-made {b} {at} {size} {place} {p} {pair} fits later room tens ones front mi
         let u : at + size - 16 + k ≡ at + place + 2 + i = omega (arith, fits .least, fits .most) in
         let v : p + size - 16 + k ≡ p + place + 2 + i = omega (arith, fits .least, fits .most) in
         ap (λ n. getD b n 0) (sym u) ∙ last .each k (omega (arith, fits .least, fits .most)) ∙ ap (λ n. getD b n 0) v)
+
+-- The digits of the next number: behind a 9 the first counts up.
+pub digits-carry : {tens ones n : ℕ} → Digits tens ones n → ones ≡ 57 → (m : ℕ) → m ≡ n + 1 → Digits (tens + 1) 48 m
+digits-carry d nine m e = let first = d .first in let second = d .second in record { first = omega arith; second = omega arith }
+
+pub digits-next : {tens ones n : ℕ} → Digits tens ones n → (ones ≡ 57 → ⊥) → (m : ℕ) → m ≡ n + 1 → Digits tens (ones + 1) m
+digits-next d other m e = let first = d .first in let second = d .second in record { first = omega (arith, other); second = omega (arith, other) }
 
 -- Once more.
 pub counting-more : {b : List ℕ} (at size place pair n p : ℕ) → Counting b at size place pair n p → Again b at size place p (pair + n + 1)

@@ -21,6 +21,11 @@ pub record Comparable (size-of-all at size place : ℕ) : Type 0 where
   pub most : size ≤ place + 34
   pub within : at + size ≤ size-of-all
 
+-- Two digits are the last two of a number below 110.
+pub record Digits (tens ones pair : ℕ) : Type 0 where
+  pub first : tens ≡ 48 + pair / 10
+  pub second : ones ≡ 48 + pair % 10
+
 -- Its bytes stand at another place as well, but for the two digits, which there are those of a number.
 pub record Again (b : List ℕ) (at size place p pair : ℕ) : Type 0 where
   pub room : p + size ≤ length b

@@ -1,7 +1,7 @@
 // Characters that follow another and have the same bytes as it, but for the last two digits of their number.
 
-ghost use Prim.Native.Nat.{_+_, _-_, _≤_, _<_};
-ghost use Rattle.judging.specs.Runs.{Again, Alike, Comparable, Counting, Run·told};
+ghost use Prim.Native.Nat.{ℕ, _+_, _-_, _≤_, _<_};
+ghost use Rattle.judging.specs.Runs.{Again, Alike, Comparable, Counting, Digits, Run·told};
 ghost use lib.ListN.{length};
 ghost use mathlib.Core.Bool.{true};
 ghost use mathlib.Core.Path.{_≡_};
@@ -28,17 +28,25 @@ fn sixteen_alike(source: &[u8], x: usize, y: usize) -> bool
     same
 }
 
-// Do the bytes of a character, so many from a place on, stand at a later place as well, but for two digits, which there are those of a number?
-fn stands_again(source: &[u8], at: usize, size: usize, place: usize, p: usize, pair: usize) -> bool
+// Do the bytes of a character, so many from a place on, stand at a later place as well, but for two digits, which there are these?
+fn stands_again(
+    source: &[u8],
+    at: usize,
+    size: usize,
+    place: usize,
+    p: usize,
+    tens: u8,
+    ones: u8,
+) -> bool
     requires { ⌜ Comparable (length (now source)) at size place × (at ≤ p) × (p + size ≤ length (now source)) ⌝ }
-    ensures { λ r. ⌜ (r ≡ true → Again (now (source .entry)) at size place p pair) ⌝ }
+    ensures { λ r. ⌜ (r ≡ true → (pair : ℕ) → Digits tens ones pair → Again (now (source .entry)) at size place p pair) ⌝ }
 {
     let first = at + place;
     let q = p + place;
-    if source[q] as usize != 48 + pair / 10 {
+    if source[q] != tens {
         return false;
     }
-    if source[q + 1] as usize != 48 + pair % 10 {
+    if source[q + 1] != ones {
         return false;
     }
     sixteen_alike(source, first - 16, q - 16)
@@ -53,6 +61,8 @@ fn run_on(source: &[u8], at: usize, size: usize, place: usize, pair: usize, most
 {
     let mut count = 0;
     let mut p = at + size;
+    let mut tens = 48 + ((pair + 1) / 10) as u8;
+    let mut ones = 48 + ((pair + 1) % 10) as u8;
     while count < most {
         if source.len() - p < size {
             return Run {
@@ -60,7 +70,7 @@ fn run_on(source: &[u8], at: usize, size: usize, place: usize, pair: usize, most
                 behind: p,
             };
         }
-        if !stands_again(source, at, size, place, p, pair + count + 1) {
+        if !stands_again(source, at, size, place, p, tens, ones) {
             return Run {
                 count: count,
                 behind: p,
@@ -68,6 +78,12 @@ fn run_on(source: &[u8], at: usize, size: usize, place: usize, pair: usize, most
         }
         count += 1;
         p += size;
+        if ones == 57 {
+            ones = 48;
+            tens += 1;
+            continue;
+        }
+        ones += 1;
     }
     Run {
         count: count,

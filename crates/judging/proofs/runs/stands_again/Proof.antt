@@ -1,9 +1,8 @@
 -- The function `stands_again` meets its contract: the two digits, and three times sixteen bytes. Assumes nothing.
-use Prim.Native.Nat.{_+_}
 use Rattle.judging.proofs.RunBytes.{again-made}
 use Rattle.lexer.proofs.Basics.{and-left, and-right}
 use mathlib.Core.Bool.{_&&_, false≢true}
-use native.Mathlib.Omega.{arith}
+use mathlib.Core.Path.{_∙_}
 use borrow.Author.Needs.{needs}
 use Rattle.judging.proofs.runs.stands_again.Statement.{statement}
 use Rattle.judging.proofs.runs.stands_again.Tie as tie
@@ -17,12 +16,6 @@ add-q c = search needs
 shared-slice-read-if1 : tie.Need-shared-slice-read-if1
 shared-slice-read-if1 c = search needs
 
-cast-if1 : tie.Need-cast-if1
-cast-if1 c = let s = c .before .before in omega (arith, c .shared-slice-known2 .given (s .args .p + s .args .place))
-
-add-if1 : tie.Need-add-if1
-add-if1 c = search needs
-
 returns : tie.Need-returns
 returns c = λ t. absurd (false≢true t)
 
@@ -31,12 +24,6 @@ add-if2 c = search needs
 
 shared-slice-read-if2 : tie.Need-shared-slice-read-if2
 shared-slice-read-if2 c = search needs
-
-cast-if2 : tie.Need-cast-if2
-cast-if2 c = let s = c .before .before .before .before in omega (arith, c .shared-slice-known3 .given (s .args .p + s .args .place + 1))
-
-add-if2-2 : tie.Need-add-if2-2
-add-if2-2 c = search needs
 
 returns-2 : tie.Need-returns-2
 returns-2 c = λ t. absurd (false≢true t)
@@ -76,7 +63,7 @@ sixteen-alike-requires-3 c κs = search needs
 
 returns-3 : tie.Need-returns-3
 returns-3 c =
-    λ t.
+    λ t pair digits.
     let last = c .sixteen-alike3 in
     let middle = c .before .sixteen-alike2 in
     let front = c .before .before .sixteen-alike in
@@ -84,7 +71,7 @@ returns-3 c =
     let tens = ones .before .before in
     let s = tens .before .before .before in
     let both = and-left (front .result && middle .result) (last .result) t in
-    again-made (s .pre .0) (s .pre .1) (s .pre .2) (tens .if1 .left) (ones .if2 .left) (front .ensures (and-left (front .result) (middle .result) both))
+    again-made (s .pre .0) (s .pre .1) (s .pre .2) (tens .if1 .left ∙ digits .first) (ones .if2 .left ∙ digits .second) (front .ensures (and-left (front .result) (middle .result) both))
     (middle .ensures (and-right (front .result) (middle .result) both))
     (last .ensures (and-right (front .result && middle .result) (last .result) t))
 
@@ -95,13 +82,9 @@ stands-again-spec =
     add-first
     add-q
     shared-slice-read-if1
-    cast-if1
-    add-if1
     returns
     add-if2
     shared-slice-read-if2
-    cast-if2
-    add-if2-2
     returns-2
     sub-sixteen-alike
     sub-sixteen-alike-2
