@@ -56,12 +56,22 @@ pub record Stands (b : List ℕ) (label states : ℕ) (c : Character) (behind : 
 pub record Labels·told (b : List ℕ) (label states : ℕ) (r : Bool) : Type 0 where
   pub told : (c : Character) (behind : List ℕ) → Stands b label states c behind → r ≡ any·label c
 
--- A character whose label would begin at a place has none, nor state labels, and is unordered; its lines end 22 bytes behind that place.
-pub record Plain·at (b : List ℕ) (label : ℕ) : Type 0 where
-  pub inside : label + 22 ≤ length b
+-- Of a character of a type that has neither a label nor state labels: how many bytes it has from the place of its label on, and the letter with which the
+-- word of its type begins.
+abbrev pub plain·size : CharacterOrdering → ℕ
+plain·size CharacterOrdering.Unordered = 22
+plain·size CharacterOrdering.Ordered = 20
+
+abbrev pub first·letter : CharacterOrdering → ℕ
+first·letter CharacterOrdering.Unordered = byte "U"
+first·letter CharacterOrdering.Ordered = byte "O"
+
+-- A character whose label would begin at a place has none, nor state labels, and is of this type; its lines end so many bytes behind that place.
+pub record Plain·at (b : List ℕ) (label : ℕ) (o : CharacterOrdering) : Type 0 where
+  pub inside : label + plain·size o ≤ length b
   pub bare : (c : Character) (behind : List ℕ) → drop label b ≡ label·on c behind → any·label c ≡ false
-  pub unordered : (c : Character) (behind : List ℕ) → drop label b ≡ label·on c behind → c .ordering ≡ CharacterOrdering.Unordered
-  pub next : (c : Character) (behind : List ℕ) → drop label b ≡ label·on c behind → drop (label + 22) b ≡ behind
+  pub typed : (c : Character) (behind : List ℕ) → drop label b ≡ label·on c behind → c .ordering ≡ o
+  pub next : (c : Character) (behind : List ℕ) → drop label b ≡ label·on c behind → drop (label + plain·size o) b ≡ behind
 
 -- A piece was put, and this stands at the next place of the record.
 pub record Put·on (b behind before : List ℕ) (n : ℕ) (piece : List ℕ → List ℕ) (after : List ℕ) (r : Putting) : Type 0 where

@@ -3,13 +3,14 @@
 ghost use Prim.Native.Nat.{_+_, _≤_, min};
 ghost use Rattle.emit.specs.Puts.{Puts};
 ghost use Rattle.record.specs.Form.{comma, form·each, form·states};
-ghost use Rattle.writing.specs.CharacterLines.{Assumptions·put, Entries·put, Entry·put, Label·found, Label·put, Labels·put, Labels·told, Line·behind, Next·found, Order·found, Plain·at, States·found, States·put, Type·put, Types·put};
+ghost use Rattle.writing.specs.CharacterLines.{Assumptions·put, Entries·put, Entry·put, Label·found, Label·put, Labels·put, Labels·told, Line·behind, Next·found, Order·found, Plain·at, first·letter, plain·size, States·found, States·put, Type·put, Types·put};
 ghost use lib.ListN.{length};
 ghost use mathlib.Core.Bool.{true};
 ghost use mathlib.Core.Path.{_≡_};
 use super::Putting;
 use super::names::put_quoted;
 use block::CharacterNumber;
+use block::CharacterOrdering;
 use emit::put;
 use emit::put_all;
 use emit::put_decimal;
@@ -88,20 +89,42 @@ fn is_labelled(source: &[u8], label: usize, states: usize) -> bool
     (byte_or_zero(source, label) != b'\n') | (byte_or_zero(source, states) == b's')
 }
 
-// Do bytes tell that the character whose label begins at a place has neither a label nor state labels, and is unordered? Most characters are such.
-fn is_plain(source: &[u8], label: usize) -> bool
-    ensures { λ r. ⌜ (r ≡ true → Plain·at (now (source .entry)) label) ⌝ }
+// How many bytes a character of a type that has neither a label nor state labels has from the place of its label on.
+fn plain_size(ordering: CharacterOrdering) -> usize
+    ensures { λ r. ⌜ (r ≡ plain·size ordering) × (20 ≤ r) × (r ≤ 22) ⌝ }
 {
+    match ordering {
+        CharacterOrdering::Unordered => 22,
+        CharacterOrdering::Ordered => 20,
+    }
+}
+
+// The letter with which the word of a type begins.
+fn first_letter(ordering: CharacterOrdering) -> u8
+    ensures { λ r. ⌜ r ≡ first·letter ordering ⌝ }
+{
+    match ordering {
+        CharacterOrdering::Unordered => b'U',
+        CharacterOrdering::Ordered => b'O',
+    }
+}
+
+// Do bytes tell that the character whose label begins at a place has neither a label nor state labels, and is of this type? Most characters are such.
+fn is_plain(source: &[u8], label: usize, ordering: CharacterOrdering) -> bool
+    ensures { λ r. ⌜ (r ≡ true → Plain·at (now (source .entry)) label ordering) ⌝ }
+{
+    let size = plain_size(ordering);
     if source.len() <= label {
         return false;
     }
-    if source.len() - label < 22 {
+    if source.len() - label < size {
         return false;
     }
-    if (source[label] != b'\n') | (source[label + 7] != b'U') {
+    if (source[label] != b'\n') | (source[label + 7] != first_letter(ordering)) {
         return false;
     }
-    (source[label + 20] == b'0') & (source[label + 21] == b'\n')
+    let end = label + size;
+    (source[end - 2] == b'0') & (source[end - 1] == b'\n')
 }
 
 // Puts the label that begins at a place, with a blank before it, if it is not empty.
@@ -191,7 +214,7 @@ fn put_entries(
     while k < characters.0 {
         let label = label_at(source, i);
         k += 1;
-        if is_plain(source, label) {
+        if is_plain(source, label, CharacterOrdering::Unordered) {
             i = label + 22;
             continue;
         }
@@ -234,9 +257,14 @@ fn put_types(
     while k < characters.0 {
         let label = label_at(source, i);
         k += 1;
-        if is_plain(source, label) {
+        if is_plain(source, label, CharacterOrdering::Unordered) {
             m = put_all(buffer, m, b" UNORD");
             i = label + 22;
+            continue;
+        }
+        if is_plain(source, label, CharacterOrdering::Ordered) {
+            m = put_all(buffer, m, b" ORD");
+            i = label + 20;
             continue;
         }
         let order = order_at(source, label);

@@ -38,7 +38,7 @@ loop-less c = search needs
 loop-again : tie.Need-loop-again Inv-loop μ-loop
 loop-again c =
     let l = c .before .before .before .before .before in
-    going-turn (l .loop .inv) refl (entries-bare _ _ _ _ (c .before .before .before .if1 .taken) _ (c .before .before .label-at .ensures) (c .before .is-plain .ensures (c .if2 .taken)))
+    going-turn (l .loop .inv) refl (entries-bare _ _ _ _ (c .before .before .before .if1 .taken) _ (c .before .before .label-at .ensures) _ (c .before .is-plain .ensures (c .if2 .taken)))
 
 order-at-requires : tie.Need-order-at-requires Inv-loop μ-loop
 order-at-requires c κs = search needs
