@@ -7,6 +7,7 @@ ghost use mathlib.Core.Bool.{true};
 ghost use mathlib.Core.Path.{_≡_};
 use block::CharacterNumber;
 use emit::digits_of;
+use slots::lesser;
 
 // How many characters follow, and where the last of them ends.
 pub struct Run {
@@ -113,16 +114,6 @@ fn comparable(length: usize, at: usize, j: usize, place: usize) -> bool
     j - at <= place + 34
 }
 
-// The smaller of two numbers.
-fn fewer(a: usize, b: usize) -> usize
-    ensures { λ r. ⌜ (r ≤ a) × (r ≤ b) ⌝ }
-{
-    if a < b {
-        return a;
-    }
-    b
-}
-
 // The characters that follow the one of a number, from a place to another, with the same bytes but for the last two digits of their number: at most so
 // many, and none where it cannot be told at once.
 pub fn alike_run(source: &[u8], at: usize, j: usize, k: CharacterNumber, left: usize) -> Run
@@ -142,5 +133,5 @@ pub fn alike_run(source: &[u8], at: usize, j: usize, k: CharacterNumber, left: u
         };
     }
     let pair = k.0 % 100;
-    run_on(source, at, j - at, place, pair, fewer(left, 99 - pair))
+    run_on(source, at, j - at, place, pair, lesser(left, 99 - pair))
 }

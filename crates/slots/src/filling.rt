@@ -96,7 +96,7 @@ pub fn fill_slot(work: &mut [u32], from: usize, end: usize, value: u32)
 }
 
 // The lesser of two numbers.
-fn lesser(a: usize, b: usize) -> usize
+pub fn lesser(a: usize, b: usize) -> usize
     ensures { λ r. ⌜ (r ≤ a) × (r ≤ b) ⌝ }
 {
     if a < b {

@@ -105,12 +105,58 @@ fn texts_of_a_megabyte() {
         ("a list", inputs::listed(130_000), true),
         ("a list twice", inputs::listed_again(200_000), false),
         ("a vector", inputs::vector(200_000), true),
+        ("a mixed vector", inputs::mixed_vector(150_000), true),
         ("beyond ASCII", beyond_ascii(900_000).into_bytes(), true),
         ("comments", inputs::nested(MEGABYTE), false),
     ] {
         assert!(text.len() <= MEGABYTE, "{name}: {} bytes", text.len());
         let met = checked(name, &text);
         assert_eq!(met == Met::Taken, read, "{name}: {met:?}");
+    }
+}
+
+/// Characters whose numbers differ in the last two digits alone, of one type and of two, by a type set or without one, and
+/// with a label among them.
+#[test]
+#[cfg_attr(not(archive), ignore = "no archive; tools/test-calls makes it")]
+fn characters_by_the_hundred() {
+    let types: [(&str, fn(usize) -> bool); 5] = [
+        ("all", |_| true),
+        ("none", |_| false),
+        ("by turns", |character| character % 2 == 0),
+        ("one of a hundred", |character| character % 100 == 57),
+        ("in no order", |character| {
+            character * character / 7 % 3 == 1
+        }),
+    ];
+    for characters in [98, 99, 100, 101, 198, 199, 200, 299, 350, 1_100] {
+        let row: String = ["0", "1", "?"]
+            .into_iter()
+            .cycle()
+            .take(characters)
+            .collect();
+        for (name, ordered) in types {
+            let numbers: Vec<String> = (1..=characters)
+                .filter(|character| ordered(*character))
+                .map(|character| character.to_string())
+                .collect();
+            for default in ["", "OPTIONS DEFTYPE=ORD;", "OPTIONS DEFTYPE=UNORD;"] {
+                for label in ["", "CHARSTATELABELS 150 here, 250 / a b;"] {
+                    let word = ["ORD", "UNORD"][usize::from(default.contains("=ORD"))];
+                    let set = match numbers.is_empty() {
+                        true => String::new(),
+                        false => format!("TYPESET * t = {word}: {};", numbers.join(" ")),
+                    };
+                    let labelled = characters >= 250 || label.is_empty();
+                    let text = format!(
+                        "#NEXUS BEGIN DATA; DIMENSIONS NTAX=1 NCHAR={characters}; {label} MATRIX a {row}; END; \
+                        BEGIN ASSUMPTIONS; {default} {set} END;"
+                    );
+                    let met = checked(name, text.as_bytes());
+                    assert_eq!(met == Met::Taken, labelled, "{name}, {characters}: {met:?}");
+                }
+            }
+        }
     }
 }
 

@@ -162,6 +162,14 @@ pub fn vector(characters: usize) -> Vec<u8> {
     )
 }
 
+/// The same, with both types in no order.
+pub fn mixed_vector(characters: usize) -> Vec<u8> {
+    let types: String = (0..characters)
+        .map(|character| ["ORD ", "UNORD "][character * character / 7 % 11 % 2])
+        .collect();
+    typed(characters, &format!("* t (VECTOR) = {types}"))
+}
+
 /// So many characters, three of four in ranges of two with a stride, all in one list.
 pub fn ranges(characters: usize) -> Vec<u8> {
     let ranges: Vec<String> = (1..characters - 3)

@@ -27,25 +27,25 @@ returns-2 c = run-none _ _ _ _ _
 sub-run-on : tie.Need-sub-run-on
 sub-run-on c = let fits = c .before .before .comparable .ensures (not-false _ (c .before .if2 .left)) in omega (arith, fits .0)
 
-sub-fewer : tie.Need-sub-fewer
-sub-fewer c = search needs
+sub-lesser : tie.Need-sub-lesser
+sub-lesser c = search needs
 
-fewer-requires : tie.Need-fewer-requires
-fewer-requires c κs = search needs
+lesser-requires : tie.Need-lesser-requires
+lesser-requires c κs = search needs
 
 run-on-requires : tie.Need-run-on-requires
 run-on-requires c κs =
     let t = c .before .before in
     let fits = t .before .comparable .ensures (not-false _ (t .if2 .left)) in
-    (fits .1, omega (arith, c .fewer .ensures .1))
+    (fits .1, omega (arith, c .lesser .ensures .1))
 
 returns-3 : tie.Need-returns-3
 returns-3 c =
-    let fewer = c .before .fewer in
+    let least = c .before .lesser in
     let t = c .before .before .before in
     let fits = t .before .comparable .ensures (not-false _ (t .if2 .left)) in
     let d = t .before .before in
-    run-some _ _ (d .before .if1 .left) (ap (λ n. 8 + n) (d .digits-of .ensures)) (fits .0) (fewer .ensures .0) (omega (arith, fewer .ensures .1)) (c .run-on .ensures)
+    run-some _ _ (d .before .if1 .left) (ap (λ n. 8 + n) (d .digits-of .ensures)) (fits .0) (least .ensures .0) (omega (arith, least .ensures .1)) (c .run-on .ensures)
 
 pub alike-run-spec : {M : Type 1} → statement M
 alike-run-spec =
@@ -57,7 +57,7 @@ alike-run-spec =
     comparable-requires
     returns-2
     sub-run-on
-    sub-fewer
-    fewer-requires
+    sub-lesser
+    lesser-requires
     run-on-requires
     returns-3)

@@ -65,6 +65,11 @@ const MORE: &[Shape] = &[
     ("50 taxa in 1,500 pages", 1_500, |n| inputs::pages(50, n, 1)),
     ("CHARLABELS of 40,000", 40_000, inputs::label_list),
     ("STATELABELS of 30,000", 30_000, inputs::state_labels),
+    (
+        "TYPESET, a mixed vector of 150,000",
+        150_000,
+        inputs::mixed_vector,
+    ),
     ("TYPESET, 75,000 ranges", 150_000, inputs::ranges),
     ("TYPESET, 60,000 sets", 60_000, inputs::sets),
     ("colliding names, 120,000", 120_000, |n| {
