@@ -20,13 +20,13 @@ use Rattle.matrix.specs.RowShape.{coded, symbols·coded, within·with, c
 use Rattle.matrix.specs.WholeSets.{Set·bytes, Set·closed, Whole·set, bracket·of, opener, rising, simple?}
 use Rattle.matrix.specs.declared.matrix.Cells.{Cells}
 use Rattle.matrix.specs.declared.matrix.Chunk.{Chunk}
-use borrow.Author.Tests.{eqb-true, le-leb, lt-leb, lt-ltb, ltb-true, ltb-false, ne-eqb}
+use borrow.Author.Tests.{eqb-true, le-leb, leb-false, lt-leb, lt-ltb, ltb-true, ltb-false, ne-eqb}
 use lib.Dec.{eqb, leb, ltb}
 use lib.ListN.{length, getD, take, drop, length-take, length-drop}
 use lib.Seq.{getD-drop, getD-take, take-suc}
 use mathlib.Core.Bool.{Bool, true, false, _&&_, _||_, not, true≢false}
 use mathlib.Core.List.{List, [], _∷_, _++_, append-assoc, append-nil}
-use mathlib.Core.Path.{_≡_, refl, ap, _∙_}
+use mathlib.Core.Path.{_≡_, refl, ap, subst, _∙_}
 use native.Mathlib.Nat.{min-eq-left}
 use native.Mathlib.Omega.{arith}
 
@@ -106,6 +106,21 @@ module _ {codes text : List ℕ} {from : ℕ} where
     unfolding rising
     rising-end = rw (append-nil (part text from i)) at (k .rest [] refl)
 
+-- Two states, the second above the first: they rise; so asks the code.
+pub pair-rises : (codes text : List ℕ) (start : ℕ) → start + 3 < length text → getD codes (getD text (start + 1) 0) 0 < getD codes (getD text (start + 2) 0) 0
+    → getD codes (getD text (start + 2) 0) 0 < 10
+    → simple? (getD text (start + 1) 0) ≡ true
+    → simple? (getD text (start + 2) 0) ≡ true
+    → rising codes 0 (part text (start + 1) (start + 3)) ≡ true
+pair-rises codes text start h up few low high =
+    let second : start + 1 + 1 ≡ start + 2 = omega arith in
+    let third : start + 2 + 1 ≡ start + 3 = omega arith in
+    let one = rw second at (rising-turn {codes = codes} {text = text} (rising-start (omega arith)) _ refl (omega arith) (omega arith) (omega arith) low) in
+    rising-end (rw third at (rising-turn one _ refl (omega arith) (omega arith) few high))
+
+pub pair-order : (low high : ℕ) → leb high low || ltb 9 high ≡ false → (low < high) × (high < 10)
+pair-order low high e = (leb-false high low (or-left (leb high low) (ltb 9 high) e), (let few = ltb-false 9 high (or-right (leb high low) (ltb 9 high) e) in omega arith))
+
 pub not-not : (s : Bool) → not s ≡ false → s ≡ true
 not-not true e = refl
 not-not false e = absurd (true≢false e)
@@ -169,6 +184,12 @@ module _ (codes text work : List ℕ) (i to end : ℕ) where
           rises = s .rises;
         };
       }
+
+pub pair-closed : (codes text work : List ℕ) (start i to : ℕ) → start ≡ getD work i 0 → Set·bytes codes text start (start + 3) → i + 2 < to → getD work (i + 1) 0 ≡ start + 1
+    → getD work (i + 2) 0 ≡ start + 3
+    → Set·closed codes text work i to (start + 3)
+pair-closed codes text work start i to e b room first last =
+    set-told codes text work i to (start + 3) (subst (λ x. Set·bytes codes text x (start + 3)) e b) room (first ∙ ap (λ x. x + 1) e) last
 
 -- What judging the three words comes to, and that none of them is a newline.
 module _ {codes text work : List ℕ} {i to : ℕ} {k : Bracket} {states : List ℕ} (s : Whole·set codes text work i to k states) where

@@ -1,9 +1,9 @@
 // Sets that are told by their bytes at once.
 
-ghost use Prim.Native.Nat.{_<_, _≤_};
+ghost use Prim.Native.Nat.{_+_, _<_, _≤_};
 ghost use Rattle.lexer.specs.PlainWords.{part};
 ghost use Rattle.matrix.specs.WholeSets.{Set·bytes, Set·closed, rising, simple?};
-ghost use lib.ListN.{length};
+ghost use lib.ListN.{length, getD};
 ghost use mathlib.Core.Bool.{true};
 ghost use mathlib.Core.Path.{_≡_};
 use lexer::entry_of;
@@ -88,4 +88,52 @@ pub fn set_closes(text: &[u8], work: &[u32], i: usize, to: usize, codes: &[u8; 2
         return 0;
     }
     end
+}
+
+// Are the four bytes from a place on a set of two states below 10, of which the second is the higher?
+fn pair_bytes(text: &[u8], start: usize, codes: &[u8; 256]) -> bool
+    requires { ⌜ start + 3 < length (now text) ⌝ }
+    ensures { λ r. ⌜ (r ≡ true → Set·bytes (now (codes .entry)) (now (text .entry)) start (start + 3)) ⌝ }
+{
+    let low = text[start + 1];
+    let high = text[start + 2];
+    let code = entry_of(codes, high);
+    if (code <= entry_of(codes, low)) | (9 < code) {
+        return false;
+    }
+    if !simple(low) {
+        return false;
+    }
+    if !simple(high) {
+        return false;
+    }
+    let b = text[start];
+    let end = text[start + 3];
+    (b == 123) & (end == 125) | (b == 40) & (end == 41)
+}
+
+// Is the word of an index, which begins at this place, with the two words behind it a set of two states, told by its bytes? It then closes three bytes
+// further on. Most sets are such ones.
+pub fn pair_closes(
+    text: &[u8],
+    work: &[u32],
+    start: usize,
+    i: usize,
+    to: usize,
+    codes: &[u8; 256],
+) -> bool
+    requires { ⌜ (i < to) × (start ≡ getD (now work) i 0) ⌝ }
+    ensures { λ r. ⌜ (r ≡ true → Set·closed (now (codes .entry)) (now (text .entry)) (now (work .entry)) i to (start + 3)) ⌝ }
+{
+    if to - i < 3 {
+        return false;
+    }
+    let end = start_of(work, i + 2);
+    if text.len() <= end {
+        return false;
+    }
+    if (start_of(work, i + 1) != start + 1) | (end != start + 3) {
+        return false;
+    }
+    pair_bytes(text, start, codes)
 }

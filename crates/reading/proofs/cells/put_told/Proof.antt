@@ -34,8 +34,8 @@ same-length c = told-kept (c .before .before .before .before .before .before .be
 returns : tie.Need-returns Inv-loop μ-loop
 returns c = c .before .before .before .before .before .before .before .loop .inv
 
-put-run-requires : tie.Need-put-run-requires Inv-loop μ-loop
-put-run-requires c κs =
+put-few-requires : tie.Need-put-few-requires Inv-loop μ-loop
+put-few-requires c κs =
     let within = c .before .before .before .before .word-stop-by .ensures (c .before .before .before .if1 .taken) .within in
     (omega arith, omega arith)
 
@@ -49,10 +49,7 @@ loop-again : tie.Need-loop-again Inv-loop μ-loop
 loop-again c =
     let w = c .before .before .before .before .before .before .before in
     let t = w .before .before .before in
-    told-word (t .before .loop .inv) (t .loop-test .taken) _ _ (w .before .before .start-of .ensures) (w .word-stop-by .ensures (c .before .before .before .before .before .before .if1 .taken)) (c .before .before .before .before .if2 .left) (c .before .before .put-run .ensures)
-
-set-closes-requires : tie.Need-set-closes-requires Inv-loop μ-loop
-set-closes-requires c κs = search needs
+    told-word (t .before .loop .inv) (t .loop-test .taken) _ _ (w .before .before .start-of .ensures) (w .word-stop-by .ensures (c .before .before .before .before .before .before .if1 .taken)) (c .before .before .before .before .if2 .left) (c .before .before .put-few .ensures)
 
 same-length-2 : tie.Need-same-length-2 Inv-loop μ-loop
 same-length-2 c = told-kept (c .before .before .before .before .before .before .before .loop .inv) .0
@@ -60,35 +57,66 @@ same-length-2 c = told-kept (c .before .before .before .before .before .before .
 returns-2 : tie.Need-returns-2 Inv-loop μ-loop
 returns-2 c = c .before .before .before .before .before .before .before .loop .inv
 
-same-length-3 : tie.Need-same-length-3 Inv-loop μ-loop
-same-length-3 c = told-kept (c .before .before .before .before .before .before .before .before .before .loop .inv) .0
+pair-closes-requires : tie.Need-pair-closes-requires Inv-loop μ-loop
+pair-closes-requires c κs = let s = c .before .before .before .before .before in (s .before .loop-test .taken, s .start-of .ensures)
 
-returns-3 : tie.Need-returns-3 Inv-loop μ-loop
-returns-3 c = c .before .before .before .before .before .before .before .before .before .loop .inv
+add-put-whole-set : tie.Need-add-put-whole-set Inv-loop μ-loop
+add-put-whole-set c = let b = c .before .pair-closes .ensures (c .if4 .taken) .bytes in omega (arith, b .within)
 
 put-whole-set-requires : tie.Need-put-whole-set-requires Inv-loop μ-loop
 put-whole-set-requires c κs =
-    let some = c .before .before .before .if3 .left in
-    rw (c .before .before .before .before .before .before .before .before .start-of .ensures) (c .before .before .before .before .set-closes .ensures (omega (arith, some)) .bytes)
+    let s = c .before .before .before .before .before .before .before .before .start-of .ensures in
+    rw s (rw s at (c .before .before .pair-closes .ensures (c .before .if4 .taken) .bytes))
 
 add-i-2 : tie.Need-add-i-2 Inv-loop μ-loop
 add-i-2 c =
-    let some = c .before .before .before .before .before .before .if3 .left in
-    let whole = c .before .before .before .before .before .before .before .set-closes .ensures (omega (arith, some)) .whole in
+    let whole = c .before .before .before .before .before .pair-closes .ensures (c .before .before .before .before .if4 .taken) .whole in
     omega (arith, whole .room)
 
 loop-less-2 : tie.Need-loop-less-2 Inv-loop μ-loop
 loop-less-2 c =
-    let some = c .before .before .before .before .before .before .if3 .left in
-    let whole = c .before .before .before .before .before .before .before .set-closes .ensures (omega (arith, some)) .whole in
+    let whole = c .before .before .before .before .before .pair-closes .ensures (c .before .before .before .before .if4 .taken) .whole in
     omega (arith, whole .room)
 
 loop-again-2 : tie.Need-loop-again-2 Inv-loop μ-loop
 loop-again-2 c =
-    let some = c .before .before .before .before .before .before .if3 .left in
-    let s = c .before .before .before .before .before .before .before in
-    let t = s .before .before .before .before .before in
-    told-set (t .before .loop .inv) (t .loop-test .taken) _ (s .set-closes .ensures (omega (arith, some))) (c .before .before .before .before .if4 .left) (rw (s .before .before .before .before .start-of .ensures) at (c .before .before .put-whole-set .ensures))
+    let s = c .before .before .before .before .before in
+    let t = s .before .before .before .before .before .before in
+    let e = t .start-of .ensures in
+    told-set (t .before .before .loop .inv) (t .before .loop-test .taken) _ (rw e at (s .pair-closes .ensures (c .before .before .before .before .if4 .taken))) (s .before .if3 .left) (rw e at (c .before .before .put-whole-set .ensures))
+
+set-closes-requires : tie.Need-set-closes-requires Inv-loop μ-loop
+set-closes-requires c κs = search needs
+
+same-length-3 : tie.Need-same-length-3 Inv-loop μ-loop
+same-length-3 c = told-kept (c .before .before .before .before .before .before .before .before .before .before .before .loop .inv) .0
+
+returns-3 : tie.Need-returns-3 Inv-loop μ-loop
+returns-3 c = c .before .before .before .before .before .before .before .before .before .before .before .loop .inv
+
+put-whole-set-requires-2 : tie.Need-put-whole-set-requires-2 Inv-loop μ-loop
+put-whole-set-requires-2 c κs =
+    let some = c .before .if5 .left in
+    rw (c .before .before .before .before .before .before .before .before .before .before .start-of .ensures) (c .before .before .set-closes .ensures (omega (arith, some)) .bytes)
+
+add-i-3 : tie.Need-add-i-3 Inv-loop μ-loop
+add-i-3 c =
+    let some = c .before .before .before .before .if5 .left in
+    let whole = c .before .before .before .before .before .set-closes .ensures (omega (arith, some)) .whole in
+    omega (arith, whole .room, c .before .before .before .before .before .before .before .before .before .before .before .before .before .before .before .before .before .before .before .before .good)
+
+loop-less-3 : tie.Need-loop-less-3 Inv-loop μ-loop
+loop-less-3 c =
+    let some = c .before .before .before .before .if5 .left in
+    let whole = c .before .before .before .before .before .set-closes .ensures (omega (arith, some)) .whole in
+    omega (arith, whole .room)
+
+loop-again-3 : tie.Need-loop-again-3 Inv-loop μ-loop
+loop-again-3 c =
+    let some = c .before .before .before .before .if5 .left in
+    let s = c .before .before .before .before .before in
+    let t = s .before .before .before .before .before .before .before .before in
+    told-set (t .before .before .loop .inv) (t .before .loop-test .taken) _ (s .set-closes .ensures (omega (arith, some))) (s .before .before .before .if3 .left) (rw (t .start-of .ensures) at (c .before .before .put-whole-set2 .ensures))
 
 same-length-4 : tie.Need-same-length-4 Inv-loop μ-loop
 same-length-4 c = told-kept (c .before .loop .inv) .0
@@ -109,18 +137,24 @@ put-told-spec =
     sub-if2
     same-length
     returns
-    put-run-requires
+    put-few-requires
     add-i
     loop-less
     loop-again
-    set-closes-requires
     same-length-2
     returns-2
-    same-length-3
-    returns-3
+    pair-closes-requires
+    add-put-whole-set
     put-whole-set-requires
     add-i-2
     loop-less-2
     loop-again-2
+    set-closes-requires
+    same-length-3
+    returns-3
+    put-whole-set-requires-2
+    add-i-3
+    loop-less-3
+    loop-again-3
     same-length-4
     returns-4)
