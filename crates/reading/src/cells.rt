@@ -14,6 +14,7 @@ ghost use mathlib.Core.Bool.{true};
 ghost use mathlib.Core.List.{[], _∷_};
 ghost use mathlib.Core.Path.{_≡_};
 use super::sets::put_bits;
+use super::sets::put_pair;
 use super::sets::put_whole_set;
 use block::punct;
 use emit::put;
@@ -383,7 +384,7 @@ pub fn put_told(
             return Ran { row: last, next: i };
         }
         if pair_closes(text, starts, start, i, to, codes) {
-            last = put_whole_set(text, start, start + 3, buffer, last, codes);
+            last = put_pair(text, start, buffer, last, codes);
             i += 3;
             continue;
         }

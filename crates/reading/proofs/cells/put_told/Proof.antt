@@ -60,11 +60,8 @@ returns-2 c = c .before .before .before .before .before .before .before .loop .i
 pair-closes-requires : tie.Need-pair-closes-requires Inv-loop μ-loop
 pair-closes-requires c κs = let s = c .before .before .before .before .before in (s .before .loop-test .taken, s .start-of .ensures)
 
-add-put-whole-set : tie.Need-add-put-whole-set Inv-loop μ-loop
-add-put-whole-set c = let b = c .before .pair-closes .ensures (c .if4 .taken) .bytes in omega (arith, b .within)
-
-put-whole-set-requires : tie.Need-put-whole-set-requires Inv-loop μ-loop
-put-whole-set-requires c κs =
+put-pair-requires : tie.Need-put-pair-requires Inv-loop μ-loop
+put-pair-requires c κs =
     let s = c .before .before .before .before .before .before .before .before .start-of .ensures in
     rw s (rw s at (c .before .before .pair-closes .ensures (c .before .if4 .taken) .bytes))
 
@@ -83,7 +80,7 @@ loop-again-2 c =
     let s = c .before .before .before .before .before in
     let t = s .before .before .before .before .before .before in
     let e = t .start-of .ensures in
-    told-set (t .before .before .loop .inv) (t .before .loop-test .taken) _ (rw e at (s .pair-closes .ensures (c .before .before .before .before .if4 .taken))) (s .before .if3 .left) (rw e at (c .before .before .put-whole-set .ensures))
+    told-set (t .before .before .loop .inv) (t .before .loop-test .taken) _ (rw e at (s .pair-closes .ensures (c .before .before .before .before .if4 .taken))) (s .before .if3 .left) (rw e at (c .before .before .put-pair .ensures))
 
 set-closes-requires : tie.Need-set-closes-requires Inv-loop μ-loop
 set-closes-requires c κs = search needs
@@ -94,8 +91,8 @@ same-length-3 c = told-kept (c .before .before .before .before .before .before .
 returns-3 : tie.Need-returns-3 Inv-loop μ-loop
 returns-3 c = c .before .before .before .before .before .before .before .before .before .before .before .loop .inv
 
-put-whole-set-requires-2 : tie.Need-put-whole-set-requires-2 Inv-loop μ-loop
-put-whole-set-requires-2 c κs =
+put-whole-set-requires : tie.Need-put-whole-set-requires Inv-loop μ-loop
+put-whole-set-requires c κs =
     let some = c .before .if5 .left in
     rw (c .before .before .before .before .before .before .before .before .before .before .start-of .ensures) (c .before .before .set-closes .ensures (omega (arith, some)) .bytes)
 
@@ -116,7 +113,7 @@ loop-again-3 c =
     let some = c .before .before .before .before .if5 .left in
     let s = c .before .before .before .before .before in
     let t = s .before .before .before .before .before .before .before .before in
-    told-set (t .before .before .loop .inv) (t .before .loop-test .taken) _ (s .set-closes .ensures (omega (arith, some))) (s .before .before .before .if3 .left) (rw (t .start-of .ensures) at (c .before .before .put-whole-set2 .ensures))
+    told-set (t .before .before .loop .inv) (t .before .loop-test .taken) _ (s .set-closes .ensures (omega (arith, some))) (s .before .before .before .if3 .left) (rw (t .start-of .ensures) at (c .before .before .put-whole-set .ensures))
 
 same-length-4 : tie.Need-same-length-4 Inv-loop μ-loop
 same-length-4 c = told-kept (c .before .loop .inv) .0
@@ -144,15 +141,14 @@ put-told-spec =
     same-length-2
     returns-2
     pair-closes-requires
-    add-put-whole-set
-    put-whole-set-requires
+    put-pair-requires
     add-i-2
     loop-less-2
     loop-again-2
     set-closes-requires
     same-length-3
     returns-3
-    put-whole-set-requires-2
+    put-whole-set-requires
     add-i-3
     loop-less-3
     loop-again-3
