@@ -106,7 +106,7 @@ module _ {codes text : List ℕ} {from : ℕ} where
     unfolding rising
     rising-end = rw (append-nil (part text from i)) at (k .rest [] refl)
 
--- Two states, the second above the first: they rise; so asks the code.
+-- Two states rise if the second is the higher; and what the code asks of their codes.
 pub pair-rises : (codes text : List ℕ) (start : ℕ) → start + 3 < length text → getD codes (getD text (start + 1) 0) 0 < getD codes (getD text (start + 2) 0) 0
     → getD codes (getD text (start + 2) 0) 0 < 10
     → simple? (getD text (start + 1) 0) ≡ true
@@ -153,6 +153,12 @@ marks-told b e t =
     (λ f. let brace = eqb-true b 123 f in by-test (eqb e 125) (λ g. rw brace (refl, eqb-true e 125 g)) (λ g. not-both refl (rw (brace, g) at t)))
     (λ f. let round = rw f at t in let mark = eqb-true b 40 (and-left (eqb b 40) (eqb e 41) round) in rw mark (refl, eqb-true e 41 (and-right (eqb b 40) (eqb e 41) round)))
 
+pub marks-brace : (b e : ℕ) → b ≡ 123 → eqb e 125 ≡ (eqb b 123 && eqb e 125) || (eqb b 40 && eqb e 41)
+marks-brace b e h = by-test (eqb e 125) (λ t. rw (h, t) refl) (λ f. rw (h, f) refl)
+
+pub marks-round : (b e : ℕ) → (b ≡ 123 → ⊥) → eqb b 40 && eqb e 41 ≡ (eqb b 123 && eqb e 125) || (eqb b 40 && eqb e 41)
+marks-round b e h = rw (ne-eqb b 123 h) refl
+
 pub starts-told : (a x b y : ℕ) → not (eqb a x) || not (eqb b y) ≡ false → (a ≡ x) × (b ≡ y)
 starts-told a x b y e = (eqb-true a x (not-not (eqb a x) (or-left (not (eqb a x)) (not (eqb b y)) e)), eqb-true b y (not-not (eqb b y) (or-right (not (eqb a x)) (not (eqb b y)) e)))
 
@@ -185,6 +191,7 @@ module _ (codes text work : List ℕ) (i to end : ℕ) where
         };
       }
 
+-- A set of two states, whose first word begins at a place.
 pub pair-closed : (codes text work : List ℕ) (start i to : ℕ) → start ≡ getD work i 0 → Set·bytes codes text start (start + 3) → i + 2 < to → getD work (i + 1) 0 ≡ start + 1
     → getD work (i + 2) 0 ≡ start + 3
     → Set·closed codes text work i to (start + 3)

@@ -3,8 +3,9 @@
 ghost use Prim.Native.Nat.{_+_, _<_, _≤_};
 ghost use Rattle.lexer.specs.PlainWords.{part};
 ghost use Rattle.matrix.specs.WholeSets.{Set·bytes, Set·closed, rising, simple?};
+ghost use lib.Dec.{eqb};
 ghost use lib.ListN.{length, getD};
-ghost use mathlib.Core.Bool.{true};
+ghost use mathlib.Core.Bool.{true, _&&_, _||_};
 ghost use mathlib.Core.Path.{_≡_};
 use lexer::entry_of;
 use lexer::start_of;
@@ -90,6 +91,16 @@ pub fn set_closes(text: &[u8], work: &[u32], i: usize, to: usize, codes: &[u8; 2
     end
 }
 
+// Is the second of two marks the one that closes what the first opens?
+fn marks_meet(mark: u8, close: u8) -> bool
+    ensures { λ r. ⌜ r ≡ (eqb mark 123 && eqb close 125) || (eqb mark 40 && eqb close 41) ⌝ }
+{
+    if mark == 123 {
+        return close == 125;
+    }
+    (mark == 40) & (close == 41)
+}
+
 // Are the four bytes from a place on a set of two states below 10, of which the second is the higher?
 fn pair_bytes(text: &[u8], start: usize, codes: &[u8; 256]) -> bool
     requires { ⌜ start + 3 < length (now text) ⌝ }
@@ -107,13 +118,11 @@ fn pair_bytes(text: &[u8], start: usize, codes: &[u8; 256]) -> bool
     if !simple(high) {
         return false;
     }
-    let b = text[start];
-    let end = text[start + 3];
-    (b == 123) & (end == 125) | (b == 40) & (end == 41)
+    marks_meet(text[start], text[start + 3])
 }
 
-// Is the word of an index, which begins at this place, with the two words behind it a set of two states, told by its bytes? It then closes three bytes
-// further on. Most sets are such ones.
+// Are the word of an index, which begins at this place, and the two words behind it a set of two states, told by its bytes? Then it closes three bytes
+// further on. Most sets have two states.
 pub fn pair_closes(
     text: &[u8],
     work: &[u32],

@@ -4,7 +4,7 @@ use Rattle.matrix.proofs.SetLaws.{pair-closed, starts-told}
 use Rattle.matrix.proofs.sets.pair_closes.Statement.{statement}
 use Rattle.matrix.proofs.sets.pair_closes.Tie as tie
 use borrow.Author.Needs.{needs}
-use mathlib.Core.Bool.{true≢false}
+use mathlib.Core.Bool.{false≢true}
 use mathlib.Core.Path.{sym, _∙_}
 use native.Mathlib.Omega.{arith}
 
@@ -12,7 +12,7 @@ sub-if1 : tie.Need-sub-if1
 sub-if1 c = search needs
 
 returns : tie.Need-returns
-returns c = λ t. absurd (true≢false (sym t))
+returns c = λ t. absurd (false≢true t)
 
 add-start-of : tie.Need-add-start-of
 add-start-of c = search needs
@@ -21,7 +21,7 @@ start-of-requires : tie.Need-start-of-requires
 start-of-requires c κs = search needs
 
 returns-2 : tie.Need-returns-2
-returns-2 c = λ t. absurd (true≢false (sym t))
+returns-2 c = λ t. absurd (false≢true t)
 
 add-start-of-2 : tie.Need-add-start-of-2
 add-start-of-2 c = search needs
@@ -42,7 +42,7 @@ add-if3-2 c =
     omega (arith, a .pre .1, k .shared-slice-known2 .given (a .args .i))
 
 returns-3 : tie.Need-returns-3
-returns-3 c = λ t. absurd (true≢false (sym t))
+returns-3 c = λ t. absurd (false≢true t)
 
 pair-bytes-requires : tie.Need-pair-bytes-requires
 pair-bytes-requires c κs =
