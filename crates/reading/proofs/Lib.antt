@@ -29,5 +29,6 @@ mod ShortLaws
 mod TaxaCounts
 mod TaxonPieces
 mod ToldRows
+mod TypedLines
 mod WholePuts
 mod WordCells

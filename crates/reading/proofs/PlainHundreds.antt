@@ -1,52 +1,24 @@
 -- Ten characters that have neither a label nor state labels, and whose numbers differ in the last digit alone; and a hundred whose numbers differ in the
--- last two. Assumes nothing.
-use Prim.Native.Nat.{ℕ, zero, suc, _+_, _*_, _-_, _/_, _%_, _≤_, _<_, min}
+-- last two. Their types are mixed. Assumes nothing.
+use Prim.Native.Nat.{ℕ, zero, suc, _+_, _*_, _-_, _/_, _%_, _≤_, _<_}
 use Rattle.block.specs.declared.model.CharacterOrdering.{CharacterOrdering}
 use Rattle.emit.proofs.DecimalMade.{decimal-snoc}
-use Rattle.emit.proofs.DigitsStored.{digits-most}
-use Rattle.emit.proofs.PutLaws.{puts-as, puts-past, puts-whole}
-use Rattle.emit.specs.Puts.{Puts, last·place}
-use Rattle.lexer.specs.Base.{bytes}
+use Rattle.lexer.specs.Base.{bytes, pick}
 use Rattle.reading.proofs.CharacterPuts.{plain-ordered, plain-unordered}
 use Rattle.reading.specs.CharactersHeld.{bare·piece, plain·bytes}
-use Rattle.reading.specs.PlainLines.{counted·lines, plain·lines, tens·lines}
+use Rattle.reading.specs.PlainLines.{counted·lines, ordered, ordered·count, plain·lines, tens·lines}
 use Rattle.record.specs.Decimal.{decimal}
-use lib.ListN.{length, take, drop, set, length-append, length-set}
-use lib.Seq.{append-snoc, set-at, set-set, take-append-seam, take-set-lt}
+use lib.ListN.{length, set, length-append}
+use lib.Seq.{append-snoc, set-at}
 use mathlib.Core.List.{List, [], _∷_, _++_, append-assoc}
 use mathlib.Core.Path.{_≡_, refl, sym, ap, _∙_}
 use native.Mathlib.Nat.{suc-mul}
 use native.Mathlib.Omega.{arith}
 
--- How many bytes one has, of a number of at most nine digits.
-plain-between : (number : ℕ) (o : CharacterOrdering) → (length (decimal number) + 37 ≤ length (plain·bytes number o)) × (length (plain·bytes number o) ≤ length (decimal number) + 39)
-plain-between number CharacterOrdering.Ordered = let e = plain-ordered number CharacterOrdering.Ordered refl in (omega arith, omega arith)
-plain-between number CharacterOrdering.Unordered = let e = plain-unordered number CharacterOrdering.Unordered refl in (omega arith, omega arith)
-
-pub plain-few : (number : ℕ) (o : CharacterOrdering) → number < 1000000000 → length (plain·bytes number o) ≤ 48
-plain-few number o h = let b = plain-between number o in omega (arith, b .1, digits-most 8 number (omega arith))
-
-pub plain-many : (number : ℕ) (o : CharacterOrdering) → 9 + length (decimal number) + 28 ≤ length (plain·bytes number o)
-plain-many number o = let b = plain-between number o in omega (arith, b .0)
-
-module _ (number : ℕ) (o : CharacterOrdering) where
-  abbrev line : List ℕ
-  line = plain·bytes number o
-
+module _ (number : ℕ) where
   -- The place of its number's last digit.
   abbrev place : ℕ
   place = 9 + length (decimal number)
-
-  -- It was put into a scratch.
-  pub line-made : (scratch after : List ℕ) (size : ℕ) → number < 1000000000 → length scratch ≡ 64
-      → Puts scratch 0 (λ behind. bytes "character=" ++ (decimal number ++ bare·piece o behind)) after size → (take size after ≡ line) × (size ≡ length line)
-  unfolding plain·bytes
-  line-made scratch after size small room p =
-      let few = plain-few number o small in
-      let whole = puts-whole scratch after (λ behind. bytes "character=" ++ (decimal number ++ bare·piece o behind)) size p (omega (arith, few, room)) (omega (arith, room)) in
-      let front = whole .0 in
-      let count = whole .1 in
-      (rw (front, count) (take-append-seam line (drop (length line) scratch)), count)
 
   module _ (some : 10 ≤ number) (round : number % 10 ≡ 0) where
     abbrev front : List ℕ
@@ -57,9 +29,9 @@ module _ (number : ℕ) (o : CharacterOrdering) where
     digits i small = let tens : number / 10 * 10 + i ≡ number + i = omega arith in rw tens at (decimal-snoc (number / 10) i (omega arith) small)
 
     -- Its bytes, by those in front of the last digit.
-    by-digit : (i : ℕ) → i < 10 → plain·bytes (number + i) o ≡ front ++ ((48 + i) ∷ bare·piece o [])
+    by-digit : (i : ℕ) (o : CharacterOrdering) → i < 10 → plain·bytes (number + i) o ≡ front ++ ((48 + i) ∷ bare·piece o [])
     unfolding plain·bytes
-    by-digit i small =
+    by-digit i o small =
         rw (digits i small, append-snoc (decimal (number / 10)) (48 + i) (bare·piece o []))
         (sym (append-assoc (bytes "character=") (decimal (number / 10)) ((48 + i) ∷ bare·piece o [])))
 
@@ -71,35 +43,83 @@ module _ (number : ℕ) (o : CharacterOrdering) where
         omega (arith, ap length last, length-append (decimal (number / 10)) (48 ∷ []))
 
     -- With another last digit they are those of the number that has it.
-    plain-digit : (i : ℕ) → i < 10 → plain·bytes (number + i) o ≡ set line place (48 + i)
-    plain-digit i small =
+    plain-digit : (i : ℕ) (o : CharacterOrdering) → i < 10 → plain·bytes (number + i) o ≡ set (plain·bytes number o) place (48 + i)
+    plain-digit i o small =
         let zero-more : number + 0 ≡ number = omega arith in
-        let whole : line ≡ front ++ (48 ∷ bare·piece o []) = rw zero-more at (by-digit 0 (omega arith)) in
-        by-digit i small ∙ sym (ap (λ l. set l place (48 + i)) whole ∙ set-at front 48 (bare·piece o []) (48 + i) place front-size)
+        let whole : plain·bytes number o ≡ front ++ (48 ∷ bare·piece o []) = rw zero-more at (by-digit 0 o (omega arith)) in
+        by-digit i o small ∙ sym (ap (λ l. set l place (48 + i)) whole ∙ set-at front 48 (bare·piece o []) (48 + i) place front-size)
 
-    counted-from : (count i : ℕ) → i + count ≤ 10 → (behind : List ℕ) → plain·lines (number + i) count o behind ≡ counted·lines line place (48 + i) count behind
-    unfolding plain·lines counted·lines
-    counted-from zero i h behind = refl
-    counted-from (suc count) i h behind =
-        let next : suc (number + i) ≡ number + suc i = omega arith in
-        let more : suc (48 + i) ≡ 48 + suc i = omega arith in
-        rw (plain-digit i (omega arith), next, more) (ap (λ l. set line place (48 + i) ++ l) (counted-from count (suc i) (omega arith) behind))
-
-    -- Ten of them are that line ten times.
-    ten-counted : (behind : List ℕ) → counted·lines line place 48 10 behind ≡ plain·lines number 10 o behind
-    ten-counted behind = let zero-more : number + 0 ≡ number = omega arith in sym (rw zero-more at (counted-from 10 0 (omega arith) behind))
+pub one-most : (o : CharacterOrdering) → pick (ordered o) 1 0 ≤ 1
+unfolding ordered pick
+one-most CharacterOrdering.Unordered = omega arith
+one-most CharacterOrdering.Ordered = omega arith
 
 -- Some of them, and the others behind them.
-plain-lines-split : (number a b : ℕ) (o : CharacterOrdering) (behind : List ℕ) → plain·lines number (a + b) o behind ≡ plain·lines number a o (plain·lines (number + a) b o behind)
-unfolding plain·lines
-plain-lines-split number zero b o behind = let e : 0 + b ≡ b = omega arith in let f : number + 0 ≡ number = omega arith in rw (e, f) refl
-plain-lines-split number (suc a) b o behind =
-    let e : suc a + b ≡ suc (a + b) = omega arith in
-    let f : number + suc a ≡ suc number + a = omega arith in
-    rw (e, f) (ap (λ l. plain·bytes number o ++ l) (plain-lines-split (suc number) a b o behind))
+module _ (type : ℕ → CharacterOrdering) where
+  plain-lines-split : (number t a b : ℕ) (behind : List ℕ) → plain·lines type number t (a + b) behind ≡ plain·lines type number t a (plain·lines type (number + a) (t + a) b behind)
+  unfolding plain·lines
+  plain-lines-split number t zero b behind =
+      let e : 0 + b ≡ b = omega arith in
+      let f : number + 0 ≡ number = omega arith in
+      let g : t + 0 ≡ t = omega arith in
+      rw (e, f, g) refl
+  plain-lines-split number t (suc a) b behind =
+      let e : suc a + b ≡ suc (a + b) = omega arith in
+      let f : number + suc a ≡ suc number + a = omega arith in
+      let g : t + suc a ≡ suc t + a = omega arith in
+      rw (e, f, g) (ap (λ l. plain·bytes number (type t) ++ l) (plain-lines-split (suc number) (suc t) a b behind))
+
+  pub plain-front : (count number t : ℕ) (behind : List ℕ) → plain·lines type number t count [] ++ behind ≡ plain·lines type number t count behind
+  unfolding plain·lines
+  plain-front zero number t behind = refl
+  plain-front (suc count) number t behind =
+      append-assoc (plain·bytes number (type t)) (plain·lines type (suc number) (suc t) count []) behind
+      ∙ ap (λ l. plain·bytes number (type t) ++ l) (plain-front count (suc number) (suc t) behind)
+
+  -- Lines that are alike for each type.
+  module _ (f g : CharacterOrdering → List ℕ) (e : (o : CharacterOrdering) → f o ≡ g o) (place : ℕ) where
+    counted-alike : (a b t count : ℕ) (behind : List ℕ) → counted·lines f type place a b t count behind ≡ counted·lines g type place a b t count behind
+    unfolding counted·lines
+    counted-alike a b t zero behind = refl
+    counted-alike a b t (suc count) behind =
+        rw (e (type t)) (ap (λ l. set (set (g (type t)) (place - 1) a) place b ++ l) (counted-alike a (suc b) (suc t) count behind))
+
+    pub tens-alike : (a t count : ℕ) (behind : List ℕ) → tens·lines f type place a t count behind ≡ tens·lines g type place a t count behind
+    unfolding tens·lines
+    tens-alike a t zero behind = refl
+    tens-alike a t (suc count) behind =
+        counted-alike a 48 t 10 (tens·lines f type place (suc a) (t + 10) count behind)
+        ∙ ap (counted·lines g type place a 48 t 10) (tens-alike (suc a) (t + 10) count behind)
+
+  -- Of numbers that have so many digits each: how many bytes they are, and that no more are ordered than there are.
+  type-size : (number : ℕ) (o : CharacterOrdering) → length (plain·bytes number o) + 2 * pick (ordered o) 1 0 ≡ length (decimal number) + 39
+  unfolding ordered pick
+  type-size number CharacterOrdering.Unordered = omega (arith, plain-unordered number CharacterOrdering.Unordered refl)
+  type-size number CharacterOrdering.Ordered = omega (arith, plain-ordered number CharacterOrdering.Ordered refl)
+
+  plain-sizes : (digits count number t : ℕ) → ((i : ℕ) → i < count → length (decimal (number + i)) ≡ digits)
+      → length (plain·lines type number t count []) + 2 * ordered·count type t count ≡ count * (digits + 39)
+  unfolding plain·lines ordered·count
+  plain-sizes digits zero number t same = omega arith
+  plain-sizes digits (suc count) number t same =
+      let first : length (decimal number) ≡ digits = let zero-more : number + 0 ≡ number = omega arith in rw zero-more at (same 0 (omega arith)) in
+      let others : (i : ℕ) → i < count → length (decimal (suc number + i)) ≡ digits =
+      λ i h. let next : number + suc i ≡ suc number + i = omega arith in rw next at (same (suc i) (omega arith)) in
+      omega (
+        arith,
+        length-append (plain·bytes number (type t)) (plain·lines type (suc number) (suc t) count []),
+        type-size number (type t),
+        plain-sizes digits count (suc number) (suc t) others,
+        suc-mul count (digits + 39),
+      )
+
+  pub ordered-few : (count t : ℕ) → ordered·count type t count ≤ count
+  unfolding ordered·count
+  ordered-few zero t = omega arith
+  ordered-few (suc count) t = omega (arith, one-most (type t), ordered-few count (suc t))
 
 -- A hundred of them.
-module _ (number : ℕ) (o : CharacterOrdering) (some : 100 ≤ number) (round : number % 100 ≡ 0) where
+module _ (number : ℕ) (some : 100 ≤ number) (round : number % 100 ≡ 0) where
   abbrev first : List ℕ
   first = bytes "character=" ++ decimal (number / 100)
 
@@ -112,134 +132,113 @@ module _ (number : ℕ) (o : CharacterOrdering) (some : 100 ≤ number) (round :
       let whole : decimal (number + 10 * j) ≡ decimal (number / 10 + j) ++ (48 ∷ []) = rw ones at (decimal-snoc (number / 10 + j) 0 (omega arith) (omega arith)) in
       whole ∙ rw front (append-snoc (decimal (number / 100)) (48 + j) (48 ∷ []))
 
-  same-digits : (j : ℕ) → j < 10 → length (decimal (number + 10 * j)) ≡ length (decimal (number / 100)) + 2
-  same-digits j small = ap length (two-digits j small) ∙ length-append (decimal (number / 100)) ((48 + j) ∷ 48 ∷ [])
+  -- All have as many digits.
+  more-digits : (i : ℕ) → i < 100 → length (decimal (number + i)) ≡ length (decimal (number / 100)) + 2
+  more-digits i small =
+      let tens = number / 100 * 10 + i / 10 in
+      let whole : tens * 10 + i % 10 ≡ number + i = omega arith in
+      let last : length (decimal (number + i)) ≡ length (decimal tens) + 1 =
+      rw whole at (ap length (decimal-snoc tens (i % 10) (omega arith) (omega arith)) ∙ length-append (decimal tens) ((48 + i % 10) ∷ [])) in
+      omega (arith, last, ap length (decimal-snoc (number / 100) (i / 10) (omega arith) (omega arith)), length-append (decimal (number / 100)) ((48 + i / 10) ∷ []))
 
-  all-digits : length (decimal number) ≡ length (decimal (number / 100)) + 2
-  all-digits = let none : number + 10 * 0 ≡ number = omega arith in rw none at (same-digits 0 (omega arith))
+  same-digits : (i : ℕ) → i < 100 → length (decimal (number + i)) ≡ length (decimal number)
+  same-digits i small =
+      let none : number + 0 ≡ number = omega arith in
+      more-digits i small ∙ sym (rw none at (more-digits 0 (omega arith)))
 
   -- Their bytes, by those in front of the last two digits.
-  by-two : (j : ℕ) → j < 10 → plain·bytes (number + 10 * j) o ≡ first ++ ((48 + j) ∷ 48 ∷ bare·piece o [])
+  by-two : (j : ℕ) (o : CharacterOrdering) → j < 10 → plain·bytes (number + 10 * j) o ≡ first ++ ((48 + j) ∷ 48 ∷ bare·piece o [])
   unfolding plain·bytes
-  by-two j small =
+  by-two j o small =
       rw (two-digits j small)
       (ap (λ l. bytes "character=" ++ l) (append-assoc (decimal (number / 100)) ((48 + j) ∷ 48 ∷ []) (bare·piece o []))
       ∙ sym (append-assoc (bytes "character=") (decimal (number / 100)) ((48 + j) ∷ 48 ∷ bare·piece o [])))
 
   first-size : length first ≡ 9 + length (decimal number) - 1
   unfolding bytes
-  first-size = omega (arith, all-digits)
+  first-size = let none : number + 0 ≡ number = omega arith in omega (arith, rw none at (more-digits 0 (omega arith)))
 
   -- With another digit before the last they are those of the number that has it.
-  plain-tenth : (j : ℕ) → j < 10 → plain·bytes (number + 10 * j) o ≡ set (plain·bytes number o) (9 + length (decimal number) - 1) (48 + j)
-  plain-tenth j small =
+  plain-tenth : (j : ℕ) (o : CharacterOrdering) → j < 10 → plain·bytes (number + 10 * j) o ≡ set (plain·bytes number o) (9 + length (decimal number) - 1) (48 + j)
+  plain-tenth j o small =
       let none : number + 10 * 0 ≡ number = omega arith in
-      let whole : plain·bytes number o ≡ first ++ (48 ∷ 48 ∷ bare·piece o []) = rw none at (by-two 0 (omega arith)) in
+      let whole : plain·bytes number o ≡ first ++ (48 ∷ 48 ∷ bare·piece o []) = rw none at (by-two 0 o (omega arith)) in
       let at = 9 + length (decimal number) - 1 in
-      by-two j small ∙ sym (ap (λ l. set l at (48 + j)) whole ∙ set-at first 48 (48 ∷ bare·piece o []) (48 + j) at first-size)
+      by-two j o small ∙ sym (ap (λ l. set l at (48 + j)) whole ∙ set-at first 48 (48 ∷ bare·piece o []) (48 + j) at first-size)
 
-  tens-from : (count j : ℕ) → j + count ≤ 10 → (behind : List ℕ)
-      → plain·lines (number + 10 * j) (10 * count) o behind ≡ tens·lines (plain·bytes number o) (9 + length (decimal number)) (48 + j) count behind
-  unfolding tens·lines plain·lines
-  tens-from zero j h behind = refl
-  tens-from (suc count) j h behind =
+  abbrev last : ℕ
+  last = 9 + length (decimal number)
+
+  -- With two other digits they are those of the number that has them.
+  plain-two : (j i : ℕ) (o : CharacterOrdering) → j < 10 → i < 10 → plain·bytes (number + 10 * j + i) o ≡ set (set (plain·bytes number o) (last - 1) (48 + j)) last (48 + i)
+  plain-two j i o h small =
       let this = number + 10 * j in
-      let all : 10 * suc count ≡ 10 + 10 * count = omega arith in
-      let next : this + 10 ≡ number + 10 * suc j = omega arith in
-      let more : suc (48 + j) ≡ 48 + suc j = omega arith in
-      let rest = tens·lines (plain·bytes number o) (9 + length (decimal number)) (48 + suc j) count behind in
-      let line : plain·bytes this o ≡ set (plain·bytes number o) (9 + length (decimal number) - 1) (48 + j) = plain-tenth j (omega arith) in
-      let place : 9 + length (decimal this) ≡ 9 + length (decimal number) = omega (arith, same-digits j (omega arith), all-digits) in
-      ap (λ c. plain·lines this c o behind) all
-      ∙ plain-lines-split this 10 (10 * count) o behind
-      ∙ ap (λ k. plain·lines this 10 o (plain·lines k (10 * count) o behind)) next
-      ∙ ap (plain·lines this 10 o) (tens-from count (suc j) (omega arith) behind)
-      ∙ sym (ten-counted this o (omega arith) (omega arith) rest)
-      ∙ ap (λ l. counted·lines l (9 + length (decimal this)) 48 10 rest) line
-      ∙ ap (λ p. counted·lines (set (plain·bytes number o) (9 + length (decimal number) - 1) (48 + j)) p 48 10 rest) place
-      ∙ ap (λ b. counted·lines (set (plain·bytes number o) (9 + length (decimal number) - 1) (48 + j)) (9 + length (decimal number)) 48 10 (tens·lines (plain·bytes number o) (9 + length (decimal number)) b count behind)) (sym more)
+      let same : 9 + length (decimal this) ≡ last = omega (arith, same-digits (10 * j) (omega arith)) in
+      plain-digit this (omega arith) (omega arith) i o small
+      ∙ ap (λ l. set l (9 + length (decimal this)) (48 + i)) (plain-tenth j o h)
+      ∙ ap (λ p. set (set (plain·bytes number o) (last - 1) (48 + j)) p (48 + i)) same
 
-  pub hundred-counted : (behind : List ℕ) → tens·lines (plain·bytes number o) (9 + length (decimal number)) 48 10 behind ≡ plain·lines number 100 o behind
-  hundred-counted behind = let none : number + 10 * 0 ≡ number = omega arith in sym (rw none at (tens-from 10 0 (omega arith) behind))
+  module _ (type : ℕ → CharacterOrdering) where
+    counted-from : (j : ℕ) → j < 10 → (count i t : ℕ) → i + count ≤ 10 → (behind : List ℕ)
+        → plain·lines type (number + 10 * j + i) t count behind ≡ counted·lines (plain·bytes number) type last (48 + j) (48 + i) t count behind
+    unfolding plain·lines counted·lines
+    counted-from j h zero i t few behind = refl
+    counted-from j h (suc count) i t few behind =
+        let next : suc (number + 10 * j + i) ≡ number + 10 * j + suc i = omega arith in
+        let more : suc (48 + i) ≡ 48 + suc i = omega arith in
+        rw (plain-two j i (type t) h (omega arith), next, more)
+        (ap (λ l. set (set (plain·bytes number (type t)) (last - 1) (48 + j)) last (48 + i) ++ l) (counted-from j h count (suc i) (suc t) (omega arith) behind))
 
--- A line so many times, in front of what stands behind, and how many bytes that are.
-module _ (line : List ℕ) (place : ℕ) where
-  counted-front : (b count : ℕ) (behind : List ℕ) → counted·lines line place b count [] ++ behind ≡ counted·lines line place b count behind
+    abbrev tens : ℕ → ℕ → ℕ → List ℕ → List ℕ
+    tens = tens·lines (plain·bytes number) type last
+
+    tens-from : (count j t : ℕ) → j + count ≤ 10 → (behind : List ℕ) → plain·lines type (number + 10 * j) t (10 * count) behind ≡ tens (48 + j) t count behind
+    unfolding tens·lines plain·lines
+    tens-from zero j t h behind = refl
+    tens-from (suc count) j t h behind =
+        let this = number + 10 * j in
+        let all : 10 * suc count ≡ 10 + 10 * count = omega arith in
+        let here : this + 0 ≡ this = omega arith in
+        let next : this + 10 ≡ number + 10 * suc j = omega arith in
+        let more : suc (48 + j) ≡ 48 + suc j = omega arith in
+        ap (λ c. plain·lines type this t c behind) all
+        ∙ plain-lines-split type this t 10 (10 * count) behind
+        ∙ ap (λ k. plain·lines type this t 10 (plain·lines type k (t + 10) (10 * count) behind)) next
+        ∙ ap (plain·lines type this t 10) (tens-from count (suc j) (t + 10) (omega arith) behind)
+        ∙ rw here at (counted-from j (omega arith) 10 0 t (omega arith) (tens (48 + suc j) (t + 10) count behind))
+        ∙ ap (λ b. counted·lines (plain·bytes number) type last (48 + j) 48 t 10 (tens b (t + 10) count behind)) (sym more)
+
+    pub hundred-counted : (t : ℕ) (behind : List ℕ) → tens 48 t 10 behind ≡ plain·lines type number t 100 behind
+    hundred-counted t behind = let none : number + 10 * 0 ≡ number = omega arith in sym (rw none at (tens-from 10 0 t (omega arith) behind))
+
+    -- How many bytes they are.
+    pub hundred-sizes : (t : ℕ) → length (plain·lines type number t 100 []) + 2 * ordered·count type t 100 ≡ 100 * (length (decimal number) + 39)
+    hundred-sizes t = plain-sizes type (length (decimal number)) 100 number t same-digits
+
+-- The first of the lines that are left, and none is left; and the same of ten times so many.
+module _ (line : CharacterOrdering → List ℕ) (type : ℕ → CharacterOrdering) (place : ℕ) where
+  pub counted-next : (a b t : ℕ) → b < 58 → (behind : List ℕ)
+      → counted·lines line type place a b t (58 - b) behind
+      ≡ set (set (line (type t)) (place - 1) a) place b ++ counted·lines line type place a (b + 1) (t + 1) (58 - (b + 1)) behind
   unfolding counted·lines
-  counted-front b zero behind = refl
-  counted-front b (suc count) behind =
-      append-assoc (set line place b) (counted·lines line place (suc b) count []) behind ∙ ap (λ l. set line place b ++ l) (counted-front (suc b) count behind)
-
-  counted-size : (b count : ℕ) → length (counted·lines line place b count []) ≡ count * length line
-  unfolding counted·lines
-  counted-size b zero = omega arith
-  counted-size b (suc count) =
-      omega (arith, length-append (set line place b) (counted·lines line place (suc b) count []), length-set line place b, counted-size (suc b) count, suc-mul count (length line))
-
-  -- The first of those that are left, and none is left.
-  pub counted-next : (b : ℕ) → b < 58 → (behind : List ℕ) → counted·lines line place b (58 - b) behind ≡ set line place b ++ counted·lines line place (b + 1) (58 - (b + 1)) behind
-  unfolding counted·lines
-  counted-next b h behind =
+  counted-next a b t h behind =
       let left : 58 - b ≡ suc (58 - (b + 1)) = omega arith in
       let next : suc b ≡ b + 1 = omega arith in
-      rw (left, next) refl
+      let more : suc t ≡ t + 1 = omega arith in
+      rw (left, next, more) refl
 
-  pub counted-end : (b : ℕ) → 58 ≤ b → (behind : List ℕ) → counted·lines line place b (58 - b) behind ≡ behind
+  pub counted-end : (a b t : ℕ) → 58 ≤ b → (behind : List ℕ) → counted·lines line type place a b t (58 - b) behind ≡ behind
   unfolding counted·lines
-  counted-end b h behind = let none : 58 - b ≡ 0 = omega arith in rw none refl
+  counted-end a b t h behind = let none : 58 - b ≡ 0 = omega arith in rw none refl
 
--- Ten times so many lines, in front of what stands behind, and how many bytes that are.
-module _ (line : List ℕ) (place : ℕ) where
-  tens-front : (b count : ℕ) (behind : List ℕ) → tens·lines line place b count [] ++ behind ≡ tens·lines line place b count behind
+  pub tens-next : (a t : ℕ) → a < 58 → (behind : List ℕ)
+      → tens·lines line type place a t (58 - a) behind ≡ counted·lines line type place a 48 t 10 (tens·lines line type place (a + 1) (t + 10) (58 - (a + 1)) behind)
   unfolding tens·lines
-  tens-front b zero behind = refl
-  tens-front b (suc count) behind =
-      let this = set line (place - 1) b in
-      let rest = tens·lines line place (suc b) count [] in
-      ap (λ l. l ++ behind) (sym (counted-front this place 48 10 rest))
-      ∙ append-assoc (counted·lines this place 48 10 []) rest behind
-      ∙ ap (λ l. counted·lines this place 48 10 [] ++ l) (tens-front (suc b) count behind)
-      ∙ counted-front this place 48 10 (tens·lines line place (suc b) count behind)
-
-  tens-size : (b count : ℕ) → length (tens·lines line place b count []) ≡ count * (10 * length line)
-  unfolding tens·lines
-  tens-size b zero = omega arith
-  tens-size b (suc count) =
-      let this = set line (place - 1) b in
-      let rest = tens·lines line place (suc b) count [] in
-      omega (
-        arith,
-        ap length (counted-front this place 48 10 rest),
-        length-append (counted·lines this place 48 10 []) rest,
-        counted-size this place 48 10,
-        length-set line (place - 1) b,
-        tens-size (suc b) count,
-        suc-mul count (10 * length line),
-      )
-
-  -- The first ten of those that are left, and none is left.
-  pub tens-next : (b : ℕ) → b < 58 → (behind : List ℕ)
-      → tens·lines line place b (58 - b) behind ≡ counted·lines (set line (place - 1) b) place 48 10 (tens·lines line place (b + 1) (58 - (b + 1)) behind)
-  unfolding tens·lines
-  tens-next b h behind =
-      let left : 58 - b ≡ suc (58 - (b + 1)) = omega arith in
-      let next : suc b ≡ b + 1 = omega arith in
+  tens-next a t h behind =
+      let left : 58 - a ≡ suc (58 - (a + 1)) = omega arith in
+      let next : suc a ≡ a + 1 = omega arith in
       rw (left, next) refl
 
-  pub tens-end : (b : ℕ) → 58 ≤ b → (behind : List ℕ) → tens·lines line place b (58 - b) behind ≡ behind
+  pub tens-end : (a t : ℕ) → 58 ≤ a → (behind : List ℕ) → tens·lines line type place a t (58 - a) behind ≡ behind
   unfolding tens·lines
-  tens-end b h behind = let none : 58 - b ≡ 0 = omega arith in rw none refl
-
-  -- Behind the buffer's end they are only counted.
-  pub tens-past : (buffer : List ℕ) (n next size : ℕ) → length buffer ≤ n → size ≡ length line → (next ≡ min last·place (n + 100 * size)) × (n ≤ next)
-      → Puts buffer n (tens·lines line place 48 10) buffer next
-  tens-past buffer n next size h e p =
-      let all : length (tens·lines line place 48 10 []) ≡ 100 * size = omega (arith, tens-size 48 10) in
-      puts-as (puts-past buffer n (tens·lines line place 48 10 []) next h (rw all p)) (tens-front 48 10)
-
--- A byte put into a line of so many bytes, where another line differs from it at that place alone.
-pub digit-set : (size at : ℕ) (line other : List ℕ) (b : ℕ) → at < size → ((d : ℕ) → set (take size line) at d ≡ set (take size other) at d)
-    → (take size (set line at b) ≡ set (take size other) at b) × ((d : ℕ) → set (take size (set line at b)) at d ≡ set (take size other) at d)
-digit-set size at line other b h same =
-    let here = take-set-lt size line at b h in
-    (here ∙ same b, λ d. ap (λ l. set l at d) here ∙ set-set (take size line) at b d ∙ same d)
+  tens-end a t h behind = let none : 58 - a ≡ 0 = omega arith in rw none refl

@@ -24,7 +24,7 @@ runs-over l i [] (suc k) b h = absurd (omega arith)
 runs-over l i (v ∷ a) (suc k) b h = let e : i + suc k ≡ suc i + k = omega arith in rw e (runs-over (set l i v) (suc i) a k b (omega arith))
 
 -- Bytes that were put are a run of stores.
-puts-sets : {a b : List ℕ} {n m : ℕ} (l : List ℕ) → Puts a n (λ behind. l ++ behind) b m → b ≡ sets a n l
+pub puts-sets : {a b : List ℕ} {n m : ℕ} (l : List ℕ) → Puts a n (λ behind. l ++ behind) b m → b ≡ sets a n l
 unfolding puts
 puts-sets {a} {n = n} l p = sym (p .written []) ∙ puts-run a n l .written []
 
@@ -45,20 +45,29 @@ module _ (before line : List ℕ) (n : ℕ) where
       behind : drop (suc place) line ≡ drop 1 (drop place line)
       behind = sym (drop-drop 1 place line ∙ ap (λ k. drop k line) (add-one place))
 
--- A line of 32 to 48 bytes was put so, by its first 32 and its last 16 bytes, and then one byte anew.
-module _ (line : List ℕ) (n place v : ℕ) (some : 32 ≤ length line) (few : length line ≤ 48) (h : place < length line) where
+-- A line of 32 to 48 bytes was put so, by its first 32 and its last 16 bytes, and then two bytes anew.
+module _ (line : List ℕ) (n place u v : ℕ) (some : 32 ≤ length line) (few : length line ≤ 48) (one : 1 ≤ place) (h : place < length line) where
   abbrev from : ℕ
   from = length line - 16
 
   abbrev tail : List ℕ
   tail = take (length line - from) (drop from line)
 
+  abbrev anew : List ℕ
+  anew = set line (place - 1) u
+
   pub line-over : {before a b : List ℕ} {m r : ℕ} → Puts before n (λ behind. take 32 line ++ behind) a m → Puts a (n + from) (λ behind. tail ++ behind) b r → r ≡ n + from + length tail
-      → Puts before n (λ behind. set line place v ++ behind) (set b (n + place) v) r × (r ≡ n + length line)
+      → Puts before n (λ behind. set anew place v ++ behind) (set (set b (n + place - 1) u) (n + place) v) r × (r ≡ n + length line)
   line-over {before} {a} {b} {m} {r} p q e =
       let all : tail ≡ drop from line = take-all (length line - from) (drop from line) (omega (arith, length-drop from line)) in
       let end : r ≡ n + length line = omega (arith, ap length all, length-drop from line) in
-      let size : n + length (set line place v) ≡ r = omega (arith, length-set line place v) in
+      let size : n + length (set anew place v) ≡ r = omega (arith, length-set anew place v, length-set line (place - 1) u) in
+      let there : n + place - 1 ≡ n + (place - 1) = omega arith in
       let first : a ≡ sets before n (take 32 line) = puts-sets (take 32 line) p in
       let whole : b ≡ sets before n line = puts-sets tail q ∙ rw (all, first) (line-halves before line n 32 from (omega arith) some) in
-      (rw (whole, line-byte before line n place v h) (rw size at (puts-run before n (set line place v))), end)
+      let both : set (set b (n + place - 1) u) (n + place) v ≡ sets before n (set anew place v) =
+      ap (λ l. set (set l (n + place - 1) u) (n + place) v) whole
+      ∙ ap (λ k. set (set (sets before n line) k u) (n + place) v) there
+      ∙ ap (λ l. set l (n + place) v) (line-byte before line n (place - 1) u (omega arith))
+      ∙ line-byte before anew n place v (omega (arith, length-set line (place - 1) u)) in
+      (rw both (rw size at (puts-run before n (set anew place v))), end)

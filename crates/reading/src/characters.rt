@@ -109,8 +109,8 @@ fn put_each(
     let mut m = n;
     let mut k = 0;
     while k < characters {
-        if hundred_plain(work, at, characters, typed, k) & room_or_none(buffer.len(), m, 4800) {
-            m = put_hundred(buffer, m, k + 1, o);
+        if hundred_plain(work, at, characters, k) & room_or_none(buffer.len(), m, 4800) {
+            m = put_hundred(work, at + 2 * characters + k, typed, o, buffer, m, k + 1);
             k += 100;
             continue;
         }

@@ -1,14 +1,14 @@
 // Characters that have neither a label nor state labels: one by itself, and a hundred at once whose numbers differ in the last two digits alone.
 
-ghost use Prim.Native.Nat.{_*_, _+_, _%_, _<_, _≤_};
+ghost use Prim.Native.Nat.{_*_, _+_, _-_, _%_, _<_, _≤_};
 ghost use Rattle.emit.specs.Puts.{Puts};
-ghost use Rattle.lexer.specs.Base.{bytes};
-ghost use Rattle.reading.specs.CharactersHeld.{bare·piece, plain·bytes};
-ghost use Rattle.reading.specs.PlainLines.{Run·plain, Zeros, counted·lines, plain·lines, tens·lines};
+ghost use Rattle.lexer.specs.Base.{bytes, pick};
+ghost use Rattle.reading.specs.CharactersHeld.{bare·piece, plain·bytes, slot·type};
+ghost use Rattle.reading.specs.PlainLines.{Run·plain, Zeros, counted·lines, line·of, ordered, ordered·count, plain·lines, tens·lines};
 ghost use Rattle.record.specs.Decimal.{decimal};
-ghost use lib.ListN.{length, set, take};
+ghost use lib.ListN.{length, set};
 ghost use mathlib.Core.Bool.{true};
-ghost use mathlib.Core.List.{_++_};
+ghost use mathlib.Core.List.{[], _++_};
 ghost use mathlib.Core.Path.{_≡_};
 use block::CharacterOrdering;
 use emit::digits_of;
@@ -74,13 +74,10 @@ fn run_free(work: &[u32], at: usize, characters: usize, k: usize, count: usize) 
 }
 
 // Do a hundred such characters stand behind so many others, numbered from one on that ends with 00?
-pub fn hundred_plain(work: &[u32], at: usize, characters: usize, typed: bool, k: usize) -> bool
+pub fn hundred_plain(work: &[u32], at: usize, characters: usize, k: usize) -> bool
     requires { ⌜ (at + 3 * characters ≤ length (now work)) × (k ≤ characters) ⌝ }
-    ensures { λ r. ⌜ (r ≡ true → Run·plain (now (work .entry)) at characters typed k 100) ⌝ }
+    ensures { λ r. ⌜ (r ≡ true → Run·plain (now (work .entry)) at characters k 100) ⌝ }
 {
-    if typed {
-        return false;
-    }
     if k % 100 != 99 {
         return false;
     }
@@ -100,58 +97,154 @@ pub fn room_or_none(length: usize, n: usize, most: usize) -> bool
     most <= length - n
 }
 
-// Puts a line of 32 to 48 bytes with another byte at a place of it: its first 32 bytes, then its last 16, so that the compiler knows how many to copy.
-fn put_line(buffer: &mut [u8], n: usize, line: &[u8], place: usize, b: u8) -> usize
-    requires { ⌜ (32 ≤ length (now line)) × (length (now line) ≤ 48) × (place < length (now line)) × (n + length (now line) ≤ length (now buffer)) ⌝ }
-    ensures { λ r. ⌜ Puts (now (buffer .entry)) n (λ behind. set (now (line .entry)) place b ++ behind) (now (buffer .exit)) r ⌝ }
+// Puts a line of 32 to 48 bytes with two other bytes up to a place of it: its first 32 bytes, then its last 16, so that the compiler knows how many to copy.
+// The line itself stays as it is: what was just written to it could not be read at once.
+fn put_line(buffer: &mut [u8], n: usize, line: &[u8], place: usize, tens: u8, ones: u8) -> usize
+    requires { ⌜ (32 ≤ length (now line)) × (length (now line) ≤ 48) × (1 ≤ place) × (place < length (now line)) × (n + length (now line) ≤ length (now buffer)) ⌝ }
+    ensures { λ r. ⌜ Puts (now (buffer .entry)) n (λ behind. set (set (now (line .entry)) (place - 1) tens) place ones ++ behind) (now (buffer .exit)) r ⌝ }
     ensures { λ r. ⌜ r ≡ n + length (now (line .entry)) ⌝ }
 {
     let from = line.len() - 16;
     let head = put_whole(buffer, n, &line[..32]);
     let end = put_whole(buffer, n + from, &line[from..]);
-    buffer[n + place] = b;
+    buffer[n + place - 1] = tens;
+    buffer[n + place] = ones;
     end
 }
 
-// Puts a line ten times, each time with another digit at a place of it.
-fn put_counted(buffer: &mut [u8], n: usize, line: &[u8], place: usize) -> usize
-    requires { ⌜ (32 ≤ length (now line)) × (length (now line) ≤ 48) × (place < length (now line)) × (n + 480 ≤ length (now buffer)) ⌝ }
-    ensures { λ r. ⌜ Puts (now (buffer .entry)) n (counted·lines (now (line .entry)) place 48 10) (now (buffer .exit)) r ⌝ }
+// Is this type the ordered one?
+fn is_ordered(o: CharacterOrdering) -> bool
+    ensures { λ r. ⌜ r ≡ ordered o ⌝ }
+{
+    match o {
+        CharacterOrdering::Unordered => false,
+        CharacterOrdering::Ordered => true,
+    }
+}
+
+// Is the type at a place of work memory the ordered one, or this one if no set was read or gave one?
+fn ordered_at(work: &[u32], t: usize, typed: bool, o: CharacterOrdering) -> bool
+    requires { ⌜ t < length (now work) ⌝ }
+    ensures { λ r. ⌜ r ≡ ordered (slot·type (now (work .entry)) o typed t) ⌝ }
+{
+    let default = is_ordered(o);
+    if !typed {
+        return default;
+    }
+    ((work[t] == 0) & default) | (1 < work[t])
+}
+
+// The first of two numbers if a test holds, else the second.
+fn choose(test: bool, first: usize, second: usize) -> usize
+    ensures { λ r. ⌜ r ≡ pick test first second ⌝ }
+{
+    if test {
+        return first;
+    }
+    second
+}
+
+// How many of so many types from a place of work memory on are the ordered one.
+fn count_ordered(work: &[u32], t: usize, count: usize, typed: bool, o: CharacterOrdering) -> usize
+    requires { ⌜ t + count ≤ length (now work) ⌝ }
+    ensures { λ r. ⌜ r ≡ ordered·count (slot·type (now (work .entry)) o typed) t count ⌝ }
+{
+    let mut found = 0;
+    let mut i = 0;
+    while i < count {
+        let more = choose(ordered_at(work, t + i, typed, o), 1, 0);
+        found += more;
+        i += 1;
+    }
+    found
+}
+
+// How many bytes a hundred such characters have, numbered from one on that ends with 00.
+fn hundred_size(work: &[u32], t: usize, typed: bool, o: CharacterOrdering, number: usize) -> usize
+    requires { ⌜ (t + 100 ≤ length (now work)) × (1 ≤ number) × (number < 1000000000) × (number % 100 ≡ 0) ⌝ }
+    ensures { λ r. ⌜ r ≡ length (plain·lines (slot·type (now (work .entry)) o typed) number t 100 []) ⌝ }
+{
+    let size = plain_size(number, CharacterOrdering::Unordered);
+    100 * size - 2 * count_ordered(work, t, 100, typed, o)
+}
+
+// Puts ten lines, each that of the type of its character, with this digit before a place of it and another one each time there.
+fn put_counted(
+    work: &[u32],
+    t: usize,
+    typed: bool,
+    o: CharacterOrdering,
+    buffer: &mut [u8],
+    n: usize,
+    lines: &[u8],
+    size: usize,
+    place: usize,
+    tens: u8,
+) -> usize
+    requires { ⌜ (34 ≤ size) × (size ≤ 48) × (1 ≤ place) × (place + 2 < size) × (112 ≤ length (now lines)) × (n + 480 ≤ length (now buffer)) × (t + 10 ≤ length (now work)) ⌝ }
+    ensures { λ r. ⌜ Puts (now (buffer .entry)) n (counted·lines (line·of (now (lines .entry)) size) (slot·type (now (work .entry)) o typed) place tens 48 t 10) (now (buffer .exit)) r ⌝ }
     ensures { λ r. ⌜ r ≤ n + 480 ⌝ }
 {
     let mut m = n;
-    let mut digit: u8 = 48;
-    while digit < 58 {
-        m = put_line(buffer, m, line, place, digit);
-        digit += 1;
+    let mut k = t;
+    let mut ones: u8 = 48;
+    while ones < 58 {
+        let ordered = ordered_at(work, k, typed, o);
+        let from = choose(ordered, 64, 0);
+        let end = choose(ordered, 62 + size, size);
+        m = put_line(buffer, m, &lines[from..end], place, tens, ones);
+        k += 1;
+        ones += 1;
     }
     m
 }
 
-// Puts ten times ten lines, each time with another digit before the place of the last, of a line of so many bytes.
-fn put_tens(buffer: &mut [u8], n: usize, line: &mut [u8], size: usize, place: usize) -> usize
-    requires { ⌜ (32 ≤ size) × (size ≤ 48) × (1 ≤ place) × (place < size) × (size ≤ length (now line)) × (n + 4800 ≤ length (now buffer)) ⌝ }
-    ensures { λ r. ⌜ Puts (now (buffer .entry)) n (tens·lines (take size (now (line .entry))) place 48 10) (now (buffer .exit)) r ⌝ }
+// Puts ten times ten lines, each time with another digit before the place of the last.
+fn put_tens(
+    work: &[u32],
+    t: usize,
+    typed: bool,
+    o: CharacterOrdering,
+    buffer: &mut [u8],
+    n: usize,
+    lines: &[u8],
+    size: usize,
+    place: usize,
+) -> usize
+    requires { ⌜ (34 ≤ size) × (size ≤ 48) × (1 ≤ place) × (place + 2 < size) × (112 ≤ length (now lines)) × (n + 4800 ≤ length (now buffer)) × (t + 100 ≤ length (now work)) ⌝ }
+    ensures { λ r. ⌜ Puts (now (buffer .entry)) n (tens·lines (line·of (now (lines .entry)) size) (slot·type (now (work .entry)) o typed) place 48 t 10) (now (buffer .exit)) r ⌝ }
 {
     let mut m = n;
-    let mut digit: u8 = 48;
-    while digit < 58 {
-        line[place - 1] = digit;
-        m = put_counted(buffer, m, &line[..size], place);
-        digit += 1;
+    let mut k = t;
+    let mut tens: u8 = 48;
+    while tens < 58 {
+        m = put_counted(work, k, typed, o, buffer, m, lines, size, place, tens);
+        k += 10;
+        tens += 1;
     }
     m
 }
 
-// Puts a hundred such characters, numbered from one on that ends with 00: there is room for all, or for nothing.
-pub fn put_hundred(buffer: &mut [u8], n: usize, number: usize, ordering: CharacterOrdering) -> usize
-    requires { ⌜ (n < length (now buffer) → n + 4800 ≤ length (now buffer)) × (1 ≤ number) × (number < 1000000000) × (number % 100 ≡ 0) ⌝ }
-    ensures { λ r. ⌜ Puts (now (buffer .entry)) n (plain·lines number 100 ordering) (now (buffer .exit)) r ⌝ }
+// Puts a hundred such characters, numbered from one on that ends with 00, whose types stand from a place of work memory on: there is room for all, or for
+// nothing. The line of the first is made for both types.
+pub fn put_hundred(
+    work: &[u32],
+    t: usize,
+    typed: bool,
+    o: CharacterOrdering,
+    buffer: &mut [u8],
+    n: usize,
+    number: usize,
+) -> usize
+    requires { ⌜ (t + 100 ≤ length (now work)) × (n < length (now buffer) → n + 4800 ≤ length (now buffer)) × (1 ≤ number) × (number < 1000000000) × (number % 100 ≡ 0) ⌝ }
+    ensures { λ r. ⌜ Puts (now (buffer .entry)) n (plain·lines (slot·type (now (work .entry)) o typed) number t 100) (now (buffer .exit)) r ⌝ }
 {
     if buffer.len() <= n {
-        return further(n, 100 * plain_size(number, ordering));
+        return further(n, hundred_size(work, t, typed, o, number));
     }
-    let mut line = [0u8; 64];
-    let size = put_plain(&mut line, 0, number, ordering);
-    put_tens(buffer, n, &mut line, size, 9 + digits_of(number as u64))
+    let mut lines = [0u8; 128];
+    let size = put_plain(&mut lines, 0, number, CharacterOrdering::Unordered);
+    let end = put_plain(&mut lines, 64, number, CharacterOrdering::Ordered);
+    let place = 9 + digits_of(number as u64);
+    put_tens(work, t, typed, o, buffer, n, &lines, size, place)
 }

@@ -29,15 +29,30 @@ hundred-plain-requires c κs = (c .before .before .before .before .before .pre, 
 room-or-none-requires : tie.Need-room-or-none-requires Inv-loop μ-loop
 room-or-none-requires c κs = search needs
 
+mul-put-hundred : tie.Need-mul-put-hundred Inv-loop μ-loop
+mul-put-hundred c = search needs
+
 add-put-hundred : tie.Need-add-put-hundred Inv-loop μ-loop
 add-put-hundred c = search needs
+
+add-put-hundred-2 : tie.Need-add-put-hundred-2 Inv-loop μ-loop
+add-put-hundred-2 c = search needs
+
+add-put-hundred-3 : tie.Need-add-put-hundred-3 Inv-loop μ-loop
+add-put-hundred-3 c = search needs
 
 put-hundred-requires : tie.Need-put-hundred-requires Inv-loop μ-loop
 put-hundred-requires c κs =
     let room = c .before .before .room-or-none in
     let plain = c .before .before .before .hundred-plain in
     let t = plain .ensures (and-left (plain .result) (room .result) (c .before .if1 .taken)) in
-    (room .ensures (and-right (plain .result) (room .result) (c .before .if1 .taken)), omega arith, omega (arith, t .few), t .round)
+    let s = c .before .before .before .before .before .before .before .before .before in (
+      omega (arith, t .within, s .pre),
+      room .ensures (and-right (plain .result) (room .result) (c .before .if1 .taken)),
+      omega arith,
+      omega (arith, t .few),
+      t .round,
+    )
 
 add-k : tie.Need-add-k Inv-loop μ-loop
 add-k c =
@@ -122,7 +137,10 @@ put-each-spec =
     loop-holds
     hundred-plain-requires
     room-or-none-requires
+    mul-put-hundred
     add-put-hundred
+    add-put-hundred-2
+    add-put-hundred-3
     put-hundred-requires
     add-k
     loop-less

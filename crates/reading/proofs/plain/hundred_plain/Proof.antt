@@ -11,19 +11,15 @@ returns c = λ t. absurd (false≢true t)
 returns-2 : tie.Need-returns-2
 returns-2 c = λ t. absurd (false≢true t)
 
-returns-3 : tie.Need-returns-3
-returns-3 c = λ t. absurd (false≢true t)
-
 run-free-requires : tie.Need-run-free-requires
 run-free-requires c κs = search needs
 
-returns-4 : tie.Need-returns-4
-returns-4 c =
+returns-3 : tie.Need-returns-3
+returns-3 c =
     λ t.
     let free = c .run-free .ensures t in
     let few = c .before in
-    let round = few .before in
-    record { untyped = round .before .if1 .left; round = omega (arith, round .if2 .left); few = few .if3 .left; within = free .0; labels = free .1; states = free .2 }
+    record { round = omega (arith, few .before .if1 .left); few = few .if2 .left; within = free .0; labels = free .1; states = free .2 }
 
 pub hundred-plain-spec : {M : Type 1} → statement M
-hundred-plain-spec = tie.close (tie.spec returns returns-2 returns-3 run-free-requires returns-4)
+hundred-plain-spec = tie.close (tie.spec returns returns-2 run-free-requires returns-3)

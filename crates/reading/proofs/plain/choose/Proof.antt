@@ -1,0 +1,15 @@
+-- The function `choose` meets its contract. Assumes nothing.
+use Rattle.lexer.specs.Base.{pick}
+use Rattle.reading.proofs.plain.choose.Statement.{statement}
+use Rattle.reading.proofs.plain.choose.Tie as tie
+
+returns : tie.Need-returns
+unfolding pick
+returns c = rw (c .if1 .taken)
+
+returns-2 : tie.Need-returns-2
+unfolding pick
+returns-2 c = rw (c .if1 .left)
+
+pub choose-spec : {M : Type 1} → statement M
+choose-spec = tie.close (tie.spec returns returns-2)
