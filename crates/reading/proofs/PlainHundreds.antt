@@ -78,7 +78,7 @@ module _ (type : ℕ → CharacterOrdering) where
 
   -- Lines that are alike for each type.
   module _ (f g : CharacterOrdering → List ℕ) (e : (o : CharacterOrdering) → f o ≡ g o) (place : ℕ) where
-    counted-alike : (a b t count : ℕ) (behind : List ℕ) → counted·lines f type place a b t count behind ≡ counted·lines g type place a b t count behind
+    pub counted-alike : (a b t count : ℕ) (behind : List ℕ) → counted·lines f type place a b t count behind ≡ counted·lines g type place a b t count behind
     unfolding counted·lines
     counted-alike a b t zero behind = refl
     counted-alike a b t (suc count) behind =
@@ -215,6 +215,17 @@ module _ (number : ℕ) (some : 100 ≤ number) (round : number % 100 ≡ 0) whe
     pub hundred-sizes : (t : ℕ) → length (plain·lines type number t 100 []) + 2 * ordered·count type t 100 ≡ 100 * (length (decimal number) + 39)
     hundred-sizes t = plain-sizes type (length (decimal number)) 100 number t same-digits
 
+-- Lines of one type are one line so many times.
+module _ (line : CharacterOrdering → List ℕ) (type : ℕ → CharacterOrdering) (o : CharacterOrdering) (place a : ℕ) where
+  pub counted-one : (count b t s : ℕ) → ((i : ℕ) → i < count → type (t + i) ≡ o) → (behind : List ℕ)
+      → counted·lines (λ x. line o) (λ k. CharacterOrdering.Unordered) place a b s count behind ≡ counted·lines line type place a b t count behind
+  unfolding counted·lines
+  counted-one zero b t s same behind = refl
+  counted-one (suc count) b t s same behind =
+      let first : type t ≡ o = let here : t + 0 ≡ t = omega arith in rw here at (same 0 (omega arith)) in
+      let others : (i : ℕ) → i < count → type (suc t + i) ≡ o = λ i h. let next : t + suc i ≡ suc t + i = omega arith in rw next at (same (suc i) (omega arith)) in
+      rw first (ap (λ l. set (set (line o) (place - 1) a) place b ++ l) (counted-one count (suc b) (suc t) (suc s) others behind))
+
 -- The first of the lines that are left, and none is left; and the same of ten times so many.
 module _ (line : CharacterOrdering → List ℕ) (type : ℕ → CharacterOrdering) (place : ℕ) where
   pub counted-next : (a b t : ℕ) → b < 58 → (behind : List ℕ)
@@ -242,3 +253,11 @@ module _ (line : CharacterOrdering → List ℕ) (type : ℕ → CharacterOrderi
   pub tens-end : (a t : ℕ) → 58 ≤ a → (behind : List ℕ) → tens·lines line type place a t (58 - a) behind ≡ behind
   unfolding tens·lines
   tens-end a t h behind = let none : 58 - a ≡ 0 = omega arith in rw none refl
+
+-- The first of the lines that are left where all are one line.
+pub one-next : (line : List ℕ) (place a b : ℕ) → 48 ≤ b → b < 58 → (behind : List ℕ)
+    → counted·lines (λ o. line) (λ k. CharacterOrdering.Unordered) place a b (b - 48) (58 - b) behind
+    ≡ set (set line (place - 1) a) place b ++ counted·lines (λ o. line) (λ k. CharacterOrdering.Unordered) place a (b + 1) (b + 1 - 48) (58 - (b + 1)) behind
+one-next line place a b some h behind =
+    let next : b - 48 + 1 ≡ b + 1 - 48 = omega arith in
+    rw next at (counted-next (λ o. line) (λ k. CharacterOrdering.Unordered) place a b (b - 48) h behind)

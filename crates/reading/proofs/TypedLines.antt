@@ -1,18 +1,18 @@
 -- The type of a character by a test, the line of a type among two in one array, and how both are made. Assumes nothing.
-use Prim.Native.Nat.{ℕ, zero, suc, _+_, _-_, _≤_, _<_}
+use Prim.Native.Nat.{ℕ, zero, suc, _+_, _*_, _-_, _≤_, _<_}
 use Rattle.assumptions.specs.TypesHeld.{type·of}
 use Rattle.block.specs.declared.model.CharacterOrdering.{CharacterOrdering}
 use Rattle.emit.proofs.PutLaws.{puts-as, puts-whole}
 use Rattle.emit.specs.Puts.{Puts}
-use Rattle.lexer.proofs.Basics.{or-false}
+use Rattle.lexer.proofs.Basics.{and-left, and-right, by-test, or-false}
 use Rattle.lexer.specs.Base.{bytes, pick}
 use Rattle.reading.proofs.CharacterPuts.{plain-behind, plain-ordered, plain-unordered, type-untyped}
 use Rattle.reading.proofs.PlainHundreds.{one-most}
 use Rattle.reading.proofs.PutsOver.{puts-sets}
 use Rattle.reading.specs.CharactersHeld.{bare·piece, plain·bytes, slot·type}
-use Rattle.reading.specs.PlainLines.{line·of, ordered, ordered·count}
+use Rattle.reading.specs.PlainLines.{Types·alike, line·of, ordered, ordered·count}
 use Rattle.record.specs.Decimal.{decimal}
-use borrow.Author.Tests.{lt-ltb, ne-eqb}
+use borrow.Author.Tests.{eqb-true, lt-ltb, ltb-false, ltb-true, ne-eqb}
 use lib.Dec.{eqb, ltb}
 use lib.ListN.{length, getD, take, drop, set, length-drop}
 use lib.Seq.{drop-at, length-take-le, sets, sets-eq, take-append-seam, take-set-le}
@@ -55,34 +55,51 @@ module _ (type : ℕ → CharacterOrdering) where
   unfolding ordered·count
   ordered-none t i count h = let none : count - i ≡ 0 = omega arith in rw none refl
 
+-- Types that are one number, and those where no set was read.
+module _ (work : List ℕ) (typed : Bool) (t : ℕ) where
+  pub alike-untyped : typed ≡ false → (count : ℕ) → Types·alike work typed t count
+  alike-untyped f count = record { each = λ o i h. sym (type-untyped work o typed (t + i) f) ∙ type-untyped work o typed t f }
+
+  pub alike-numbers : (count : ℕ) → ((i : ℕ) → i < count → getD work (t + i) 0 ≡ getD work t 0) → Types·alike work typed t count
+  unfolding slot·type
+  alike-numbers count same = record { each = λ o i h. ap (λ n. pick typed (Option·getD (type·of n) o) o) (same i h) }
+
+-- One number more is the same.
+pub same-more : (work : List ℕ) (t first : ℕ) (all : Bool) (i : ℕ) → (all ≡ true → (j : ℕ) → j < i → getD work (t + j) 0 ≡ first) → all && eqb (getD work (t + i) 0) first ≡ true
+    → (j : ℕ) → j < i + 1 → getD work (t + j) 0 ≡ first
+same-more work t first all i so both j h =
+    by-test (ltb j i)
+    (λ l. so (and-left all (eqb (getD work (t + i) 0) first) both) j (ltb-true j i l))
+    (λ f. let n = ltb-false j i f in let e : j ≡ i = omega arith in rw e (eqb-true (getD work (t + i) 0) first (and-right all (eqb (getD work (t + i) 0) first) both)))
+
 -- The part of the array that is the line of a type, and how long it is.
 module _ (lines : List ℕ) (size : ℕ) where
-  part-of : (o : CharacterOrdering) → take (pick (ordered o) (62 + size) size - pick (ordered o) 64 0) (drop (pick (ordered o) 64 0) lines) ≡ line·of lines size o
+  part-of : (o : CharacterOrdering) → take (pick (ordered o) (2 * size - 2) size - pick (ordered o) size 0) (drop (pick (ordered o) size 0) lines) ≡ line·of lines size o
   unfolding ordered pick line·of
   part-of CharacterOrdering.Unordered = let e : size - 0 ≡ size = omega arith in rw e refl
-  part-of CharacterOrdering.Ordered = let e : 62 + size - 64 ≡ size - 2 = omega arith in rw e refl
+  part-of CharacterOrdering.Ordered = let e : 2 * size - 2 - size ≡ size - 2 = omega arith in rw e refl
 
-  ends-of : (o : CharacterOrdering) → 34 ≤ size → size ≤ 48 → (pick (ordered o) 64 0 ≤ pick (ordered o) (62 + size) size) × (pick (ordered o) (62 + size) size ≤ 112)
+  ends-of : (o : CharacterOrdering) → 34 ≤ size → size ≤ 48 → (pick (ordered o) size 0 ≤ pick (ordered o) (2 * size - 2) size) × (pick (ordered o) (2 * size - 2) size ≤ 96)
   unfolding ordered pick
   ends-of CharacterOrdering.Unordered some few = (omega arith, omega arith)
   ends-of CharacterOrdering.Ordered some few = (omega arith, omega arith)
 
-  line-size : (o : CharacterOrdering) → size ≤ 48 → 112 ≤ length lines → (size - 2 ≤ length (line·of lines size o)) × (length (line·of lines size o) ≤ size)
+  line-size : (o : CharacterOrdering) → size ≤ 48 → 96 ≤ length lines → (size - 2 ≤ length (line·of lines size o)) × (length (line·of lines size o) ≤ size)
   unfolding line·of
   line-size CharacterOrdering.Unordered few room = let e = length-take-le size lines (omega arith) in (omega arith, omega arith)
   line-size CharacterOrdering.Ordered few room =
-      let e = length-take-le (size - 2) (drop 64 lines) (omega (arith, length-drop 64 lines)) in
+      let e = length-take-le (size - 2) (drop size lines) (omega (arith, length-drop size lines)) in
       (omega arith, omega arith)
 
   -- The same by a test and by where the part begins and ends.
-  module _ (o : CharacterOrdering) (test : Bool) (from end : ℕ) (is : test ≡ ordered o) (b : from ≡ pick test 64 0) (e : end ≡ pick test (62 + size) size) where
+  module _ (o : CharacterOrdering) (test : Bool) (from end : ℕ) (is : test ≡ ordered o) (b : from ≡ pick test size 0) (e : end ≡ pick test (2 * size - 2) size) where
     pub part-line : take (end - from) (drop from lines) ≡ line·of lines size o
     part-line = rw (b, e, is) (part-of o)
 
-    pub part-ends : 34 ≤ size → size ≤ 48 → (from ≤ end) × (end ≤ 112)
+    pub part-ends : 34 ≤ size → size ≤ 48 → (from ≤ end) × (end ≤ 96)
     part-ends some few = rw (b, e, is) (ends-of o some few)
 
-    pub part-size : size ≤ 48 → 112 ≤ length lines → (size - 2 ≤ length (take (end - from) (drop from lines))) × (length (take (end - from) (drop from lines)) ≤ size)
+    pub part-size : size ≤ 48 → 96 ≤ length lines → (size - 2 ≤ length (take (end - from) (drop from lines))) × (length (take (end - from) (drop from lines)) ≤ size)
     part-size few room = rw part-line (line-size o few room)
 
 -- A run of stores changes nothing in front of it.
@@ -99,37 +116,43 @@ drop-sets l i vs h =
     ∙ ap (take (length vs)) (drop-at (take i l) (vs ++ behind) i front)
     ∙ take-append-seam vs behind
 
--- Both lines were put into a scratch.
+-- The line of the first type was put into a scratch, and that of the other behind it.
 module _ (number : ℕ) (small : length (decimal number) ≤ 9) where
   abbrev piece : CharacterOrdering → List ℕ → List ℕ
   piece o behind = bytes "character=" ++ (decimal number ++ bare·piece o behind)
 
-  pub lines-made : (scratch a b : List ℕ) (size end : ℕ) → length scratch ≡ 128 → Puts scratch 0 (piece CharacterOrdering.Unordered) a size → Puts a 64 (piece CharacterOrdering.Ordered) b end
-      → (size ≡ length (decimal number) + 39) × ((o : CharacterOrdering) → line·of b size o ≡ plain·bytes number o) × (length b ≡ 128)
-  unfolding plain·bytes line·of
-  lines-made scratch a b size end room p q = (count, each, q .kept ∙ p .kept ∙ room)
+  abbrev long : List ℕ
+  long = plain·bytes number CharacterOrdering.Unordered
+
+  abbrev short : List ℕ
+  short = plain·bytes number CharacterOrdering.Ordered
+
+  first-made : (scratch a : List ℕ) (size : ℕ) → length scratch ≡ 128 → Puts scratch 0 (piece CharacterOrdering.Unordered) a size → (a ≡ long ++ drop (length long) scratch) × (size ≡ length long)
+  unfolding plain·bytes
+  first-made scratch a size room p =
+      puts-whole scratch a (piece CharacterOrdering.Unordered) size p (omega (arith, plain-unordered number CharacterOrdering.Unordered refl, room, small)) (omega (arith, room))
+
+  pub first-size : (scratch a : List ℕ) (size : ℕ) → length scratch ≡ 128 → Puts scratch 0 (piece CharacterOrdering.Unordered) a size → size ≡ length (decimal number) + 39
+  first-size scratch a size room p = first-made scratch a size room p .1 ∙ plain-unordered number CharacterOrdering.Unordered refl
+
+  pub lines-made : (scratch a b : List ℕ) (size end : ℕ) → length scratch ≡ 128 → Puts scratch 0 (piece CharacterOrdering.Unordered) a size → Puts a size (piece CharacterOrdering.Ordered) b end
+      → (o : CharacterOrdering) → line·of b size o ≡ plain·bytes number o
+  unfolding line·of
+  lines-made scratch a b size end room p q = each
     where
-      long : length (plain·bytes number CharacterOrdering.Unordered) ≡ length (decimal number) + 39
-      long = plain-unordered number CharacterOrdering.Unordered refl
-
-      short : length (plain·bytes number CharacterOrdering.Ordered) ≡ length (decimal number) + 37
-      short = plain-ordered number CharacterOrdering.Ordered refl
-
-      whole : (a ≡ plain·bytes number CharacterOrdering.Unordered ++ drop (length (plain·bytes number CharacterOrdering.Unordered)) scratch) × (size ≡ length (plain·bytes number CharacterOrdering.Unordered))
-      whole = puts-whole scratch a (piece CharacterOrdering.Unordered) size p (omega (arith, long, room, small)) (omega (arith, room))
-
       count : size ≡ length (decimal number) + 39
-      count = whole .1 ∙ long
+      count = first-size scratch a size room p
 
-      over : b ≡ sets a 64 (plain·bytes number CharacterOrdering.Ordered)
-      over = puts-sets (plain·bytes number CharacterOrdering.Ordered) (puts-as q (λ behind. sym (plain-behind number CharacterOrdering.Ordered behind)))
+      fewer : length short ≡ length (decimal number) + 37
+      fewer = plain-ordered number CharacterOrdering.Ordered refl
+
+      over : b ≡ sets a size short
+      over = puts-sets short (puts-as q (λ behind. sym (plain-behind number CharacterOrdering.Ordered behind)))
 
       each : (o : CharacterOrdering) → line·of b size o ≡ plain·bytes number o
       each CharacterOrdering.Unordered =
-          ap (take size) over
-          ∙ take-sets size a 64 (plain·bytes number CharacterOrdering.Ordered) (omega (arith, count, small))
-          ∙ rw (whole .1, whole .0) (take-append-seam (plain·bytes number CharacterOrdering.Unordered) (drop (length (plain·bytes number CharacterOrdering.Unordered)) scratch))
+          let made = first-made scratch a size room p in
+          ap (take size) over ∙ take-sets size a size short (omega arith) ∙ rw (made .1, made .0) (take-append-seam long (drop (length long) scratch))
       each CharacterOrdering.Ordered =
-          let two : size - 2 ≡ length (plain·bytes number CharacterOrdering.Ordered) = omega (arith, count, short) in
-          ap (λ l. take (size - 2) (drop 64 l)) over
-          ∙ rw two (drop-sets a 64 (plain·bytes number CharacterOrdering.Ordered) (omega (arith, short, p .kept, room, small)))
+          let two : size - 2 ≡ length short = omega (arith, count, fewer) in
+          ap (λ l. take (size - 2) (drop size l)) over ∙ rw two (drop-sets a size short (omega (arith, count, fewer, p .kept, room, small)))

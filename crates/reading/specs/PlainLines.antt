@@ -3,7 +3,7 @@
 use Prim.Native.Nat.{ℕ, zero, suc, _+_, _-_, _%_, _≤_, _<_}
 use Rattle.block.specs.declared.model.CharacterOrdering.{CharacterOrdering}
 use Rattle.lexer.specs.Base.{pick}
-use Rattle.reading.specs.CharactersHeld.{plain·bytes}
+use Rattle.reading.specs.CharactersHeld.{plain·bytes, slot·type}
 use lib.ListN.{drop, getD, set, take}
 use mathlib.Core.Bool.{Bool, false, true}
 use mathlib.Core.List.{List, _++_}
@@ -23,10 +23,14 @@ unfoldable pub ordered·count : (ℕ → CharacterOrdering) → ℕ → ℕ → 
 ordered·count type t zero = 0
 ordered·count type t (suc count) = pick (ordered (type t)) 1 0 + ordered·count type (suc t) count
 
--- The line of a type, of two in one array: that of an unordered character has so many bytes, and that of an ordered one stands from 64 on and has two fewer.
+-- The line of a type, of two in one array: that of an unordered character has so many bytes, and that of an ordered one stands behind it and has two fewer.
 unfoldable pub line·of : List ℕ → ℕ → CharacterOrdering → List ℕ
 line·of lines size CharacterOrdering.Unordered = take size lines
-line·of lines size CharacterOrdering.Ordered = take (size - 2) (drop 64 lines)
+line·of lines size CharacterOrdering.Ordered = take (size - 2) (drop size lines)
+
+-- So many characters, whose types stand from a place on, have one type.
+pub record Types·alike (work : List ℕ) (typed : Bool) (t count : ℕ) : Type 0 where
+  pub each : (o : CharacterOrdering) (i : ℕ) → i < count → slot·type work o typed (t + i) ≡ slot·type work o typed t
 
 -- So many lines, each that of its type, with a byte before a place of it, and one there: this one, and then the next higher ones.
 unfoldable pub counted·lines : (CharacterOrdering → List ℕ) → (ℕ → CharacterOrdering) → ℕ → ℕ → ℕ → ℕ → ℕ → List ℕ → List ℕ

@@ -1,10 +1,11 @@
 // Characters that have neither a label nor state labels: one by itself, and a hundred at once whose numbers differ in the last two digits alone.
 
 ghost use Prim.Native.Nat.{_*_, _+_, _-_, _%_, _<_, _≤_};
+ghost use Rattle.block.specs.declared.model.CharacterOrdering.{CharacterOrdering};
 ghost use Rattle.emit.specs.Puts.{Puts};
 ghost use Rattle.lexer.specs.Base.{bytes, pick};
 ghost use Rattle.reading.specs.CharactersHeld.{bare·piece, plain·bytes, slot·type};
-ghost use Rattle.reading.specs.PlainLines.{Run·plain, Zeros, counted·lines, line·of, ordered, ordered·count, plain·lines, tens·lines};
+ghost use Rattle.reading.specs.PlainLines.{Run·plain, Types·alike, Zeros, counted·lines, line·of, ordered, ordered·count, plain·lines, tens·lines};
 ghost use Rattle.record.specs.Decimal.{decimal};
 ghost use lib.ListN.{length, set};
 ghost use mathlib.Core.Bool.{true};
@@ -112,6 +113,27 @@ fn put_line(buffer: &mut [u8], n: usize, line: &[u8], place: usize, tens: u8, on
     end
 }
 
+// The same for lines of mixed types: a function that two others call would not be written into them, and so would copy byte by byte.
+fn put_mixed_line(
+    buffer: &mut [u8],
+    n: usize,
+    line: &[u8],
+    place: usize,
+    tens: u8,
+    ones: u8,
+) -> usize
+    requires { ⌜ (32 ≤ length (now line)) × (length (now line) ≤ 48) × (1 ≤ place) × (place < length (now line)) × (n + length (now line) ≤ length (now buffer)) ⌝ }
+    ensures { λ r. ⌜ Puts (now (buffer .entry)) n (λ behind. set (set (now (line .entry)) (place - 1) tens) place ones ++ behind) (now (buffer .exit)) r ⌝ }
+    ensures { λ r. ⌜ r ≡ n + length (now (line .entry)) ⌝ }
+{
+    let from = line.len() - 16;
+    let head = put_whole(buffer, n, &line[..32]);
+    let end = put_whole(buffer, n + from, &line[from..]);
+    buffer[n + place - 1] = tens;
+    buffer[n + place] = ones;
+    end
+}
+
 // Is this type the ordered one?
 fn is_ordered(o: CharacterOrdering) -> bool
     ensures { λ r. ⌜ r ≡ ordered o ⌝ }
@@ -168,8 +190,42 @@ fn hundred_size(work: &[u32], t: usize, typed: bool, o: CharacterOrdering, numbe
     100 * size - 2 * count_ordered(work, t, 100, typed, o)
 }
 
-// Puts ten lines, each that of the type of its character, with this digit before a place of it and another one each time there.
-fn put_counted(
+// Have so many characters, whose types stand from a place of work memory on, one type?
+fn alike(work: &[u32], t: usize, count: usize, typed: bool) -> bool
+    requires { ⌜ (1 ≤ count) × (t + count ≤ length (now work)) ⌝ }
+    ensures { λ r. ⌜ (r ≡ true → Types·alike (now (work .entry)) typed t count) ⌝ }
+{
+    if !typed {
+        return true;
+    }
+    let first = work[t];
+    let mut same = true;
+    let mut i = 0;
+    while i < count {
+        same = same & (work[t + i] == first);
+        i += 1;
+    }
+    same
+}
+
+// Puts a line ten times, with this digit before a place of it and another one each time there.
+fn put_alike(buffer: &mut [u8], n: usize, line: &[u8], place: usize, tens: u8) -> usize
+    requires { ⌜ (32 ≤ length (now line)) × (length (now line) ≤ 48) × (1 ≤ place) × (place < length (now line)) × (n + 480 ≤ length (now buffer)) ⌝ }
+    ensures { λ r. ⌜ Puts (now (buffer .entry)) n (counted·lines (λ o. now (line .entry)) (λ k. CharacterOrdering.Unordered) place tens 48 0 10) (now (buffer .exit)) r ⌝ }
+    ensures { λ r. ⌜ r ≤ n + 480 ⌝ }
+{
+    let mut m = n;
+    let mut ones: u8 = 48;
+    while ones < 58 {
+        m = put_line(buffer, m, line, place, tens, ones);
+        ones += 1;
+    }
+    m
+}
+
+// Puts ten lines, each that of the type of its character, with this digit before a place of it and another one each time there. The line is chosen without
+// a branch.
+fn put_mixed(
     work: &[u32],
     t: usize,
     typed: bool,
@@ -181,7 +237,7 @@ fn put_counted(
     place: usize,
     tens: u8,
 ) -> usize
-    requires { ⌜ (34 ≤ size) × (size ≤ 48) × (1 ≤ place) × (place + 2 < size) × (112 ≤ length (now lines)) × (n + 480 ≤ length (now buffer)) × (t + 10 ≤ length (now work)) ⌝ }
+    requires { ⌜ (34 ≤ size) × (size ≤ 48) × (1 ≤ place) × (place + 2 < size) × (96 ≤ length (now lines)) × (n + 480 ≤ length (now buffer)) × (t + 10 ≤ length (now work)) ⌝ }
     ensures { λ r. ⌜ Puts (now (buffer .entry)) n (counted·lines (line·of (now (lines .entry)) size) (slot·type (now (work .entry)) o typed) place tens 48 t 10) (now (buffer .exit)) r ⌝ }
     ensures { λ r. ⌜ r ≤ n + 480 ⌝ }
 {
@@ -190,13 +246,39 @@ fn put_counted(
     let mut ones: u8 = 48;
     while ones < 58 {
         let ordered = ordered_at(work, k, typed, o);
-        let from = choose(ordered, 64, 0);
-        let end = choose(ordered, 62 + size, size);
-        m = put_line(buffer, m, &lines[from..end], place, tens, ones);
+        let from = choose(ordered, size, 0);
+        let end = choose(ordered, 2 * size - 2, size);
+        m = put_mixed_line(buffer, m, &lines[from..end], place, tens, ones);
         k += 1;
         ones += 1;
     }
     m
+}
+
+// The same ten lines: where they have one type, its line is put ten times.
+fn put_ten(
+    work: &[u32],
+    t: usize,
+    typed: bool,
+    o: CharacterOrdering,
+    buffer: &mut [u8],
+    n: usize,
+    lines: &[u8],
+    size: usize,
+    place: usize,
+    tens: u8,
+) -> usize
+    requires { ⌜ (34 ≤ size) × (size ≤ 48) × (1 ≤ place) × (place + 2 < size) × (96 ≤ length (now lines)) × (n + 480 ≤ length (now buffer)) × (t + 10 ≤ length (now work)) ⌝ }
+    ensures { λ r. ⌜ Puts (now (buffer .entry)) n (counted·lines (line·of (now (lines .entry)) size) (slot·type (now (work .entry)) o typed) place tens 48 t 10) (now (buffer .exit)) r ⌝ }
+    ensures { λ r. ⌜ r ≤ n + 480 ⌝ }
+{
+    if alike(work, t, 10, typed) {
+        let ordered = ordered_at(work, t, typed, o);
+        let from = choose(ordered, size, 0);
+        let end = choose(ordered, 2 * size - 2, size);
+        return put_alike(buffer, n, &lines[from..end], place, tens);
+    }
+    put_mixed(work, t, typed, o, buffer, n, lines, size, place, tens)
 }
 
 // Puts ten times ten lines, each time with another digit before the place of the last.
@@ -211,14 +293,14 @@ fn put_tens(
     size: usize,
     place: usize,
 ) -> usize
-    requires { ⌜ (34 ≤ size) × (size ≤ 48) × (1 ≤ place) × (place + 2 < size) × (112 ≤ length (now lines)) × (n + 4800 ≤ length (now buffer)) × (t + 100 ≤ length (now work)) ⌝ }
+    requires { ⌜ (34 ≤ size) × (size ≤ 48) × (1 ≤ place) × (place + 2 < size) × (96 ≤ length (now lines)) × (n + 4800 ≤ length (now buffer)) × (t + 100 ≤ length (now work)) ⌝ }
     ensures { λ r. ⌜ Puts (now (buffer .entry)) n (tens·lines (line·of (now (lines .entry)) size) (slot·type (now (work .entry)) o typed) place 48 t 10) (now (buffer .exit)) r ⌝ }
 {
     let mut m = n;
     let mut k = t;
     let mut tens: u8 = 48;
     while tens < 58 {
-        m = put_counted(work, k, typed, o, buffer, m, lines, size, place, tens);
+        m = put_ten(work, k, typed, o, buffer, m, lines, size, place, tens);
         k += 10;
         tens += 1;
     }
@@ -244,7 +326,7 @@ pub fn put_hundred(
     }
     let mut lines = [0u8; 128];
     let size = put_plain(&mut lines, 0, number, CharacterOrdering::Unordered);
-    let end = put_plain(&mut lines, 64, number, CharacterOrdering::Ordered);
+    let end = put_plain(&mut lines, size, number, CharacterOrdering::Ordered);
     let place = 9 + digits_of(number as u64);
     put_tens(work, t, typed, o, buffer, n, &lines, size, place)
 }

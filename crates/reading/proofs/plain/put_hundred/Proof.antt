@@ -4,7 +4,7 @@ use Prim.Native.Nat.{_+_}
 use Rattle.emit.proofs.DigitsStored.{digits-most}
 use Rattle.emit.proofs.PutLaws.{puts-as, puts-past}
 use Rattle.reading.proofs.PlainHundreds.{hundred-counted, plain-front, tens-alike}
-use Rattle.reading.proofs.TypedLines.{lines-made}
+use Rattle.reading.proofs.TypedLines.{first-size, lines-made}
 use Rattle.reading.proofs.plain.put_hundred.Statement.{statement}
 use Rattle.reading.proofs.plain.put_hundred.Tie as tie
 use Rattle.reading.specs.CharactersHeld.{plain·bytes, slot·type}
@@ -38,7 +38,11 @@ slice-aggregate-put-plain-2 : tie.Need-slice-aggregate-put-plain-2
 slice-aggregate-put-plain-2 c = search needs
 
 put-plain-requires-2 : tie.Need-put-plain-requires-2
-put-plain-requires-2 c κs = search needs
+put-plain-requires-2 c κs =
+    let p = c .before .before in
+    let s = p .before .before .before .before .before in
+    let few = digits-most 8 (s .args .number) (omega (arith, s .pre .3)) in
+    omega (arith, few, first-size (s .args .number) few _ _ _ refl (p .put-plain .ensures), p .put-plain .ensures .kept)
 
 digits-of-requires : tie.Need-digits-of-requires
 digits-of-requires c κs = search needs
@@ -60,12 +64,12 @@ put-tens-requires c κs =
     let s = test .before .before .before in
     let number = s .args .number in
     let few = digits-most 8 number (omega (arith, s .pre .3)) in
-    let made = lines-made number few _ _ _ _ _ refl (p .put-plain .ensures) (q .put-plain2 .ensures) in (
-      omega (arith, made .0),
-      omega (arith, made .0, few),
+    let size = first-size number few _ _ _ refl (p .put-plain .ensures) in (
+      omega (arith, size),
+      omega (arith, size, few),
       omega arith,
-      omega (arith, made .0, d .digits-of .ensures),
-      omega (arith, made .2),
+      omega (arith, size, d .digits-of .ensures),
+      omega (arith, q .put-plain2 .ensures .kept, p .put-plain .ensures .kept),
       s .pre .1 (test .if1 .left),
       s .pre .0,
     )
@@ -87,7 +91,7 @@ returns-2 c =
     let made = lines-made number few _ _ _ _ _ refl (p .put-plain .ensures) (q .put-plain2 .ensures) in
     puts-as (t .put-tens .ensures)
     (λ behind.
-    tens-alike type (line·of (q .put-plain2 .last .0) (p .put-plain .result)) (plain·bytes number) (made .1) (9 + d .digits-of .result) 48 (a .t) 10 behind
+    tens-alike type (line·of (q .put-plain2 .last .0) (p .put-plain .result)) (plain·bytes number) made (9 + d .digits-of .result) 48 (a .t) 10 behind
     ∙ ap (λ k. tens·lines (plain·bytes number) type (9 + k) 48 (a .t) 10 behind) (d .digits-of .ensures)
     ∙ hundred-counted number (omega (arith, s .pre .2, s .pre .4)) (s .pre .4) type (a .t) behind)
 

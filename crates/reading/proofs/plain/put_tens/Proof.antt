@@ -22,8 +22,8 @@ abbrev μ-loop : tie.MeasureT-loop
 loop-holds : tie.Need-loop-holds Inv-loop μ-loop
 loop-holds c = (omega arith, omega arith, omega arith, omega arith, putting-start)
 
-put-counted-requires : tie.Need-put-counted-requires Inv-loop μ-loop
-put-counted-requires c κs =
+put-ten-requires : tie.Need-put-ten-requires Inv-loop μ-loop
+put-ten-requires c κs =
     let l = c .before .before in
     let s = l .before .before .before .before in
     let i = l .loop .inv in
@@ -59,8 +59,8 @@ loop-again c =
       omega (arith, i .0),
       omega (arith, less),
       omega (arith, i .0, i .2),
-      omega (arith, i .0, i .3, p .put-counted .ensures .1),
-      putting-turn (i .4) (p .put-counted .ensures .0) (tens-next _ _ _ _ _ less),
+      omega (arith, i .0, i .3, p .put-ten .ensures .1),
+      putting-turn (i .4) (p .put-ten .ensures .0) (tens-next _ _ _ _ _ less),
     )
 
 same-length : tie.Need-same-length Inv-loop μ-loop
@@ -76,7 +76,7 @@ put-tens-spec =
     Inv-loop
     μ-loop
     loop-holds
-    put-counted-requires
+    put-ten-requires
     add-k
     add-tens
     loop-less

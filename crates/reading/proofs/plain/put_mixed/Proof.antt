@@ -1,11 +1,11 @@
--- The function `put_counted` meets its contract: a turn puts one line more, that of its type. The measure is how many digits are left. Assumes nothing.
+-- The function `put_mixed` meets its contract: a turn puts one line more, that of its type. The measure is how many digits are left. Assumes nothing.
 use Prim.Native.Nat.{_+_, _*_, _-_, _≤_}
 use Rattle.emit.proofs.PutLaws.{puts-as}
 use Rattle.reading.proofs.PlainHundreds.{counted-end, counted-next}
 use Rattle.reading.proofs.PutWalks.{Putting, putting-end, putting-start, putting-turn}
 use Rattle.reading.proofs.TypedLines.{part-ends, part-line, part-size}
-use Rattle.reading.proofs.plain.put_counted.Statement.{statement}
-use Rattle.reading.proofs.plain.put_counted.Tie as tie
+use Rattle.reading.proofs.plain.put_mixed.Statement.{statement}
+use Rattle.reading.proofs.plain.put_mixed.Tie as tie
 use Rattle.reading.specs.CharactersHeld.{slot·type}
 use Rattle.reading.specs.PlainLines.{counted·lines, line·of}
 use borrow.Author.Needs.{needs}
@@ -34,35 +34,38 @@ ordered-at-requires c κs =
 choose-requires : tie.Need-choose-requires Inv-loop μ-loop
 choose-requires c κs = search needs
 
-add-choose : tie.Need-add-choose Inv-loop μ-loop
-add-choose c = search needs
+mul-choose : tie.Need-mul-choose Inv-loop μ-loop
+mul-choose c = search needs
+
+sub-choose : tie.Need-sub-choose Inv-loop μ-loop
+sub-choose c = search needs
 
 choose-requires-2 : tie.Need-choose-requires-2 Inv-loop μ-loop
 choose-requires-2 c κs = search needs
 
-sub-put-line : tie.Need-sub-put-line Inv-loop μ-loop
-sub-put-line c =
+sub-put-mixed-line : tie.Need-sub-put-mixed-line Inv-loop μ-loop
+sub-put-mixed-line c =
     let q = c .before in
     let s = q .before .before .before .before .before .before .before .before in
     let ends = part-ends (s .args .lines .now) _ _ _ _ _ (q .before .before .ordered-at .ensures) (q .before .choose .ensures) (q .choose2 .ensures) (s .pre .0) (s .pre .1) in
     ends .0
 
-part-put-line-start : tie.Need-part-put-line-start Inv-loop μ-loop
-part-put-line-start c =
+part-put-mixed-line-start : tie.Need-part-put-mixed-line-start Inv-loop μ-loop
+part-put-mixed-line-start c =
     let q = c .before in
     let s = q .before .before .before .before .before .before .before .before in
     let ends = part-ends (s .args .lines .now) _ _ _ _ _ (q .before .before .ordered-at .ensures) (q .before .choose .ensures) (q .choose2 .ensures) (s .pre .0) (s .pre .1) in
     ends .0
 
-part-put-line-end : tie.Need-part-put-line-end Inv-loop μ-loop
-part-put-line-end c =
+part-put-mixed-line-end : tie.Need-part-put-mixed-line-end Inv-loop μ-loop
+part-put-mixed-line-end c =
     let q = c .before in
     let s = q .before .before .before .before .before .before .before .before in
     let ends = part-ends (s .args .lines .now) _ _ _ _ _ (q .before .before .ordered-at .ensures) (q .before .choose .ensures) (q .choose2 .ensures) (s .pre .0) (s .pre .1) in
     omega (arith, ends .1, s .pre .4)
 
-put-line-requires : tie.Need-put-line-requires Inv-loop μ-loop
-put-line-requires c κs =
+put-mixed-line-requires : tie.Need-put-mixed-line-requires Inv-loop μ-loop
+put-mixed-line-requires c κs =
     let q = c .before .before in
     let l = q .before .before .before .before in
     let s = l .before .before .before .before in
@@ -101,9 +104,9 @@ loop-again c =
       omega (arith, i .0),
       omega (arith, less),
       omega (arith, i .0, i .2),
-      omega (arith, i .0, i .3, p .put-line .ensures .1, long .1, s .pre .1),
+      omega (arith, i .0, i .3, p .put-mixed-line .ensures .1, long .1, s .pre .1),
       putting-turn (i .4)
-          (puts-as (p .put-line .ensures .0) (λ behind. ap (λ l. set (set l (s .args .place - 1) (s .args .tens)) (s .args .place) (test .before .loop .ones) ++ behind) same))
+          (puts-as (p .put-mixed-line .ensures .0) (λ behind. ap (λ l. set (set l (s .args .place - 1) (s .args .tens)) (s .args .place) (test .before .loop .ones) ++ behind) same))
           (counted-next _ _ _ _ _ _ less),
     )
 
@@ -115,8 +118,8 @@ returns c =
 same-length : tie.Need-same-length Inv-loop μ-loop
 same-length c = returns c .0 .kept
 
-pub put-counted-spec : {M : Type 1} → statement M
-put-counted-spec =
+pub put-mixed-spec : {M : Type 1} → statement M
+put-mixed-spec =
     tie.close
     (tie.spec
     Inv-loop
@@ -124,12 +127,13 @@ put-counted-spec =
     loop-holds
     ordered-at-requires
     choose-requires
-    add-choose
+    mul-choose
+    sub-choose
     choose-requires-2
-    sub-put-line
-    part-put-line-start
-    part-put-line-end
-    put-line-requires
+    sub-put-mixed-line
+    part-put-mixed-line-start
+    part-put-mixed-line-end
+    put-mixed-line-requires
     add-k
     add-ones
     loop-less
