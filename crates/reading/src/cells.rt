@@ -369,7 +369,7 @@ pub fn put_told(
     let table = word_bytes();
     let mut last = row;
     let mut i = from;
-    while i < to {
+    while (i < to) & (1 < last.left) {
         let start = start_of(starts, i);
         let end = word_stop_by(text, start, &table);
         if start < end {
@@ -379,9 +379,6 @@ pub fn put_told(
             last = put_few(text, start, end, buffer, last, codes);
             i += 1;
             continue;
-        }
-        if last.left <= 1 {
-            return Ran { row: last, next: i };
         }
         if pair_closes(text, starts, start, i, to, codes) {
             last = put_pair(text, start, buffer, last, codes);
