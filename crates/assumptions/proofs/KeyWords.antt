@@ -1,5 +1,6 @@
 -- Keywords that are told by their bytes at once: letters alike a key's, and behind them a byte that ends a word. Assumes nothing.
 use Prim.Native.Nat.{ℕ, suc, _+_, _-_, _≤_, _<_}
+use Rattle.block.specs.Typeset.{ordering}
 use Rattle.lexer.proofs.Basics.{and-false, and-left, and-right, by-test, or-true}
 use Rattle.lexer.proofs.ListLaws.{drop-next}
 use Rattle.lexer.proofs.WordsTold.{Plain·to, plain-start, plain-turn, word-told}
@@ -64,10 +65,10 @@ module _ (text key : List ℕ) (start k : ℕ) (s : Matching text key start k) (
       let none : start + k - (start + k) ≡ 0 = omega arith in
       rw (word .told) (s .rest (start + k) (omega arith) ∙ rw (drop-of-length-le key over, none) refl)
 
--- By the word of an index
-pub told-key : (key text work : List ℕ) (i start : ℕ) → start ≡ getD work i 0 → is key (word·at text start) ≡ true → is key (word·of text work i) ≡ true
-unfolding is word·at word·of
-told-key key text work i start e h = rw (← e) h
+-- The type of the word at a place is that of the word of an index that begins there.
+pub type-there : (text work : List ℕ) (i start : ℕ) → start ≡ getD work i 0 → ordering (word·at text start) ≡ ordering (word·of text work i)
+unfolding ordering is word·at word·of
+type-there text work i start e = rw e refl
 
 -- What is UNORD is not ORD.
 unord-other : (l : List ℕ) → alike (bytes "UNORD") l ≡ true → alike (bytes "ORD") l ≡ false

@@ -1,7 +1,7 @@
 // ASSUMPTIONS, after assumptions.rs: what its words come to, and OPTIONS.
 
 ghost use Rattle.assumptions.specs.NextWord.{Next};
-ghost use Rattle.assumptions.specs.TypesHeld.{type·word, options·answer};
+ghost use Rattle.assumptions.specs.TypesHeld.{Type·told, options·answer, type·word};
 ghost use Rattle.block.specs.Blocks.{options};
 ghost use Rattle.block.specs.Commands.{words};
 ghost use Rattle.block.specs.Outcome.{need};
@@ -55,17 +55,23 @@ pub fn next_word(text: &[u8], work: &[u32], from: usize, to: usize) -> usize
     skip_newlines(text, work, from, to)
 }
 
-// The type that a word is: ORD or UNORD. Most are told by their bytes at once.
-pub fn ordering(text: &[u8], work: &[u32], i: usize) -> TypeWord
-    ensures { λ r. ⌜ type·word r ≡ ordering (word·of (now (text .entry)) (now (work .entry)) i) ⌝ }
+// The type that the word at a place is, if that is told by its bytes at once.
+fn told_type(text: &[u8], start: usize) -> TypeWord
+    ensures { λ r. ⌜ Type·told (now (text .entry)) start (type·word r) ⌝ }
 {
-    let start = start_of(work, i);
     if key_told(text, start, b"ORD") {
         return TypeWord::Type(CharacterOrdering::Ordered);
     }
     if key_told(text, start, b"UNORD") {
         return TypeWord::Type(CharacterOrdering::Unordered);
     }
+    TypeWord::None
+}
+
+// The type that any word is.
+fn any_type(text: &[u8], work: &[u32], i: usize) -> TypeWord
+    ensures { λ r. ⌜ type·word r ≡ ordering (word·of (now (text .entry)) (now (work .entry)) i) ⌝ }
+{
     if is(text, work, i, b"ORD") {
         return TypeWord::Type(CharacterOrdering::Ordered);
     }
@@ -73,6 +79,16 @@ pub fn ordering(text: &[u8], work: &[u32], i: usize) -> TypeWord
         return TypeWord::Type(CharacterOrdering::Unordered);
     }
     TypeWord::None
+}
+
+// The type that a word is: ORD or UNORD. Most are told by their bytes at once.
+pub fn ordering(text: &[u8], work: &[u32], i: usize) -> TypeWord
+    ensures { λ r. ⌜ type·word r ≡ ordering (word·of (now (text .entry)) (now (work .entry)) i) ⌝ }
+{
+    match told_type(text, start_of(work, i)) {
+        TypeWord::Type(o) => TypeWord::Type(o),
+        TypeWord::None => any_type(text, work, i),
+    }
 }
 
 // A type word, or 27 there.
