@@ -21,7 +21,7 @@ pub record Comparable (size-of-all at size place : ℕ) : Type 0 where
   pub most : size ≤ place + 34
   pub within : at + size ≤ size-of-all
 
--- Two digits are the last two of a number below 110.
+-- Two bytes stand for a number: the first, counted from `0` on, for its tens, the second for its ones.
 pub record Digits (tens ones pair : ℕ) : Type 0 where
   pub first : tens ≡ 48 + pair / 10
   pub second : ones ≡ 48 + pair % 10
