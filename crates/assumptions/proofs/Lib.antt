@@ -5,7 +5,6 @@ pub mod KeyWords
 pub mod ListTyped
 pub mod ListWalks
 pub mod NextWordLaws
-pub mod NumberRuns
 pub mod PartLaws
 pub mod PartWalks
 pub mod RangeTyped

@@ -1,22 +1,19 @@
 -- What the code's answers about character lists mean.
-use Prim.Native.Nat.{ℕ, _≤_}
-use Rattle.assumptions.specs.TypesHeld.{types·held, unless·twice}
-use Rattle.assumptions.specs.TypesetWalk.{set·of, typeset·at}
+use Prim.Native.Nat.{ℕ}
+use Rattle.assumptions.specs.TypesHeld.{unless·twice}
 use Rattle.assumptions.specs.declared.characters.FirstItem.{FirstItem}
 use Rattle.assumptions.specs.declared.characters.ItemAnswer.{ItemAnswer}
 use Rattle.assumptions.specs.declared.characters.ListAnswer.{ListAnswer}
 use Rattle.assumptions.specs.declared.characters.WordAnswer.{WordAnswer}
-use Rattle.assumptions.specs.declared.runs.Single.{Single}
 use Rattle.block.specs.CharacterList.{Listed, listed}
 use Rattle.block.specs.Judged.{judged}
 use Rattle.block.specs.Outcome.{Outcome, done, refused}
-use Rattle.block.specs.Typeset.{Types, list, typed}
+use Rattle.block.specs.Typeset.{Types, typed}
 use Rattle.block.specs.declared.kinds.Further.{Further}
 use Rattle.block.specs.declared.kinds.Item.{Item}
 use Rattle.block.specs.declared.kinds.Range.{Range}
 use Rattle.block.specs.declared.model.CharacterOrdering.{CharacterOrdering}
 use Rattle.lexer.specs.declared.refusal.Refusal.{Refusal}
-use lib.ListN.{take}
 use mathlib.Core.Bool.{Bool}
 use mathlib.Core.List.{List}
 use mathlib.Core.Path.{_≡_}
@@ -45,19 +42,3 @@ pub record Follows (o : CharacterOrdering) (ts us : Types) (out : Outcome Listed
 unfoldable pub list·then : Types → ListAnswer → (ℕ → Outcome Types) → Outcome Types
 list·then us (ListAnswer.Next i) f = f i
 list·then us (ListAnswer.Judged j) f = judged us j
-
--- A list behind a first number, or ALL.
-unfoldable pub single·item : Single → Item
-single·item s = Item.Single (s .all) (s .first) (s .last) (s .index)
-
--- A list with some ranges at an index comes to what one with other ranges comes to at another index, and those give the types `us`.
-pub record Goes·on (text work : List ℕ) (to count : ℕ) (o : CharacterOrdering) (ts : Types) (word : ℕ) (rs : List Range) (m : Item) (i : ℕ) (us : Types) (m' : Item) (twice : Bool) (i' : ℕ) : Type 0 where
-  pub ranges : List Range
-  pub gives : typed o ranges ts ≡ unless·twice twice us
-  pub rest : (head : ℕ) → typeset·at (set·of count head) text work to (list ts o word (listed ranges m')) i' ≡ typeset·at (set·of count head) text work to (list ts o word (listed rs m)) i
-
--- Words of a list were passed, and their ranges typed: whatever ranges were there before, the list goes on from here.
-pub record Passed (text : List ℕ) (to at count : ℕ) (o : CharacterOrdering) (work : List ℕ) (m : Item) (twice : Bool) (i : ℕ) (work' : List ℕ) (m' : Item) (twice' : Bool) (i' : ℕ) : Type 0 where
-  pub onward : i ≤ i'
-  pub front : take at work' ≡ take at work
-  pub goes : (ts : Types) (word : ℕ) (rs : List Range) → typed o rs ts ≡ unless·twice twice (types·held work at count) → Goes·on text work to count o ts word rs m i (types·held work' at count) m' twice' i'

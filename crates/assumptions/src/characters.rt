@@ -26,7 +26,6 @@ use super::parts::Part;
 use super::parts::number_part;
 use super::parts::whole_part;
 use super::parts::word_part;
-use super::runs::pass_numbers;
 use super::told::word_number;
 use super::types::type_range;
 use block::CharacterOrdering;
@@ -236,7 +235,7 @@ fn end_at_comma(verdict: Judged, behind: usize) -> ListAnswer
     }
 }
 
-// A list, up to a comma or the end: a run of numbers, then another word, and so on.
+// A list, word by word, up to a comma or the end.
 fn list_walk(
     text: &[u8],
     work: &mut [u32],
@@ -256,19 +255,16 @@ fn list_walk(
     let mut twice = false;
     let mut i = from;
     loop {
-        let run = pass_numbers(text, work, i, to, at, count, ordering, item, twice);
-        let place = run.item;
-        let again = run.twice;
-        let j = next_word(text, work, run.next, to);
+        let j = next_word(text, work, i, to);
         if to <= j {
-            let end = list_end(work, at, count, ordering, word, place, again);
+            let end = list_end(work, at, count, ordering, word, item, twice);
             return ListAnswer::Judged(end);
         }
         if punct(text, work, j, b',') {
-            let end = list_end(work, at, count, ordering, word, place, again);
+            let end = list_end(work, at, count, ordering, word, item, twice);
             return end_at_comma(end, j + 1);
         }
-        match list_word(text, work, j, at, count, ordering, place, again) {
+        match list_word(text, work, j, at, count, ordering, item, twice) {
             WordAnswer::On(m, t) => {
                 item = m;
                 twice = t;

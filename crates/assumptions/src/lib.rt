@@ -5,7 +5,6 @@ pub mod characters;
 pub mod heads;
 pub mod items;
 pub mod parts;
-pub mod runs;
 pub mod told;
 pub mod types;
 pub mod typeset;

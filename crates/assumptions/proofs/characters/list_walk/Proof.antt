@@ -1,7 +1,6 @@
--- The function `list_walk` meets its contract. A turn passes a run of numbers and one word more. The measure is what is left up to the end. Assumes nothing.
+-- The function `list_walk` meets its contract. A turn passes one word. The measure is what is left up to the end. Assumes nothing.
 use Prim.Native.Nat.{ℕ, _-_}
 use Rattle.assumptions.proofs.ListWalks.{Listing, listing-start, listing-turn, listing-over, listing-comma, listing-end}
-use Rattle.assumptions.proofs.NumberRuns.{listing-passed}
 use Rattle.assumptions.proofs.characters.list_walk.Statement.{statement}
 use Rattle.assumptions.proofs.characters.list_walk.Tie as tie
 use Rattle.assumptions.specs.ListCode.{list·then}
@@ -16,15 +15,8 @@ Inv-loop text work₀ word ordering from to at count item₀ twice₀ i₀ work 
 abbrev μ-loop : tie.MeasureT-loop
 μ-loop text work₀ word ordering from to at count item₀ twice₀ i₀ work item twice i = to - i
 
--- the list behind the numbers
-passed : (c : tie.After-pass-numbers Inv-loop μ-loop) → let s = c .before .before .before .before .before .args in let run = c .pass-numbers in Listing (s .text .now) (s .to) (s .at) (s .count) (s .ordering) (s .word) (s .from) (s .work .now) (run .last .1 .0) (run .result .item) (run .result .twice) (run .result .next)
-passed c = listing-passed _ _ _ _ _ _ _ _ (c .before .before .before .before .before .pre .0) _ _ _ _ (c .before .before .loop .inv) _ _ _ _ (c .pass-numbers .ensures) (c .pass-numbers .kept .1 .0)
-
 loop-holds : tie.Need-loop-holds Inv-loop μ-loop
 loop-holds c = listing-start _ _ _ _ _ _ _ _
-
-pass-numbers-requires : tie.Need-pass-numbers-requires Inv-loop μ-loop
-pass-numbers-requires c κs = search needs
 
 next-word-requires : tie.Need-next-word-requires Inv-loop μ-loop
 next-word-requires c κs = search needs
@@ -38,12 +30,10 @@ same-length c = search needs
 returns : tie.Need-returns Inv-loop μ-loop
 unfolding list·then
 returns c =
-    let next = c .before .before .before .before .before in
-    let run = next .before .before .before .before in
-    let s = run .before .before .before .before .before in
-    let k = passed run in
+    let l = c .before .before .before .before .before .before .before in
+    let s = l .before .before .before in
     let end = c .before .before .list-end .ensures in
-    (end .0 ∙ k .front, (λ j e. let z : _≡_ {A = ℕ} 0 1 = cc in absurd (omega arith), listing-end _ _ _ _ _ _ _ _ (s .pre .0) _ _ _ _ _ k (next .next-word .ensures) (c .before .before .before .before .if1 .taken) _ _ (end .1 _ _ (k .gives))))
+    (end .0 ∙ l .loop .inv .front, (λ j e. let z : _≡_ {A = ℕ} 0 1 = cc in absurd (omega arith), listing-end _ _ _ _ _ _ _ _ (s .pre .0) _ _ _ _ _ (l .loop .inv) (c .before .before .before .before .before .next-word .ensures) (c .before .before .before .before .if1 .taken) _ _ (end .1 _ _ (l .loop .inv .gives))))
 
 punct-requires : tie.Need-punct-requires Inv-loop μ-loop
 punct-requires c κs = search needs
@@ -62,16 +52,14 @@ same-length-2 c = search needs
 
 returns-2 : tie.Need-returns-2 Inv-loop μ-loop
 returns-2 c =
-    let more = c .before .before .before .before .before .before .before .before in
-    let next = more .before in
-    let run = next .before .before .before .before in
-    let s = run .before .before .before .before .before in
-    let k = passed run in
-    let end = c .before .before .before .list-end2 .ensures in (
-      end .0 ∙ k .front,
+    let l = c .before .before .before .before .before .before .before .before .before .before .before in
+    let s = l .before .before .before in
+    let end = c .before .before .before .list-end2 .ensures in
+    let next = c .before .before .before .before .before .before .before .before .before .next-word .ensures in (
+      end .0 ∙ l .loop .inv .front,
       (
-        λ j e. let q = c .end-at-comma .ensures .0 j e in omega (arith, q, next .next-word .ensures .onward, k .onward, more .if1 .left),
-        λ h. c .end-at-comma .ensures .1 _ _ ∙ listing-comma _ _ _ _ _ _ _ _ (s .pre .0) _ _ _ _ _ k (next .next-word .ensures) (more .if1 .left) (sym (c .before .before .before .before .before .before .punct .ensures) ∙ c .before .before .before .before .before .if2 .taken) _ _ (end .1 _ _ (k .gives)) h,
+        λ j e. let k = c .end-at-comma .ensures .0 j e in omega (arith, k, next .onward, l .loop .inv .onward, c .before .before .before .before .before .before .before .before .if1 .left),
+        λ h. c .end-at-comma .ensures .1 _ _ ∙ listing-comma _ _ _ _ _ _ _ _ (s .pre .0) _ _ _ _ _ (l .loop .inv) next (c .before .before .before .before .before .before .before .before .if1 .left) (sym (c .before .before .before .before .before .before .punct .ensures) ∙ c .before .before .before .before .before .if2 .taken) _ _ (end .1 _ _ (l .loop .inv .gives)) h,
       ),
     )
 
@@ -85,22 +73,14 @@ add-i : tie.Need-add-i Inv-loop μ-loop
 add-i c = search needs
 
 loop-less : tie.Need-loop-less Inv-loop μ-loop
-loop-less c =
-    let more = c .before .before .before .before .before .before .before .before .before .before in
-    let next = more .before in
-    let run = next .before .before .before .before in
-    omega (arith, next .next-word .ensures .onward, more .if1 .left, run .pass-numbers .ensures .onward)
+loop-less c = omega (arith, c .before .before .before .before .before .before .before .before .before .before .before .next-word .ensures .onward, c .before .before .before .before .before .before .before .before .before .before .if1 .left)
 
 loop-again : tie.Need-loop-again Inv-loop μ-loop
 loop-again c =
-    let comma = c .before .before .before .before .before .before .before in
-    let more = comma .before .before .before in
-    let next = more .before in
-    let run = next .before .before .before .before in
-    let s = run .before .before .before .before .before in
-    let k = passed run in
+    let l = c .before .before .before .before .before .before .before .before .before .before .before .before .before in
+    let s = l .before .before .before in
     let word = c .before .before .before .before .before .list-word in
-    listing-turn _ _ _ _ _ _ _ _ (s .pre .0) _ _ _ _ _ k (next .next-word .ensures) (more .if1 .left) (sym (comma .before .punct .ensures) ∙ comma .if2 .left) _ _ (word .ensures .1 _ _ (k .gives)) (word .kept .1 .0) (word .ensures .0) _ _ (c .before .m .given .1)
+    listing-turn _ _ _ _ _ _ _ _ (s .pre .0) _ _ _ _ _ (l .loop .inv) (c .before .before .before .before .before .before .before .before .before .before .before .next-word .ensures) (c .before .before .before .before .before .before .before .before .before .before .if1 .left) (sym (c .before .before .before .before .before .before .before .before .punct .ensures) ∙ c .before .before .before .before .before .before .before .if2 .left) _ _ (word .ensures .1 _ _ (l .loop .inv .gives)) (word .kept .1 .0) (word .ensures .0) _ _ (c .before .m .given .1)
 
 enum-known-n : tie.Need-enum-known-n Inv-loop μ-loop
 enum-known-n c = search needs
@@ -111,17 +91,13 @@ same-length-3 c = search needs
 returns-3 : tie.Need-returns-3 Inv-loop μ-loop
 unfolding list·then judged
 returns-3 c =
-    let comma = c .before .before .before .before .before .before .before in
-    let more = comma .before .before .before in
-    let next = more .before in
-    let run = next .before .before .before .before in
-    let s = run .before .before .before .before .before in
-    let k = passed run in
+    let l = c .before .before .before .before .before .before .before .before .before .before .before .before .before in
+    let s = l .before .before .before in
     let word = c .before .before .before .before .before .list-word in (
-      word .ensures .0 ∙ k .front,
+      word .ensures .0 ∙ l .loop .inv .front,
       (
         λ j e. let z : _≡_ {A = ℕ} 0 1 = cc in absurd (omega arith),
-        listing-over _ _ _ _ _ _ _ _ (s .pre .0) _ _ _ _ _ k (next .next-word .ensures) (more .if1 .left) (sym (comma .before .punct .ensures) ∙ comma .if2 .left) _ _ (word .ensures .1 _ _ (k .gives)) _ _ (c .before .n .given .1),
+        listing-over _ _ _ _ _ _ _ _ (s .pre .0) _ _ _ _ _ (l .loop .inv) (c .before .before .before .before .before .before .before .before .before .before .before .next-word .ensures) (c .before .before .before .before .before .before .before .before .before .before .if1 .left) (sym (c .before .before .before .before .before .before .before .before .punct .ensures) ∙ c .before .before .before .before .before .before .before .if2 .left) _ _ (word .ensures .1 _ _ (l .loop .inv .gives)) _ _ (c .before .n .given .1),
       ),
     )
 
@@ -132,7 +108,6 @@ list-walk-spec =
     Inv-loop
     μ-loop
     loop-holds
-    pass-numbers-requires
     next-word-requires
     list-end-requires
     same-length
