@@ -1,9 +1,10 @@
 -- Words of digits alone that are told by their bytes at once: the number that one spells, and the one part of a list that it is. Assumes nothing.
-use Prim.Native.Nat.{ℕ, suc, _+_, _*_, _-_, _≤_, _<_}
+use Prim.Native.Nat.{ℕ, zero, suc, _+_, _*_, _-_, _≤_, _<_}
 use Rattle.assumptions.proofs.ListWalks.{then-done}
 use Rattle.assumptions.proofs.PartLaws.{plain-told}
 use Rattle.assumptions.specs.ListCode.{Follows}
 use Rattle.assumptions.specs.ListParts.{Spells, told}
+use Rattle.assumptions.specs.ToldWords.{told·number}
 use Rattle.assumptions.specs.declared.characters.WordAnswer.{WordAnswer}
 use Rattle.block.specs.CharacterList.{part, parts, to·dash, cut·from, Listed, part·turn, list·turn}
 use Rattle.block.specs.Outcome.{fold}
@@ -17,9 +18,9 @@ use Rattle.lexer.specs.ByteBlocks.{plain?}
 use Rattle.lexer.specs.Lexing.{token·at}
 use Rattle.lexer.specs.PlainWords.{ends?}
 use Rattle.lexer.specs.Words.{Numbered, digits, is, largest, positive, unsigned, word?}
-use borrow.Author.Tests.{leb-true, le-leb, lt-leb, ne-eqb}
+use borrow.Author.Tests.{leb-true, leb-false, le-leb, lt-leb, ne-eqb}
 use lib.Dec.{eqb, leb}
-use lib.ListN.{length, getD, take, drop}
+use lib.ListN.{length, getD, take, drop, drop-of-length-le}
 use mathlib.Core.Bool.{true, false, _&&_}
 use mathlib.Core.List.{List, [], _∷_}
 use mathlib.Core.Path.{_≡_, refl, sym, ap, _∙_}
@@ -30,13 +31,13 @@ unfolding plain?
 digit-plain b low high = rw (le-leb 45 b (omega arith), le-leb b 57 high, ne-eqb b 47 (λ e. omega arith)) refl
 
 -- Digits from a place up to another, and the number that they spell.
-pub record Spelling (text : List ℕ) (start n i : ℕ) : Type 0 where
+record Spelling (text : List ℕ) (start n i : ℕ) : Type 0 where
   pub plain : Plain·to text start i
   pub begun : 0 < n → start < i
   pub small : n ≤ 18446744073709551615
   pub rest : (end : ℕ) → i ≤ end → digits 0 (take (end - start) (drop start text)) ≡ digits n (take (end - i) (drop i text))
 
-pub spelling-start : (text : List ℕ) (start : ℕ) → Spelling text start 0 start
+spelling-start : (text : List ℕ) (start : ℕ) → Spelling text start 0 start
 spelling-start text start = record { plain = plain-start text start; begun = λ h. absurd (omega arith); small = omega arith; rest = λ end h. refl }
 
 module _ (text : List ℕ) (start n i : ℕ) (k : Spelling text start n i) (h : i < length text) where
@@ -47,7 +48,7 @@ module _ (text : List ℕ) (start n i : ℕ) (k : Spelling text start n i) (h : 
         let more : end - i ≡ suc (end - (i + 1)) = omega arith in
         rw (more, drop-next text i h, le-leb 48 (getD text i 0) low, le-leb (getD text i 0) 57 high) refl
 
-    pub spelling-turn : n * 10 + (getD text i 0 - 48) ≤ 18446744073709551615 → Spelling text start (n * 10 + (getD text i 0 - 48)) (i + 1)
+    spelling-turn : n * 10 + (getD text i 0 - 48) ≤ 18446744073709551615 → Spelling text start (n * 10 + (getD text i 0 - 48)) (i + 1)
     spelling-turn l =
         let ahead = k .plain .ahead in
         record {
@@ -57,7 +58,7 @@ module _ (text : List ℕ) (start n i : ℕ) (k : Spelling text start n i) (h : 
           rest = λ end e. k .rest end (omega arith) ∙ digits-next end e;
         }
 
-  pub spelling-end : ends? (getD text i 0) ≡ true → 0 < n → Spells (token·at text start) n
+  spelling-end : ends? (getD text i 0) ≡ true → 0 < n → Spells (token·at text start) n
   unfolding digits largest
   spelling-end e some =
       let word = word-told text start i (k .begun some) h (k .plain .each) e in
@@ -68,6 +69,58 @@ module _ (text : List ℕ) (start n i : ℕ) (k : Spelling text start n i) (h : 
         some = some;
         small = le-leb n 18446744073709551615 (k .small);
       }
+
+-- What a word is told to spell, byte by byte.
+pub told-over : (text : List ℕ) (n i : ℕ) → length text ≤ i → told·number n (drop i text) ≡ 0
+unfolding told·number
+told-over text n i h = rw (drop-of-length-le text h) refl
+
+module _ (text : List ℕ) (n i : ℕ) (h : i < length text) where
+  abbrev b : ℕ
+  b = getD text i 0
+
+  pub told-digit : leb 48 b && leb b 57 ≡ true → n < 1844674407370955160 → told·number n (drop i text) ≡ told·number (n * 10 + (b - 48)) (drop (i + 1) text)
+  unfolding told·number pick
+  told-digit digit short = rw (drop-next text i h, digit, lt-leb 1844674407370955160 n short) refl
+
+  pub told-long : leb 48 b && leb b 57 ≡ true → 1844674407370955160 ≤ n → told·number n (drop i text) ≡ 0
+  unfolding told·number pick
+  told-long digit long = rw (drop-next text i h, digit, le-leb 1844674407370955160 n long) refl
+
+  pub told-end : leb 48 b && leb b 57 ≡ false → ends? b ≡ true → told·number n (drop i text) ≡ n
+  unfolding told·number pick
+  told-end other end = rw (drop-next text i h, other, end) refl
+
+  pub told-other : leb 48 b && leb b 57 ≡ false → ends? b ≡ false → told·number n (drop i text) ≡ 0
+  unfolding told·number pick
+  told-other other on = rw (drop-next text i h, other, on) refl
+
+-- A word that is told to be a number spells it.
+module _ (text : List ℕ) (start : ℕ) where
+  spells-from : (left n i m : ℕ) → i + left ≡ length text → Spelling text start n i → told·number n (drop i text) ≡ m → 0 < m → Spells (token·at text start) m
+  spells-from zero n i m e k v some = let none = told-over text n i (omega arith) in absurd (omega (arith, v, none))
+  spells-from (suc left) n i m e k v some =
+      let b = getD text i 0 in
+      let more : i < length text = omega arith in
+      by-test (leb 48 b && leb b 57)
+      (λ digit.
+      by-test (leb 1844674407370955160 n)
+      (λ long. let none = told-long text n i more digit (leb-true 1844674407370955160 n long) in absurd (omega (arith, v, none)))
+      (λ short.
+      let below = leb-false 1844674407370955160 n short in
+      let low = leb-true 48 b (and-left (leb 48 b) (leb b 57) digit) in
+      let high = leb-true b 57 (and-right (leb 48 b) (leb b 57) digit) in
+      spells-from left (n * 10 + (b - 48)) (i + 1) m (omega arith) (spelling-turn text start n i k more low high (omega arith)) (sym (told-digit text n i more digit below) ∙ v) some))
+      (λ other.
+      by-test (ends? b)
+      (λ end. let value : n ≡ m = sym (told-end text n i more other end) ∙ v in rw (← value) (spelling-end text start n i k more end (omega arith)))
+      (λ on. let none = told-other text n i more other on in absurd (omega (arith, v, none))))
+
+  pub told-spells : 0 < told·number 0 (drop start text) → Spells (token·at text start) (told·number 0 (drop start text))
+  told-spells some =
+      by-test (leb start (length text))
+      (λ t. let h = leb-true start (length text) t in spells-from (length text - start) 0 start (told·number 0 (drop start text)) (omega arith) (spelling-start text start) refl some)
+      (λ f. let h = leb-false start (length text) f in let none = told-over text 0 start (omega arith) in absurd (omega (arith, none, some)))
 
 -- Where digits spell a number that is not 0, the first byte is a digit, and the others spell one behind it.
 module _ (m b : ℕ) (r : List ℕ) (h : 0 < digits m (b ∷ r)) where

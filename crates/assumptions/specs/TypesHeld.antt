@@ -3,15 +3,13 @@ use Prim.Native.Nat.{ℕ, zero, suc}
 use Rattle.assumptions.specs.declared.assumptions.OptionsAnswer.{OptionsAnswer}
 use Rattle.assumptions.specs.declared.assumptions.TypeWord.{TypeWord}
 use Rattle.block.specs.Outcome.{Outcome, done, refused}
-use Rattle.block.specs.Typeset.{Types, ordering}
+use Rattle.block.specs.Typeset.{Types}
 use Rattle.block.specs.declared.model.CharacterOrdering.{CharacterOrdering}
 use Rattle.lexer.specs.Base.{pick}
-use Rattle.lexer.specs.Lexing.{word·at}
 use lib.ListN.{getD}
 use mathlib.Core.Bool.{Bool}
 use mathlib.Core.List.{List, [], _∷_}
 use mathlib.Core.Option.{Option, none, some}
-use mathlib.Core.Path.{_≡_}
 
 -- The number of a type.
 unfoldable pub type·number : CharacterOrdering → ℕ
@@ -33,10 +31,6 @@ types·held work at (suc n) = let more = types·held work (suc at) n in type·of
 unfoldable pub type·word : TypeWord → Option CharacterOrdering
 type·word (TypeWord.Type o) = some o
 type·word TypeWord.None = none
-
--- A type that is told of the word at a place is the type of that word.
-abbrev pub Type·told : List ℕ → ℕ → Option CharacterOrdering → Type 0
-Type·told text start told = (o : CharacterOrdering) → told ≡ some o → ordering (word·at text start) ≡ some o
 
 unfoldable pub options·answer : OptionsAnswer → Outcome CharacterOrdering
 options·answer (OptionsAnswer.Type o) = done o

@@ -1,13 +1,15 @@
 // ASSUMPTIONS, after assumptions.rs: what its words come to, and OPTIONS.
 
 ghost use Rattle.assumptions.specs.NextWord.{Next};
-ghost use Rattle.assumptions.specs.TypesHeld.{Type·told, options·answer, type·word};
+ghost use Rattle.assumptions.specs.ToldWords.{told·type};
+ghost use Rattle.assumptions.specs.TypesHeld.{options·answer, type·word};
 ghost use Rattle.block.specs.Blocks.{options};
 ghost use Rattle.block.specs.Commands.{words};
 ghost use Rattle.block.specs.Outcome.{need};
 ghost use Rattle.block.specs.Typeset.{ordering};
 ghost use Rattle.lexer.specs.Stored.{word·of, range};
 ghost use Rattle.lexer.specs.declared.refusal.Refusal as R;
+ghost use lib.ListN.{drop};
 ghost use mathlib.Core.Path.{_≡_};
 use super::told::key_told;
 use block::CharacterOrdering;
@@ -57,7 +59,7 @@ pub fn next_word(text: &[u8], work: &[u32], from: usize, to: usize) -> usize
 
 // The type that the word at a place is, if that is told by its bytes at once.
 fn told_type(text: &[u8], start: usize) -> TypeWord
-    ensures { λ r. ⌜ Type·told (now (text .entry)) start (type·word r) ⌝ }
+    ensures { λ r. ⌜ type·word r ≡ told·type (drop start (now (text .entry))) ⌝ }
 {
     if key_told(text, start, b"ORD") {
         return TypeWord::Type(CharacterOrdering::Ordered);

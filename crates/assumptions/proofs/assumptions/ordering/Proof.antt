@@ -1,5 +1,5 @@
 -- The function `ordering` meets its contract: the type was told by the word's bytes, or is that of any word. Assumes nothing.
-use Rattle.assumptions.proofs.KeyWords.{type-there}
+use Rattle.assumptions.proofs.KeyWords.{told-type, type-there}
 use Rattle.assumptions.proofs.assumptions.ordering.Statement.{statement}
 use Rattle.assumptions.proofs.assumptions.ordering.Tie as tie
 use Rattle.assumptions.specs.TypesHeld.{type·word}
@@ -25,7 +25,7 @@ returns : tie.Need-returns
 unfolding type·word
 returns c =
     let told = c .before .before .before in
-    sym (sym (type-there _ _ _ _ (told .before .start-of .ensures)) ∙ told .told-type .ensures _ (ap type·word (c .before .o .given .1)))
+    sym (sym (type-there _ _ _ _ (told .before .start-of .ensures)) ∙ told-type _ _ _ (sym (told .told-type .ensures) ∙ ap type·word (c .before .o .given .1)))
 
 returns-2 : tie.Need-returns-2
 returns-2 c = search needs

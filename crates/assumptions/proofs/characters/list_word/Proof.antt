@@ -1,13 +1,15 @@
 -- The function `list_word` meets its contract. Assumes nothing.
 use Prim.Native.Nat.{_<_}
-use Rattle.assumptions.proofs.DigitWords.{number-follows}
+use Rattle.assumptions.proofs.DigitWords.{number-follows, told-spells}
 use Rattle.assumptions.proofs.ListWalks.{whole-follows}
 use Rattle.assumptions.proofs.characters.list_word.Statement.{statement}
 use Rattle.assumptions.proofs.characters.list_word.Tie as tie
+use Rattle.assumptions.specs.ToldWords.{told·number}
 use Rattle.lexer.proofs.KindTags.{tags-other}
 use Rattle.lexer.specs.Stored.{word·of}
 use Rattle.lexer.specs.Words.{word?}
 use borrow.Author.Needs.{needs}
+use lib.ListN.{drop}
 use mathlib.Core.Path.{refl}
 use native.Mathlib.Omega.{arith}
 
@@ -31,8 +33,11 @@ unfolding word·of
 returns c =
     let told = c .before .before .before .before .before in
     let turn = c .before .before .part-turn .ensures in
-    let n : 0 < told .before .word-number .result = omega (arith, told .if1 .taken) in
-    let spells = rw (told .before .before .start-of .ensures) at (told .before .word-number .ensures n) in
+    let value = told .before .word-number .ensures in
+    let s = told .before .before .before .before .before .before .args in
+    let start = told .before .before .start-of .result in
+    let n : 0 < told·number 0 (drop start (s .text .now)) = omega (arith, value, told .if1 .taken) in
+    let spells = rw (← value, told .before .before .start-of .ensures) at (told-spells (s .text .now) start n) in
     (turn .0, λ rs ts g. number-follows _ _ _ spells _ _ _ _ _ (turn .1 _ (c .before .before .before .before .number-part .ensures _ refl spells) rs ts g))
 
 kind-at-requires : tie.Need-kind-at-requires

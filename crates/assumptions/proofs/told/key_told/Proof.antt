@@ -1,42 +1,46 @@
--- The function `key_told` meets its contract. A turn passes one byte of the key and one of the word. The measure is what is left of the key.
+-- The function `key_told` meets its contract. A turn passes one byte of the keyword and one of the word. The measure is what is left of the keyword.
 -- Assumes nothing.
-use Prim.Native.Nat.{_-_}
-use Rattle.assumptions.proofs.KeyWords.{Matching, matching-start, matching-turn, matching-end}
+use Prim.Native.Nat.{_+_, _-_, _≤_}
+use Rattle.assumptions.proofs.KeyWords.{keyword-end, keyword-off, keyword-on, keyword-short}
 use Rattle.assumptions.proofs.told.key_told.Statement.{statement}
 use Rattle.assumptions.proofs.told.key_told.Tie as tie
+use Rattle.assumptions.specs.ToldWords.{told·keyword}
 use borrow.Author.Needs.{needs}
-use borrow.Author.Tests.{not-false}
-use lib.ListN.{length}
-use mathlib.Core.Bool.{false≢true}
-use mathlib.Core.Path.{sym, _∙_}
+use borrow.Author.Tests.{not-false, not-true}
+use lib.ListN.{length, drop, length-drop}
+use mathlib.Core.Path.{_≡_, refl, sym, _∙_}
 use native.Mathlib.Omega.{arith}
 
 abbrev Inv-loop : tie.InvT-loop
-Inv-loop text start key k₀ k = Matching text key start k
+Inv-loop text start keyword k₀ k = (k ≤ length keyword) × (told·keyword (drop k keyword) (drop (start + k) text) ≡ told·keyword keyword (drop start text))
 
 abbrev μ-loop : tie.MeasureT-loop
-μ-loop text start key k₀ k = length key - k
+μ-loop text start keyword k₀ k = length keyword - k
 
 returns : tie.Need-returns Inv-loop μ-loop
-returns c = λ t. absurd (false≢true t)
+returns c =
+    let s = c .before .before .before .args in
+    sym (keyword-short (s .keyword .now) (drop (s .start) (s .text .now)) (omega (arith, length-drop (s .start) (s .text .now), c .if1 .taken)))
 
 sub-if2 : tie.Need-sub-if2 Inv-loop μ-loop
 sub-if2 c = search needs
 
 returns-2 : tie.Need-returns-2 Inv-loop μ-loop
-returns-2 c = λ t. absurd (false≢true t)
+returns-2 c =
+    let s = c .before .before .before .before .args in
+    sym (keyword-short (s .keyword .now) (drop (s .start) (s .text .now)) (omega (arith, length-drop (s .start) (s .text .now), c .if2 .taken)))
 
 loop-holds : tie.Need-loop-holds Inv-loop μ-loop
-loop-holds c = matching-start _ _ _
+loop-holds c =
+    let s = c .before .before .before .before .args in
+    let here : s .start + 0 ≡ s .start = omega arith in
+    (omega arith, rw here refl)
 
 add-b : tie.Need-add-b Inv-loop μ-loop
 add-b c = search needs
 
 shared-slice-read-b : tie.Need-shared-slice-read-b Inv-loop μ-loop
 shared-slice-read-b c = search needs
-
-returns-3 : tie.Need-returns-3 Inv-loop μ-loop
-returns-3 c = λ t. absurd (false≢true t)
 
 lower-requires : tie.Need-lower-requires Inv-loop μ-loop
 lower-requires c κs = search needs
@@ -47,8 +51,12 @@ shared-slice-read-lower c = search needs
 lower-requires-2 : tie.Need-lower-requires-2 Inv-loop μ-loop
 lower-requires-2 c κs = search needs
 
-returns-4 : tie.Need-returns-4 Inv-loop μ-loop
-returns-4 c = λ t. absurd (false≢true t)
+returns-3 : tie.Need-returns-3 Inv-loop μ-loop
+returns-3 c =
+    let l = c .before .before .before .before .before in
+    let s = l .before .before .before .before .before .before .args in
+    let k = l .before .loop .k in
+    sym (keyword-off (s .text .now) (s .keyword .now) (s .start + k) k (omega arith) (l .loop-test .taken) _ _ (c .before .before .before .lower .ensures) (c .before .lower2 .ensures) (not-true _ (c .if3 .taken))) ∙ l .before .loop .inv .1
 
 add-k : tie.Need-add-k Inv-loop μ-loop
 add-k c = search needs
@@ -58,19 +66,12 @@ loop-less c = search needs
 
 loop-again : tie.Need-loop-again Inv-loop μ-loop
 loop-again c =
-    let b = c .before .before .before in
-    let l = b .before .before .before in
-    let a = l .before .before in
-    matching-turn
-    _
-    _
-    _
-    _
-    (l .before .loop .inv)
-    (omega (arith, l .loop-test .taken, a .if2 .left, a .before .if1 .left))
-    (l .loop-test .taken)
-    (not-false _ (b .before .if3 .left))
-    (sym (b .lower .ensures) ∙ c .if4 .left ∙ c .before .lower2 .ensures)
+    let l = c .before .before .before .before .before in
+    let s = l .before .before .before .before .before .before .args in
+    let k = l .before .loop .k in
+    let there : s .start + k + 1 ≡ s .start + (k + 1) = omega arith in
+    let next = keyword-on (s .text .now) (s .keyword .now) (s .start + k) k (omega arith) (l .loop-test .taken) _ _ (c .before .before .before .lower .ensures) (c .before .lower2 .ensures) (not-false _ (c .if3 .left)) in
+    (omega arith, sym (rw there at next) ∙ l .before .loop .inv .1)
 
 add-ends-word : tie.Need-add-ends-word Inv-loop μ-loop
 add-ends-word c = search needs
@@ -81,21 +82,11 @@ shared-slice-read-ends-word c = search needs
 ends-word-requires : tie.Need-ends-word-requires Inv-loop μ-loop
 ends-word-requires c κs = search needs
 
-returns-5 : tie.Need-returns-5 Inv-loop μ-loop
-returns-5 c =
+returns-4 : tie.Need-returns-4 Inv-loop μ-loop
+returns-4 c =
     let l = c .before .before in
-    let a = l .before .before in
-    λ t.
-    matching-end
-    _
-    _
-    _
-    _
-    (l .before .loop .inv)
-    (omega (arith, l .before .loop .inv .within, a .if2 .left, a .before .if1 .left))
-    (omega (arith, l .loop-test .left))
-    (a .before .before .before .before .pre)
-    (sym (c .ends-word .ensures) ∙ t)
+    let s = l .before .before .before .before .before .before .args in
+    c .ends-word .ensures ∙ sym (keyword-end (s .text .now) (s .keyword .now) (s .start + l .before .loop .k) (l .before .loop .k) (omega arith) (l .loop-test .left)) ∙ l .before .loop .inv .1
 
 pub key-told-spec : {M : Type 1} → statement M
 key-told-spec =
@@ -109,15 +100,14 @@ key-told-spec =
     loop-holds
     add-b
     shared-slice-read-b
-    returns-3
     lower-requires
     shared-slice-read-lower
     lower-requires-2
-    returns-4
+    returns-3
     add-k
     loop-less
     loop-again
     add-ends-word
     shared-slice-read-ends-word
     ends-word-requires
-    returns-5)
+    returns-4)
