@@ -32,10 +32,10 @@ digit-plain b low high = rw (le-leb 45 b (omega arith), le-leb b 57 high, ne-eqb
 
 -- Digits from a place up to another, and the number that they spell.
 record Spelling (text : List ℕ) (start n i : ℕ) : Type 0 where
-  pub plain : Plain·to text start i
-  pub begun : 0 < n → start < i
-  pub small : n ≤ 18446744073709551615
-  pub rest : (end : ℕ) → i ≤ end → digits 0 (take (end - start) (drop start text)) ≡ digits n (take (end - i) (drop i text))
+  plain : Plain·to text start i
+  begun : 0 < n → start < i
+  small : n ≤ 18446744073709551615
+  rest : (end : ℕ) → i ≤ end → digits 0 (take (end - start) (drop start text)) ≡ digits n (take (end - i) (drop i text))
 
 spelling-start : (text : List ℕ) (start : ℕ) → Spelling text start 0 start
 spelling-start text start = record { plain = plain-start text start; begun = λ h. absurd (omega arith); small = omega arith; rest = λ end h. refl }

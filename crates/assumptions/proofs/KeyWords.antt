@@ -30,9 +30,9 @@ letter-plain b h =
 
 -- So many bytes of a key, and as many of a text that are alike.
 record Matching (text key : List ℕ) (start k : ℕ) : Type 0 where
-  pub plain : Plain·to text start (start + k)
-  pub within : k ≤ length key
-  pub rest : (end : ℕ) → start + k ≤ end → alike key (take (end - start) (drop start text)) ≡ alike (drop k key) (take (end - (start + k)) (drop (start + k) text))
+  plain : Plain·to text start (start + k)
+  within : k ≤ length key
+  rest : (end : ℕ) → start + k ≤ end → alike key (take (end - start) (drop start text)) ≡ alike (drop k key) (take (end - (start + k)) (drop (start + k) text))
 
 matching-start : (text key : List ℕ) (start : ℕ) → Matching text key start 0
 matching-start text key start =
@@ -121,7 +121,7 @@ module _ (text key : List ℕ) (start : ℕ) where
       keyword-over : (k : ℕ) → length text ≤ start + k → told·keyword (drop k key) (drop (start + k) text) ≡ false
       keyword-over k past = rw (drop-of-length-le text past) (keyword-short (drop k key) [] (omega arith))
 
-  pub told-keyword : 0 < length key → told·keyword key (drop start text) ≡ true → is key (word·at text start) ≡ true
+  told-keyword : 0 < length key → told·keyword key (drop start text) ≡ true → is key (word·at text start) ≡ true
   told-keyword long t =
       let here : start + 0 ≡ start = omega arith in
       by-test (ltb (start + 0) (length text))
@@ -142,7 +142,7 @@ unfolding alike bytes lower pick
 unord-other [] h = absurd (false≢true h)
 unord-other (b ∷ r) h = let e = eqb-true 117 (pick (leb 65 b && leb b 90) (b + 32) b) (and-left (eqb 117 (pick (leb 65 b && leb b 90) (b + 32) b)) (alike (bytes "NORD") r) h) in rw (← e) refl
 
-pub not-ord : (w : Numbered) → is (bytes "UNORD") w ≡ true → is (bytes "ORD") w ≡ false
+not-ord : (w : Numbered) → is (bytes "UNORD") w ≡ true → is (bytes "ORD") w ≡ false
 unfolding is
 not-ord w h = rw (unord-other (w .token .text) (and-right (word? (w .token .kind)) (alike (bytes "UNORD") (w .token .text)) h)) (and-false (word? (w .token .kind)))
 

@@ -66,7 +66,7 @@ pub enum ListAnswer {
 }
 
 // Types a range that is complete, unless a character was typed twice before: was one now?
-pub fn type_next(
+fn type_next(
     work: &mut [u32],
     at: usize,
     count: usize,
