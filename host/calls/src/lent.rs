@@ -67,6 +67,15 @@ impl<T: Element> Lent<T> {
         lent
     }
 
+    /// One element of rubbish, for a number that a call sets. Valgrind is told that nothing may hang on
+    /// what it holds, and that what is beside it is closed.
+    pub fn one(rubbish: Rubbish) -> Self {
+        let mut lent = Self::new(1, 0, rubbish);
+        lent.close_beside();
+        lent.make_undefined();
+        lent
+    }
+
     pub fn slice(&mut self) -> &mut [T] {
         &mut self.all[self.from..self.from + self.length]
     }

@@ -19,24 +19,25 @@ const LANGUAGES: &[(&str, &str, &[&str])] = &[
 /// Runs a compiler on tests/read.c; every warning is an error.
 #[track_caller]
 fn compile(compiler: &str, language: &str, standard: &str, more: &[&str], to: &Path) {
-    let mut command = Command::new(compiler);
-    command.args(["-Wall", "-Wextra", "-Wpedantic", "-Wconversion", "-Werror"]);
-    command.args(["-x", language, &format!("-std={standard}"), "-I"]);
-    command.arg(repository().join("include"));
+    let mut command = common::compiler(compiler, standard);
+    command.args(["-x", language]);
     command
         .arg(repository().join("host/calls/tests/read.c"))
         .args(["-x", "none"]);
-    command.args(more).arg("-o").arg(to);
-    let output = command.output();
-    let output = output.unwrap_or_else(|error| panic!("{compiler} does not run: {error}"));
-    let said = String::from_utf8_lossy(&output.stderr);
-    assert!(output.status.success(), "{command:?}:\n{said}");
+    common::compile(command.args(more).arg("-o").arg(to));
 }
 
 /// What the program prints of a text.
+#[track_caller]
 fn printed(program: &Path, words: &[&str], text: &[u8]) -> Vec<u8> {
     let mut command = Command::new(program);
-    common::run(command.args(words), [text].into_iter()).stdout
+    let output = common::run(command.args(words), [text].into_iter());
+    let status = output.status;
+    assert!(
+        matches!(status.code(), Some(0 | 1)),
+        "{command:?}: {status}"
+    );
+    output.stdout
 }
 
 #[test]

@@ -58,14 +58,10 @@ impl Checker {
         let shift = self.calls as usize % 8;
         let mut held = Lent::holding(record, shift, rubbish);
         let mut asked = Lent::holding(name, 7 - shift, rubbish);
-        let mut number = Lent::<u32>::new(1, 0, rubbish);
-        let mut start = Lent::<usize>::new(1, 0, rubbish);
+        let mut number = Lent::<u32>::one(rubbish);
+        let mut start = Lent::<usize>::one(rubbish);
         held.close_beside();
         asked.close_beside();
-        number.close_beside();
-        number.make_undefined();
-        start.close_beside();
-        start.make_undefined();
         self.calls += 1;
         let length = nexus_lookup(
             held.slice(),

@@ -1,6 +1,5 @@
 //! The check of one text.
 
-use nexus::archive::nexus_read;
 use nexus::{longest_record, work_needed};
 use oracle::answer::{self, Answer, ENOUGH, Refusal};
 
@@ -22,6 +21,37 @@ struct Given {
     number: u32,
     line: usize,
     column: usize,
+}
+
+/// The three numbers that a call is lent, each between numbers that it is not.
+struct Numbers {
+    number: Lent<u32>,
+    line: Lent<usize>,
+    column: Lent<usize>,
+}
+
+impl Numbers {
+    fn new(rubbish: Rubbish) -> Self {
+        Self {
+            number: Lent::one(rubbish),
+            line: Lent::one(rubbish),
+            column: Lent::one(rubbish),
+        }
+    }
+
+    /// They may be read again, once the call is made.
+    fn open(&self) {
+        self.number.open_behind(1);
+        self.line.open_behind(1);
+        self.column.open_behind(1);
+    }
+
+    /// What has changed beside them, in words.
+    fn changed_beside(&self) -> Vec<String> {
+        let number = self.number.changed_beside("the number");
+        let line = self.line.changed_beside("the line");
+        [number, line, self.column.changed_beside("the column")].concat()
+    }
 }
 
 impl Checker {
@@ -98,7 +128,7 @@ impl Checker {
         work.make_undefined();
         buffer.close_beside();
         buffer.make_undefined();
-        let given = self.given(held.slice(), work.slice(), buffer.slice(), rubbish);
+        let (given, beside) = self.given(held.slice(), work.slice(), buffer.slice(), rubbish);
         let length = given.length.min(lengths.buffer);
         held.open_behind(text.len());
         work.open_behind(0);
@@ -115,6 +145,7 @@ impl Checker {
         wrong.extend(buffer.changed_beside("the buffer"));
         wrong.extend(work.changed_beside("work memory"));
         wrong.extend(held.changed_beside("the text"));
+        wrong.extend(beside);
         let call = || format!("{lengths:?}, {rubbish:?}");
         judged(call, || words(&expected), given, wrong)
     }
@@ -133,31 +164,42 @@ impl Checker {
         let mut left = std::mem::take(&mut self.left);
         left.resize(lengths.work.max(left.len()), 0);
         let mut buffer = vec![0; lengths.buffer];
-        let given = self.given(text, &mut left[..lengths.work], &mut buffer, Rubbish(0));
+        let work = &mut left[..lengths.work];
+        let (given, beside) = self.given(text, work, &mut buffer, Rubbish(0));
         self.left = left;
         let expected = expected(text, full, lengths);
-        let wrong = wrong(&expected, given, &buffer[..given.length.min(enough)]);
+        let mut wrong = wrong(&expected, given, &buffer[..given.length.min(enough)]);
+        wrong.extend(beside);
         let call = || format!("{lengths:?}, work memory as another call has left it");
         judged(call, || words(&expected), given, wrong)
     }
 
+    /// What a call answers, with rubbish in its three numbers, and what has changed beside them.
     fn given(
         &mut self,
         text: &[u8],
         work: &mut [u32],
         buffer: &mut [u8],
         rubbish: Rubbish,
-    ) -> Given {
+    ) -> (Given, Vec<String>) {
         self.calls += 1;
-        let (mut number, mut line) = (rubbish.0, rubbish.0 as usize);
-        let mut column = rubbish.0 as usize;
-        let length = nexus_read(text, work, buffer, &mut number, &mut line, &mut column);
-        Given {
+        let mut numbers = Numbers::new(rubbish);
+        let length = (self.read)(
+            text,
+            work,
+            buffer,
+            &mut numbers.number.slice()[0],
+            &mut numbers.line.slice()[0],
+            &mut numbers.column.slice()[0],
+        );
+        numbers.open();
+        let given = Given {
             length,
-            number,
-            line,
-            column,
-        }
+            number: numbers.number.slice()[0],
+            line: numbers.line.slice()[0],
+            column: numbers.column.slice()[0],
+        };
+        (given, numbers.changed_beside())
     }
 
     /// The call that lends memory itself.

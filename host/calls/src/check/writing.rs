@@ -119,12 +119,10 @@ impl Checker {
         let shift = self.calls as usize % 8;
         let mut held = Lent::holding(record, shift, rubbish);
         let mut buffer = Lent::<u8>::new(room, 7 - shift, rubbish);
-        let mut number = Lent::<u32>::new(1, 0, rubbish);
+        let mut number = Lent::<u32>::one(rubbish);
         held.close_beside();
         buffer.close_beside();
         buffer.make_undefined();
-        number.close_beside();
-        number.make_undefined();
         self.calls += 1;
         let length = nexus_write(held.slice(), buffer.slice(), &mut number.slice()[0]);
         let number_now = number.slice()[0];
