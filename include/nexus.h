@@ -3,11 +3,12 @@
  *
  * Link libnexus_c.a, which `rt staticlib nexus_c` writes to target/staticlib. It is for x86-64.
  *
- * A call works in the memory that it is lent and nowhere else, allocates nothing and keeps nothing,
- * so several threads may call at once, each with memory of its own. Whatever the memory held before
- * does not matter. Of the caller it asks only that no pointer is NULL, even where its length is 0,
- * that each is aligned for its type, and that nothing that the call may write overlaps anything else
- * that it is lent.
+ * A call works in the memory that it is lent and on the stack of its thread, of which it needs at most
+ * NEXUS_STACK_NEEDED bytes, and nowhere else. It allocates nothing and keeps nothing, so several
+ * threads may call at once, each with memory of its own. Whatever the memory held before does not
+ * matter. Of the caller it asks only that so much of the stack is free, that no pointer is NULL, even
+ * where its length is 0, that each is aligned for its type, and that nothing that the call may write
+ * overlaps anything else that it is lent.
  */
 #ifndef NEXUS_H
 #define NEXUS_H
@@ -21,6 +22,10 @@ extern "C" {
 
 /* The longest text that is read, and the longest form that is written, in bytes. */
 #define NEXUS_TEXT_LIMIT 1048576
+
+/* How many bytes of stack a call needs at most: 256 KiB. nexus_write and nexus_lookup take most of it
+ * for any record, nexus_read little. A thread that may have less must be given more. */
+#define NEXUS_STACK_NEEDED 262144
 
 /* How many numbers of work memory a text of so many bytes needs. */
 #define NEXUS_WORK_NEEDED(text_length) (4 * (size_t)(text_length) + 64)

@@ -1,11 +1,9 @@
-//! The calls on a thread with a small stack. They have no memory but what is lent and fixed local
-//! tables, of which the longest take 189 KiB together, for many names.
+//! The calls on a thread that has the stack which include/nexus.h asks for, and no more. They have no
+//! memory but what is lent and fixed local tables, of which the longest, for the names of a record,
+//! take 189 KiB together.
 
 use inputs::taxa::{self, Declared};
-use nexus::{Refusal, lookup, read_into, work_needed, write_into};
-
-/// The stack of a thread on which every call must come to its end.
-const STACK: usize = 256 * 1024;
+use nexus::{Refusal, STACK_NEEDED, lookup, read_into, work_needed, write_into};
 
 /// A name that no taxon has.
 const ABSENT: &[u8] = b"no such name";
@@ -22,10 +20,11 @@ fn all_calls(text: &[u8], work: &mut [u32], kept: &mut [u8], form: &mut [u8]) ->
     length
 }
 
-/// Does something on a thread with a small stack, and says whether it came to its end.
+/// Does something on a thread with a small stack, and says whether it came to its end. Where the stack
+/// is too small the whole test ends.
 fn on_small_stack(name: &str, run: impl FnOnce() + Send + 'static) {
     let small = std::thread::Builder::new().name(name.into());
-    let thread = small.stack_size(STACK).spawn(run);
+    let thread = small.stack_size(STACK_NEEDED).spawn(run);
     assert!(thread.expect("a thread").join().is_ok(), "{name}");
 }
 
@@ -46,6 +45,10 @@ fn a_small_stack_is_enough() {
             named(12_000, taxa::four_letters, Declared::Reversed),
         ),
         ("names in rows", inputs::names(64_000, false)),
+        (
+            "as many names as are short",
+            named(100_000, taxa::three_signs, Declared::No),
+        ),
         ("long names", named(9_000, taxa::species, Declared::InOrder)),
         ("quoted names", named(9_000, taxa::quoted, Declared::No)),
         (
@@ -53,9 +56,10 @@ fn a_small_stack_is_enough() {
             named(9_000, taxa::commented, Declared::InOrder),
         ),
         ("names that collide", together(2_000, 8_001)),
+        ("many names that collide", together(60_000, 240_001)),
         (
             "names that crowd a record",
-            taxa::text(&taxa::crowding(9_000), 1, Declared::No),
+            taxa::text(&taxa::crowding(90_000), 1, Declared::No),
         ),
         ("pages", inputs::pages(50, 1_200, 60)),
         ("pages of many taxa", inputs::pages(9_000, 4, 2)),
@@ -82,15 +86,30 @@ fn a_small_stack_is_enough() {
 #[test]
 #[cfg_attr(not(archive), ignore = "no archive; tools/test-calls makes it")]
 fn a_small_stack_is_enough_for_long_records() {
-    for taxa in [200, 8_001, 200_000] {
-        let record = inputs::record(taxa, 1);
+    const MANY: usize = 200_000;
+    let numbers = |taxa| taxa::names(taxa, |taxon| format!("{taxon:x}"));
+    for (what, names) in [
+        ("a record of few names", numbers(200)),
+        ("a record of some names", numbers(300)),
+        ("a record of more names", numbers(8_001)),
+        ("a record of many names", numbers(MANY)),
+        ("many names that crowd", taxa::crowding(MANY)),
+        ("many names that collide", taxa::colliding(MANY, 10_496)),
+    ] {
+        let record = inputs::named_record(&names, 1);
         let mut form = vec![0; inputs::MEGABYTE];
-        on_small_stack("a record", move || {
-            assert_eq!(lookup(&record, b"c7"), Ok(&b"0"[..]));
+        on_small_stack(what, move || {
+            let last = names[names.len() - 1].as_bytes();
+            assert_eq!(lookup(&record, last), Ok(&b"0"[..]));
             assert!(lookup(&record, ABSENT).is_err());
             match write_into(&record, &mut form) {
-                Ok(_) => assert!(taxa < 200_000),
-                Err(refusal) => assert_eq!(refusal.number, Refusal::FORM_TOO_LONG),
+                Ok(_) => assert!(names.len() < MANY),
+                Err(refusal) => {
+                    assert_eq!(
+                        (names.len(), refusal.number),
+                        (MANY, Refusal::FORM_TOO_LONG)
+                    );
+                }
             }
         });
     }

@@ -215,11 +215,18 @@ pub fn deep_comment(depth: usize) -> Vec<u8> {
 /// The record of so many taxa, named by their numbers, and so many characters. There may be
 /// more of them than a text has room for.
 pub fn record(taxa: usize, characters: usize) -> Vec<u8> {
+    let names: Vec<String> = (0..taxa).map(|taxon| format!("{taxon:x}")).collect();
+    named_record(&names, characters)
+}
+
+/// The record of taxa with these names, and so many characters.
+pub fn named_record(names: &[String], characters: usize) -> Vec<u8> {
+    let taxa = names.len();
     let mut record =
         format!("datatype=STANDARD\ntaxa={taxa}\ncharacters={characters}\nsymbols=01\n");
     let cells = vec!["0"; characters].join(" ");
-    for taxon in 0..taxa {
-        record.push_str(&format!("name={taxon:x}\ncells={cells}\n"));
+    for name in names {
+        record.push_str(&format!("name={name}\ncells={cells}\n"));
     }
     for character in 1..=characters {
         let lines = format!("character={character}\nlabel=\norder=UNORD\nstates=0\n");

@@ -29,6 +29,10 @@
 //!
 //! A host that allocates nothing lends the memory itself: see [`read_into`], [`write_into`],
 //! [`lookup`] and [`View`].
+//!
+//! Besides what it is lent a call needs stack, at most [`STACK_NEEDED`] bytes. The main thread has
+//! more, and so has a thread of [`std::thread`] unless it was given less. Where there is less the
+//! program ends, as it does wherever a stack overflows.
 
 #![deny(unsafe_code)]
 #![warn(missing_docs)]
@@ -77,6 +81,17 @@ pub use view::{
 /// assert_eq!(nexus::TEXT_LIMIT, 1_048_576);
 /// ```
 pub const TEXT_LIMIT: usize = 1_048_576;
+
+/// How many bytes of stack a call needs at most, whatever it is lent.
+///
+#[doc = example!()]
+/// # use inputs::example::RECORD;
+/// let thread = std::thread::Builder::new().stack_size(2 * nexus::STACK_NEEDED);
+/// let call = || nexus::lookup(RECORD.as_bytes(), b"C").map(|cells| cells.len());
+/// assert_eq!(thread.spawn(call)?.join().expect("the call ends"), Ok(6));
+/// # Ok::<(), std::io::Error>(())
+/// ```
+pub const STACK_NEEDED: usize = 262_144;
 
 /// How many numbers of work memory a text needs.
 ///
