@@ -8,6 +8,7 @@ use std::process::Command;
 use calls::Folder;
 use common::repository;
 use inputs::example;
+use nexus::{STACK_NEEDED, TEXT_LIMIT, longest_record, read_into};
 use oracle::answer::{self, ENOUGH};
 
 /// The languages: what the compiler is called, and which standards it is held to.
@@ -100,5 +101,39 @@ fn a_program_of_c_makes_every_call() {
             let printed = printed(&program, &["cells", name], text);
             assert_eq!(printed, cells.as_bytes(), "{name:?}");
         }
+    }
+}
+
+/// Whether a text is read with so much work memory, or the number by which it is refused.
+fn read(text: &[u8], work: usize) -> Result<(), u32> {
+    let (mut work, mut buffer) = (vec![0; work], vec![0; longest_record(text.len())]);
+    let read = read_into(text, &mut work, &mut buffer);
+    read.map(|_| ()).map_err(|refusal| refusal.number)
+}
+
+/// So much is read and needed as the header says: a text at its limit, and no longer one.
+#[test]
+#[cfg_attr(not(archive), ignore = "no archive; tools/test-calls makes it")]
+fn the_numbers_of_the_header() {
+    let folder = Folder::new("limits");
+    let archive = repository().join("target/staticlib/libnexus_c.a");
+    let archive = archive.to_str().expect("a path in UTF-8");
+    for (compiler, language, standards) in LANGUAGES {
+        let program = folder.0.join(language);
+        compile(compiler, language, standards[0], &[archive], &program);
+        let printed = String::from_utf8(printed(&program, &["limits"], b"")).expect("UTF-8");
+        let numbers: Vec<usize> = printed
+            .split_ascii_whitespace()
+            .map(|number| number.parse().expect("a number"))
+            .collect();
+        let [limit, stack, work] = numbers[..] else {
+            panic!("{printed:?}");
+        };
+        let mut text = inputs::row(limit);
+        assert_eq!(read(&text, work), Ok(()));
+        assert_eq!(read(&text, work - 1), Err(2));
+        text.push(b'\n');
+        assert_eq!(read(&text, work + 4), Err(1));
+        assert_eq!((limit, stack), (TEXT_LIMIT, STACK_NEEDED));
     }
 }

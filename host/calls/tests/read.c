@@ -2,7 +2,7 @@
  * Reads a text from standard input and prints its record, or the lines refused=, line= and column=.
  * Given `short`, work memory is one number short. Given `form`, the record's written form is printed
  * in its place, and given `cells` and a name, the cells of that taxon; where they are refused, the
- * line refused=. The status is 0, or 1 for a refusal; it is 2, and nothing is printed, where a call
+ * line refused=. Given `limits`, the numbers that the header defines are printed. The status is 0, or 1 for a refusal; it is 2, and nothing is printed, where a call
  * has left a number wrong or has changed something beside one.
  */
 #include <stdio.h>
@@ -80,11 +80,20 @@ static int print_cells(size_t record_length, const char *name) {
     return number[1] != 0 ? 2 : print(record + start[1], length);
 }
 
+static int print_limits(void) {
+    unsigned long limit = NEXUS_TEXT_LIMIT, stack = NEXUS_STACK_NEEDED;
+    printf("%lu %lu %lu\n", limit, stack, (unsigned long)NEXUS_WORK_NEEDED(NEXUS_TEXT_LIMIT));
+    return 0;
+}
+
 int main(int words, char **given) {
     uint32_t number[3];
     size_t line[3], column[3], record_length;
     size_t length = fread(text, 1, sizeof text, stdin);
     size_t room = NEXUS_WORK_NEEDED(length) - (words > 1 && strcmp(given[1], "short") == 0);
+    if (words > 1 && strcmp(given[1], "limits") == 0) {
+        return print_limits();
+    }
     fill(number, sizeof *number);
     fill(line, sizeof *line);
     fill(column, sizeof *column);

@@ -1,5 +1,5 @@
 //! What docs/ cite is there: in SCOPE.md each definition, function, theorem, test, question and edit; in ARCHITECTURE.md besides the line of each
-//! place that is given by file and line, and of each edit the line that it changes.
+//! place that is given by file and line, and of each edit the line that it changes. A name that is cited with a file is defined in it.
 
 use std::fs;
 use std::path::{Path, PathBuf};
@@ -37,23 +37,70 @@ fn cells(document: &str) -> Vec<&str> {
     rows.flat_map(|row| row.split(" | ")).collect()
 }
 
-/// Whether a text has a name that nothing goes on with.
-fn names(text: &str, name: &str) -> bool {
-    let part = |c: char| c.is_alphanumeric() || "_-·?".contains(c);
-    text.match_indices(name).any(|(at, _)| {
-        let before = text[..at].chars().next_back();
-        let behind = text[at + name.len()..].chars().next();
-        !before.is_some_and(part) && !behind.is_some_and(part)
+/// Whether a name can go on with this.
+fn is_part(c: char) -> bool {
+    c.is_alphanumeric() || "_-·?".contains(c)
+}
+
+/// Words in front of what a line defines: some that say what it is, and others.
+const KINDS: [&str; 6] = ["fn ", "struct ", "enum ", "const ", "record ", "data "];
+const MODIFIERS: [&str; 4] = ["pub ", "abbrev ", "unfoldable ", "extern \"C\" "];
+
+/// Whether a line defines a name: with its kind, or as `name :`, which is how `.antt` begins a definition, a field and a constructor.
+fn line_defines(line: &str, name: &str) -> bool {
+    let mut rest = line.trim_start();
+    let mut has_kind = false;
+    let front = |rest: &str| {
+        let mut words = KINDS.iter().chain(&MODIFIERS);
+        words.find(|word| rest.starts_with(**word))
+    };
+    while let Some(word) = front(rest) {
+        has_kind |= KINDS.contains(word);
+        rest = &rest[word.len()..];
+    }
+    let behind = rest.strip_prefix(name);
+    behind.is_some_and(|behind| {
+        let ends = !behind.starts_with(is_part);
+        ends && (has_kind || behind.starts_with(" :"))
     })
+}
+
+/// Whether a text defines a name.
+fn defines(text: &str, name: &str) -> bool {
+    text.lines().any(|line| line_defines(line, name))
+}
+
+#[test]
+fn what_is_only_met_is_not_defined() {
+    for line in [
+        "fn a(b: u8) -> u8",
+        "pub extern \"C\" fn a(",
+        "    pub const a: usize = 1;",
+        "pub enum a {",
+        "pub record a (r : Reading) : Type 0 where",
+        "  pub a : List ℕ",
+        "  a : ℕ → b",
+        "abbrev pub a : Type 0",
+    ] {
+        assert!(defines(&format!("b\n{line}\nb"), "a"), "{line}");
+        assert!(!defines(line, "b"), "{line}");
+    }
+    for line in [
+        "a(b)",
+        "a b = c",
+        "use b.{a}",
+        "-- a : b",
+        "fn aa()",
+        "pub a·b : c",
+    ] {
+        assert!(!defines(line, "a"), "{line}");
+    }
 }
 
 /// What stands in backquotes and can be a name.
 fn quoted(text: &str) -> impl Iterator<Item = &str> {
     let parts = text.split('`').skip(1).step_by(2);
-    parts.filter(|part| {
-        part.chars()
-            .all(|c| c.is_alphanumeric() || "_-·?".contains(c))
-    })
+    parts.filter(|part| part.chars().all(is_part))
 }
 
 /// What a part of a cell cites: how many things, and those that are not there.
@@ -75,7 +122,7 @@ fn cited(part: &str, missing: &mut Vec<String>) -> usize {
             return 1;
         };
         let names: Vec<&str> = quoted(&part[word.len()..])
-            .filter(|name| !names(&text, name))
+            .filter(|name| !defines(&text, name))
             .collect();
         missing.extend(names.iter().map(|name| format!("{word} {name}")));
         return 1 + quoted(&part[word.len()..]).count();
@@ -93,7 +140,7 @@ fn questions(module: &str, text: &str, list: &str, missing: &mut Vec<String>) ->
         .filter(|word| is_question(word))
         .collect();
     for name in &numbers {
-        if !names(text, name) {
+        if !defines(text, name) {
             missing.push(format!("{module} {name}"));
         }
     }
@@ -111,17 +158,18 @@ fn is_rooted(word: &str) -> bool {
     folders[0] == "host" || repository("crates").join(folders[..2].join("/")).is_dir()
 }
 
+const DOCUMENTS: [&str; 5] = [
+    "ARCHITECTURE.md",
+    "DECISIONS.md",
+    "DEMANDS.md",
+    "SCOPE.md",
+    "TRUST.md",
+];
+
 #[test]
 fn every_file_that_is_cited_is_there() {
-    let documents = [
-        "ARCHITECTURE.md",
-        "DECISIONS.md",
-        "DEMANDS.md",
-        "SCOPE.md",
-        "TRUST.md",
-    ];
     let mut count = 0;
-    for name in documents {
+    for name in DOCUMENTS {
         let document = document(name);
         let words = document.split(|c: char| !c.is_alphanumeric() && !"_-./".contains(c));
         let words = words.map(|word| word.trim_end_matches('.'));
@@ -132,6 +180,107 @@ fn every_file_that_is_cited_is_there() {
         }
     }
     assert!(count > 500, "{count} files");
+}
+
+/// The names that a document cites with a file, each with its path: `name` right behind the path, or in front of it, as `name` of path or `name` (path).
+fn named_with_files(document: &str) -> Vec<(&str, &str)> {
+    let mut found = Vec::new();
+    let path_begins = |(at, _): &(usize, char)| {
+        let before = document[..*at].chars().next_back();
+        !before.is_some_and(|c| is_part(c) || "./".contains(c))
+    };
+    for (begin, _) in document.char_indices().filter(path_begins) {
+        let rest = &document[begin..];
+        let end = rest.find(|c: char| !is_part(c) && !"./".contains(c));
+        let path = rest[..end.unwrap_or(rest.len())].trim_end_matches('.');
+        if !is_source(path) || !is_rooted(path) {
+            continue;
+        }
+        let behind =
+            rest[path.len()..].trim_start_matches(|c: char| c == ':' || c.is_ascii_digit());
+        let before = &document[..begin];
+        let before = before.strip_suffix(" of ").or(before.strip_suffix(" ("));
+        let name = match (behind.strip_prefix(" `"), before) {
+            (Some(behind), _) => behind.split('`').next(),
+            (None, Some(before)) => before.strip_suffix('`').and_then(|b| b.rsplit('`').next()),
+            (None, None) => None,
+        };
+        found.extend(
+            name.filter(|name| name.chars().all(is_part))
+                .map(|name| (path, name)),
+        );
+    }
+    found
+}
+
+#[test]
+fn names_are_defined_in_their_files() {
+    let mut count = 0;
+    for name in DOCUMENTS {
+        for (path, cited) in named_with_files(&document(name)) {
+            let text = file(path).unwrap_or_else(|| panic!("{name}: {path} is not there"));
+            assert!(
+                defines(&text, cited),
+                "{name}: {path} does not define {cited}"
+            );
+            count += 1;
+        }
+    }
+    assert!(count > 600, "{count} names");
+}
+
+/// The files of a cell of the map, as `lexer, src/token.rt, label.rt; specs/Bytes.antt`.
+fn files_of(cell: &str) -> String {
+    let (mut name, mut folder) = ("", "");
+    let mut texts = String::new();
+    for word in cell.split([';', ',', ' ', '|']) {
+        if repository("crates").join(word).join("src").is_dir() && !word.is_empty() {
+            name = word;
+        } else if (word.ends_with(".rt") || word.ends_with(".antt")) && !word.contains('*') {
+            let last = word.rfind('/').map_or(0, |slash| slash + 1);
+            if last > 0 {
+                folder = &word[..last];
+            }
+            let path = format!("{name}/{folder}{}", &word[last..]);
+            texts.push_str(&file(&path).unwrap_or_else(|| panic!("{path} is not there")));
+        }
+    }
+    texts
+}
+
+/// The rows of the table with this head, by cells.
+fn table<'a>(document: &'a str, head: &str) -> Vec<Vec<&'a str>> {
+    let rows = document.lines().skip_while(|line| !line.starts_with(head));
+    let rows = rows.skip(2).take_while(|line| line.starts_with('|'));
+    rows.map(|row| row.split(" | ").collect()).collect()
+}
+
+/// In the tables of statements and of functions each name is defined in a file of its row: the statement; the function, and what stands in brackets
+/// for all of its contract.
+#[test]
+fn what_the_map_names_is_in_its_files() {
+    let map = document("ARCHITECTURE.md");
+    let bracket = |cell: &str| {
+        cell.rfind("(`")
+            .map_or(String::new(), |at| cell[at..].to_string())
+    };
+    let statements = table(&map, "| demand |");
+    let statements = statements
+        .iter()
+        .map(|row| (row[1].to_string(), row[2..].join(" ")));
+    let functions = table(&map, "| function |");
+    let functions = functions
+        .iter()
+        .map(|row| (row[0].to_string() + &bracket(row[1]), row[2].to_string()));
+    let mut count = 0;
+    for (cited, files) in statements.chain(functions) {
+        let texts = files_of(&files);
+        for name in quoted(&cited).filter(|_| !texts.is_empty()) {
+            assert!(defines(&texts, name), "{name} is not in {files}");
+            count += 1;
+        }
+    }
+    assert!(count > 50, "{count} names");
 }
 
 #[test]
@@ -195,9 +344,9 @@ fn lines_of_the_map_are_those_of_their_names() {
         let text = file(path).unwrap_or_else(|| panic!("{path} is not there"));
         let Some(name) = name else { continue };
         let there = text.lines().nth(line - 1).unwrap_or_default();
-        let owned = owner(&text, *line).is_some_and(|head| names(head, name));
+        let owned = owner(&text, *line).is_some_and(|head| line_defines(head, name));
         assert!(
-            names(there, name) || owned,
+            line_defines(there, name) || owned,
             "{path}:{line} is not in {name}"
         );
     }

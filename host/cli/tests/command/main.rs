@@ -3,6 +3,7 @@
 mod absent;
 mod ends;
 mod json;
+mod made;
 mod manual;
 mod many;
 mod marks;
