@@ -12,17 +12,17 @@ read-frame-requires c κs = search needs
 enum-known-k : tie.Need-enum-known-k
 enum-known-k c = search needs
 
-put-all-requires : tie.Need-put-all-requires
-put-all-requires c κs = search needs
+print-requires : tie.Need-print-requires
+print-requires c κs = search needs
 
 slice-reshare-prefix-print-question : tie.Need-slice-reshare-prefix-print-question
 slice-reshare-prefix-print-question c =
-    let k = c .before .before .before .before .before in
+    let k = c .before .before in
     framed-question _ _ _ (k .before .before .before .before .read-frame .ensures) (k .k .given .1)
 
 slice-aggregate-print-question : tie.Need-slice-aggregate-print-question
 slice-aggregate-print-question c =
-    let k = c .before .before .before .before .before .before in
+    let k = c .before .before .before in
     sym (length-take-le _ _ (framed-question _ _ _ (k .before .before .before .before .read-frame .ensures) (k .k .given .1)))
 
 print-question-requires : tie.Need-print-question-requires
@@ -64,26 +64,23 @@ same-length-2 c = search needs
 same-length-3 : tie.Need-same-length-3
 same-length-3 c = search needs
 
-same-length-4 : tie.Need-same-length-4
-same-length-4 c = search needs
-
 returns : tie.Need-returns
 returns c = search needs
 
-same-length-5 : tie.Need-same-length-5
-same-length-5 c = search needs
+same-length-4 : tie.Need-same-length-4
+same-length-4 c = search needs
 
 returns-2 : tie.Need-returns-2
 returns-2 c = search needs
 
-same-length-6 : tie.Need-same-length-6
-same-length-6 c = search needs
+same-length-5 : tie.Need-same-length-5
+same-length-5 c = search needs
 
 returns-3 : tie.Need-returns-3
 returns-3 c = search needs
 
-same-length-7 : tie.Need-same-length-7
-same-length-7 c = search needs
+same-length-6 : tie.Need-same-length-6
+same-length-6 c = search needs
 
 returns-4 : tie.Need-returns-4
 returns-4 c = search needs
@@ -94,7 +91,7 @@ print-next-spec =
     (tie.spec
     read-frame-requires
     enum-known-k
-    put-all-requires
+    print-requires
     slice-reshare-prefix-print-question
     slice-aggregate-print-question
     print-question-requires
@@ -110,11 +107,10 @@ print-next-spec =
     same-length
     same-length-2
     same-length-3
-    same-length-4
     returns
-    same-length-5
+    same-length-4
     returns-2
-    same-length-6
+    same-length-5
     returns-3
-    same-length-7
+    same-length-6
     returns-4)

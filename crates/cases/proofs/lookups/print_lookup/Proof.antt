@@ -5,14 +5,11 @@ use borrow.Author.Needs.{needs}
 use borrow.Table.Elements.{length-take-le}
 use mathlib.Core.Path.{sym}
 
-slice-aggregate-put-all : tie.Need-slice-aggregate-put-all
-slice-aggregate-put-all c = search needs
+slice-aggregate-print : tie.Need-slice-aggregate-print
+slice-aggregate-print c = search needs
 
-put-all-requires : tie.Need-put-all-requires
-put-all-requires c κs = search needs
-
-same-length : tie.Need-same-length
-same-length c = search needs
+print-requires : tie.Need-print-requires
+print-requires c κs = search needs
 
 returns : tie.Need-returns
 returns c = search needs
@@ -32,14 +29,11 @@ part-rest-start c = search needs
 part-rest-end : tie.Need-part-rest-end
 part-rest-end c = search needs
 
-slice-aggregate-put-all-2 : tie.Need-slice-aggregate-put-all-2
-slice-aggregate-put-all-2 c = search needs
+slice-aggregate-print-2 : tie.Need-slice-aggregate-print-2
+slice-aggregate-print-2 c = search needs
 
-put-all-requires-2 : tie.Need-put-all-requires-2
-put-all-requires-2 c κs = search needs
-
-same-length-2 : tie.Need-same-length-2
-same-length-2 c = search needs
+print-requires-2 : tie.Need-print-requires-2
+print-requires-2 c κs = search needs
 
 returns-2 : tie.Need-returns-2
 returns-2 c = search needs
@@ -59,9 +53,6 @@ slice-aggregate-print-cells c = sym (length-take-le _ _ (c .before .before .if2 
 print-cells-requires : tie.Need-print-cells-requires
 print-cells-requires c κs = search needs
 
-same-length-3 : tie.Need-same-length-3
-same-length-3 c = search needs
-
 returns-3 : tie.Need-returns-3
 returns-3 c = search needs
 
@@ -69,23 +60,20 @@ pub print-lookup-spec : {M : Type 1} → statement M
 print-lookup-spec =
     tie.close
     (tie.spec
-    slice-aggregate-put-all
-    put-all-requires
-    same-length
+    slice-aggregate-print
+    print-requires
     returns
     shared-slice-read-wide
     wide-requires
     sub-rest
     part-rest-start
     part-rest-end
-    slice-aggregate-put-all-2
-    put-all-requires-2
-    same-length-2
+    slice-aggregate-print-2
+    print-requires-2
     returns-2
     sub-print-cells
     part-print-cells-start
     part-print-cells-end
     slice-aggregate-print-cells
     print-cells-requires
-    same-length-3
     returns-3)
