@@ -10,6 +10,7 @@ use Rattle.lexer.specs.declared.Place.{Place}
 use Rattle.lexer.specs.declared.refusal.Refusal.{Refusal}
 use Rattle.record.proofs.CallLaws.{length-refused, same-length}
 use Rattle.record.proofs.Demands.{forms-tell-texts-apart}
+use Rattle.record.specs.Calls.{read·leaves}
 use Rattle.record.specs.Demands.{Left}
 use Rattle.record.specs.Form.{form}
 use Rattle.record.specs.declared.Answer.{Answer}
@@ -48,7 +49,7 @@ module _ (t u work mid kept kept·mid first first·after second : List ℕ) (a :
   first-why n p h = form-refused t work mid kept kept·mid first first·after a f n p h
 
   -- A call for the first text is refused: the second is not looked at.
-  pub first-refused : (n : Refusal) (p : Place) → a ≡ Answer.Refused n p → Forms·compared t u work mid kept first first·after second second (Compared.Refused n p)
+  pub first-refused : (n : Refusal) (p : Place) → a ≡ Answer.Refused n p → Forms·compared t u work mid kept kept·mid first first·after second second (Compared.Refused n p)
   first-refused n p e =
       let not-formed : (r : Reading) → Has·room t (length work) (length kept) (length first) r → ⊥ = λ r h. length-refused (sym (first-left r h .counted) ∙ e) in
       record {
@@ -56,12 +57,18 @@ module _ (t u work mid kept kept·mid first first·after second : List ℕ) (a :
         told = λ r s h k. absurd (not-formed r h);
         first·refused = λ m q h. (refused-with e (first-why m q h), formed-kept t work mid kept kept·mid first first·after a f .refused n p e, refl);
         second·refused = λ r m q h k. absurd (not-formed r h);
+        first·kept = λ m q h. f .stored;
+        both·kept = λ r h. absurd (not-formed r h);
         size = f .size;
       }
 
   module _ (n : ℕ) (e : a ≡ Answer.Length n) (work·after kept·after second·after : List ℕ) (b : Answer) (g : Formed u mid work·after kept·mid kept·after second second·after b) where
     first-taken : (m : ℕ) (q : Place) → Form·refused t (length work) (length kept) (length first) m q → ⊥
     first-taken m q h = length-refused (sym e ∙ first-why m q h .2)
+
+    -- What is stored of the second text stands over what was stored of the first.
+    stored : kept·after ≡ read·leaves u (length work) (read·leaves t (length work) kept)
+    stored = g .stored ∙ ap (λ n. read·leaves u n kept·mid) (f .size) ∙ ap (read·leaves u (length work)) (f .stored)
 
     -- The room for the second text is that which there was at first.
     second-left : (s : Reading) → Has·room u (length work) (length kept) (length second) s → Left (form s) second b second·after
@@ -73,13 +80,15 @@ module _ (t u work mid kept kept·mid first first·after second : List ℕ) (a :
         form-refused u mid work·after kept·mid kept·after second second·after b g n p (rw (f .size, kept-room t work mid kept kept·mid first first·after a f) h)
 
     -- A call for the second text is refused.
-    pub second-refused : (m : Refusal) (p : Place) → b ≡ Answer.Refused m p → Forms·compared t u work work·after kept first first·after second second·after (Compared.Refused m p)
+    pub second-refused : (m : Refusal) (p : Place) → b ≡ Answer.Refused m p → Forms·compared t u work work·after kept kept·after first first·after second second·after (Compared.Refused m p)
     second-refused m p x =
         record {
           decided = decided;
           told = λ r s h k. absurd (length-refused (sym (second-left s k .counted) ∙ x));
           first·refused = λ o q h. absurd (first-taken o q h);
           second·refused = λ r o q h k. (refused-with x (second-why o q k), left-whole (form r) first first·after a (first-left r h), formed-kept u mid work·after kept·mid kept·after second second·after b g .refused m p x);
+          first·kept = λ o q h. absurd (first-taken o q h);
+          both·kept = λ r h. stored;
           size = g .size ∙ f .size;
         }
 
@@ -94,18 +103,22 @@ module _ (t u work mid kept kept·mid first first·after second : List ℕ) (a :
           let two : Answer.Length (length (form s)) ≡ Answer.Length m = sym (o .counted) ∙ x in
           let front : take n first·after ≡ form r = ap (λ i. take i first·after) (sym (same-length one)) ∙ l .result in
           let back : take m second·after ≡ form s = ap (λ i. take i second·after) (sym (same-length two)) ∙ o .result in
+          let apart = forms-tell-texts-apart t u r s (h .record·room .1) (k .record·room .1) in
           record {
             first·form = left-whole (form r) first first·after a l;
             second·form = left-whole (form s) second second·after b o;
-            agree = tells-also (forms-tell-texts-apart t u r s (h .record·room .1) (k .record·room .1)) c (subst₂ (λ y z. Tells (y ≡ z) c) front back bytes);
+            bytes = rw (l .result, o .result) apart;
+            agree = tells-also apart c (subst₂ (λ y z. Tells (y ≡ z) c) front back bytes);
           }
 
-      pub both-compared : Forms·compared t u work work·after kept first first·after second second·after c
+      pub both-compared : Forms·compared t u work work·after kept kept·after first first·after second second·after c
       both-compared =
           record {
             decided = decided;
             told = told-apart;
             first·refused = λ o q h. absurd (first-taken o q h);
             second·refused = λ r o q h k. absurd (length-refused (sym x ∙ second-why o q k .2));
+            first·kept = λ o q h. absurd (first-taken o q h);
+            both·kept = λ r h. stored;
             size = g .size ∙ f .size;
           }

@@ -71,15 +71,18 @@ pub record Refused·with (n : ℕ) (p : Place) (c : Compared) : Type 0 where
   pub numbered : number why ≡ n
   pub answer : c ≡ Compared.Refused why p
 
--- The buffers hold the two forms, byte for byte, behind them all is as it was, and the answer tells whether the readings agree.
+-- The buffers hold the two forms, byte for byte, and behind them all is as it was. The forms' bytes, as they stand in the buffers, are the same
+-- exactly when the readings agree, and the answer tells whether they do.
 pub record Told·apart (r s : Reading) (first first·after second second·after : List ℕ) (c : Compared) : Type 0 where
   pub first·form : first·after ≡ form r ++ drop (length (form r)) first
   pub second·form : second·after ≡ form s ++ drop (length (form s)) second
+  pub bytes : (take (length (form r)) first·after ≡ take (length (form s)) second·after) ↔ Agree r s
   pub agree : Tells (Agree r s) c
 
 -- The texts `t` and `u`, one after the other, with the same work memory and the same buffer `kept` for their records, each with a buffer of its
--- own, `first` and `second`, for its form. What memory and buffers held before has no part in the answer: only how long they are.
-pub record Forms·compared (t u work work·after kept first first·after second second·after : List ℕ) (c : Compared) : Type 0 where
+-- own, `first` and `second`, for its form. What memory and buffers held before has no part in the answer: only how long they are. Every byte of
+-- the three buffers is said.
+pub record Forms·compared (t u work work·after kept kept·after first first·after second second·after : List ℕ) (c : Compared) : Type 0 where
   -- one of the cases applies to each text; what follows says for each what is answered and left, so that nothing is open
   pub decided : Form·case t (length work) (length kept) (length first) × Form·case u (length work) (length kept) (length second)
   -- there is room for both: the forms stand in their buffers, and the answer tells whether the readings agree
@@ -91,5 +94,9 @@ pub record Forms·compared (t u work work·after kept first first·after second 
   -- none is, and one for the second text is refused: that is the answer, the first form stands in its buffer, and the second is not touched
   pub second·refused : (r : Reading) (n : ℕ) (p : Place) → Has·room t (length work) (length kept) (length first) r → Form·refused u (length work) (length kept) (length second) n p
       → Refused·with n p c × (first·after ≡ form r ++ drop (length (form r)) first) × (second·after ≡ second)
+  -- the buffer for the records holds what read leaves in it for the first text, where a call for that is refused, and else what read leaves for
+  -- the second over this
+  pub first·kept : (n : ℕ) (p : Place) → Form·refused t (length work) (length kept) (length first) n p → kept·after ≡ read·leaves t (length work) kept
+  pub both·kept : (r : Reading) → Has·room t (length work) (length kept) (length first) r → kept·after ≡ read·leaves u (length work) (read·leaves t (length work) kept)
   -- work memory keeps its length
   pub size : length work·after ≡ length work

@@ -70,7 +70,7 @@ pub fn forms_agree(
     form: &mut [u8],
     other: &mut [u8],
 ) -> Compared
-    ensures { λ r. ⌜ Forms·compared (now (first .entry)) (now (second .entry)) (now (work .entry)) (now (work .exit)) (now (kept .entry)) (now (form .entry)) (now (form .exit)) (now (other .entry)) (now (other .exit)) r ⌝ }
+    ensures { λ r. ⌜ Forms·compared (now (first .entry)) (now (second .entry)) (now (work .entry)) (now (work .exit)) (now (kept .entry)) (now (kept .exit)) (now (form .entry)) (now (form .exit)) (now (other .entry)) (now (other .exit)) r ⌝ }
 {
     match form_of(first, work, kept, form) {
         Answer::Length(n) => match form_of(second, work, kept, other) {
