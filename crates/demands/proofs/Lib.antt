@@ -1,6 +1,8 @@
 -- What the proofs of this crate rest on.
 mod AgainLaws
-mod DimensionsHeld
+mod DataCommands
+mod DeclaredOnce
+mod MatrixStays
 mod RightLaws
 mod CompareLaws
 mod FormedLaws

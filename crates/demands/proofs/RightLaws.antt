@@ -9,7 +9,8 @@ use Rattle.block.specs.Parse.{Read, reading, fault, read}
 use Rattle.block.specs.Reading.{Taxon, Reading}
 use Rattle.block.specs.TaxonOrder.{Follows}
 use Rattle.demands.proofs.AgainLaws.{left-whole}
-use Rattle.demands.proofs.DimensionsHeld.{dimensions-declared}
+use Rattle.demands.proofs.DeclaredOnce.{dimensions-declared, format-declared}
+use Rattle.demands.proofs.MatrixStays.{shape-format, format-followed}
 use Rattle.demands.specs.Right as Right
 use Rattle.demands.specs.Right.{Right·reading, Left·open, Tokens·refused, Has·record, Read·case, case·number, answer·number, Refused·so, Recorded·so, Rightly·read}
 use Rattle.lexer.proofs.Basics.{by-test, and-left, and-right}
@@ -69,6 +70,9 @@ right-reading text s h =
     record {
       matrix = m;
       dimensions = dimensions-declared (m .before) (m .state) (m .reached) (m .block) (m .block·data) (m .inside) (m .dimensions) (m .sized);
+      formatted = rw (shape-format m) (format-declared (m .before) (m .state) (m .reached) (m .block) (m .block·data) (m .inside));
+      data·type = format-followed text s h m .data·type;
+      symbols = format-followed text s h m .symbols;
       characters = one-length (length (s .characters)) n (s .taxa) (sound .some·taxon) (all-long (length (s .characters)) (s .taxa) (sound .rows·long)) long;
       cells = λ t among. all-member (Long n) (s .taxa) t long among;
       taxa = follow-count (m .block·data .taxa) (m .rows) (s .taxa) (m .as·names) (follows .1);

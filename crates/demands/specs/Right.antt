@@ -4,8 +4,9 @@ use Rattle.block.specs.Blocks.{Data, in·data, State, at·start, step}
 use Rattle.block.specs.Commands.{Command, command, words}
 use Rattle.block.specs.Dimensions.{dimensions}
 use Rattle.block.specs.Faults.{Whole, Quote·mark, Comment·mark, Fault·at}
+use Rattle.block.specs.Format.{Format, default·format, format}
 use Rattle.block.specs.LabelOrder.{Labels·follow}
-use Rattle.block.specs.Outcome.{done, fold}
+use Rattle.block.specs.Outcome.{Outcome, done, fold}
 use Rattle.block.specs.Parse.{fault, read}
 use Rattle.block.specs.Reading.{Taxon, Reading}
 use Rattle.block.specs.Sequential.{names}
@@ -30,26 +31,43 @@ use mathlib.Core.List.{List, _∷_, _++_, List·Memᴰ}
 use mathlib.Core.Option.{some}
 use mathlib.Core.Path.{_≡_}
 
--- A DIMENSIONS command among these whose words declare these dimensions: the commands before it lead to the data block whose name has this
--- index.
-pub record Dimensioned (cs : List Command) (block : ℕ) (x : Dimensions) : Type 0 where
+-- A command among these with this first word: the commands before it lead to the data block whose name has this index.
+pub record Stands·in (cs : List Command) (block : ℕ) (keyword : List ℕ) : Type 0 where
   pub before : List Command
   pub head : Numbered
   pub raw : List Numbered
   pub after : List Command
   pub here : cs ≡ before ++ (command head raw ∷ after)
-  pub word : is (bytes "DIMENSIONS") head ≡ true
+  pub word : is keyword head ≡ true
   pub state : State
   pub reached : fold step at·start before ≡ done state
   pub block·data : Data
   pub inside : state .phase ≡ in·data block block·data
-  pub declares : dimensions (words raw) ≡ done x
+
+-- There is such a command, and each such command declares this: its value, by its first word and the tokens behind that.
+pub record Declared {X : Type 0} (cs : List Command) (block : ℕ) (keyword : List ℕ) (value : Numbered → List Numbered → Outcome X) (x : X) : Type 0 where
+  pub stands : Stands·in cs block keyword
+  pub each : (c : Stands·in cs block keyword) → value (c .head) (c .raw) ≡ done x
+
+-- The DIMENSIONS command of the block declares these dimensions.
+abbrev pub Dimensioned : List Command → ℕ → Dimensions → Type 0
+Dimensioned cs block x = Declared cs block (bytes "DIMENSIONS") (λ head raw. dimensions (words raw)) x
+
+-- The format of the block: that which its FORMAT command gives, or, where none stands in it, the default.
+pub data Formatted (cs : List Command) (block : ℕ) : Format → Type 0 where
+  given : {f : Format} → Declared cs block (bytes "FORMAT") (λ head raw. format (head .index) (words raw)) f → Formatted cs block f
+  default : ¬ Stands·in cs block (bytes "FORMAT") → Formatted cs block default·format
 
 -- What a text's reading is to be.
 pub record Right·reading (text : List ℕ) (s : Reading) : Type 0 where
   -- the MATRIX command of the text, and the DIMENSIONS command before it in its block
   pub matrix : Matrix·of (commands·of text)
   pub dimensions : Dimensioned (matrix .before) (matrix .block) (matrix .dimensions)
+  -- the format by which its rows are read, that of the FORMAT command before it in its block, or the default; and the data type and the symbols,
+  -- in their order, are those of this format
+  pub formatted : Formatted (matrix .before) (matrix .block) (matrix .shape .format)
+  pub data·type : s .data·type ≡ matrix .shape .format .data·type
+  pub symbols : s .symbols ≡ matrix .shape .format .symbols
   -- there are as many characters as its NCHAR says, and each row has exactly so many cells
   pub characters : length (s .characters) ≡ matrix .dimensions .characters
   pub cells : (t : Taxon) → List·Memᴰ t (s .taxa) → length (t .cells) ≡ matrix .dimensions .characters
