@@ -1,2 +1,3 @@
 -- The definitions of the program.
+pub mod Inputs
 pub mod Printing

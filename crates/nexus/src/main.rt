@@ -1,5 +1,6 @@
 // The program: it reads standard input, at most 1,024 bytes, and prints the record of that text, or the number, line and column of its refusal.
 
+ghost use Rattle.nexus.specs.Inputs.{Within};
 ghost use Rattle.nexus.specs.Printing.{In·front};
 ghost use Rattle.record.specs.Demands.{refusal·lines};
 ghost use Rattle.record.specs.Program.{program·prints};
@@ -42,13 +43,43 @@ fn prints(input: &[u8], out: &mut [u8]) -> usize
     }
 }
 
-// Prints what `prints` puts of standard input. One byte more than 1,024 is asked for, so that longer input is told from input that is taken.
+// What reading comes to: so many bytes, or a read that failed.
+enum Input {
+    Bytes(usize),
+    Failed,
+}
+
+// Reads standard input to the front of what is lent, until that is full, the input ends or a read fails.
+fn read_input(input: &mut [u8]) -> Input
+    ensures { λ r. ⌜ Within r (length (now (input .exit))) ⌝ }
+{
+    let mut n = 0;
+    while n < input.len() {
+        let got = libc::read(STDIN_FILENO, &mut input[n..]);
+        if got < 0 {
+            return Input::Failed;
+        }
+        let more = io::count(got, &input[n..]);
+        if more == 0 {
+            return Input::Bytes(n);
+        }
+        n += more;
+    }
+    Input::Bytes(n)
+}
+
+// Prints what `prints` puts of standard input, or says on standard error why it cannot be read or printed. One byte more than 1,024 is asked for, so
+// that longer input is told from input that is taken.
 fn main() {
     let mut input = [0u8; 1025];
-    let n = io::read_full(STDIN_FILENO, &mut input);
-    let mut out = io::large_buffer();
-    let size = prints(&input[..n], &mut out);
-    if !io::write_all(STDOUT_FILENO, &out[..size]) {
-        os::fail(b"write");
+    match read_input(&mut input) {
+        Input::Bytes(n) => {
+            let mut out = io::large_buffer();
+            let size = prints(&input[..n], &mut out);
+            if !io::write_all(STDOUT_FILENO, &out[..size]) {
+                os::fail(b"write");
+            }
+        }
+        Input::Failed => os::fail(b"read"),
     }
 }

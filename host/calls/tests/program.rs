@@ -3,9 +3,10 @@
 
 mod common;
 
+use std::fs::File;
 use std::process::Command;
 
-use calls::texts;
+use calls::{Folder, texts};
 use inputs::example;
 use oracle::answer::{self, Answer, ENOUGH};
 
@@ -17,10 +18,13 @@ const BUFFER: u64 = 65_536;
 
 const TOO_LONG: &[u8] = b"refused=1\nline=0\ncolumn=0\n";
 
+fn program() -> Command {
+    Command::new(common::repository().join("target/bin/nexus"))
+}
+
 #[track_caller]
 fn printed<'a>(input: impl Iterator<Item = &'a [u8]>) -> Vec<u8> {
-    let mut program = Command::new(common::repository().join("target/bin/nexus"));
-    let output = common::run(&mut program, input);
+    let output = common::run(&mut program(), input);
     let errors = String::from_utf8_lossy(&output.stderr);
     assert!(output.status.success(), "{}: {errors}", output.status);
     assert_eq!(errors, "");
@@ -88,6 +92,32 @@ fn lengths() {
     // Too long goes before what is not UTF-8.
     assert_eq!(checked(&[0xff; LONGEST + 1]), TOO_LONG);
     checked(&[0xff; LONGEST]);
+}
+
+/// A read that fails is not taken for the end of the input: nothing is printed, and standard error says
+/// what failed. The status is 0 also then: no program of the kit has another (docs/TRUST.md).
+#[test]
+#[cfg_attr(not(program_nexus), ignore = "no program; `rt check nexus` makes it")]
+fn a_read_that_fails() {
+    let folder = File::open(common::repository()).expect("a folder");
+    let output = program().stdin(folder).output().expect("the program runs");
+    assert_eq!(output.stdout, b"");
+    assert_eq!(output.stderr, b"read: Is a directory\n");
+    assert_eq!(output.status.code(), Some(0));
+}
+
+/// So it is with a write that fails.
+#[test]
+#[cfg_attr(not(program_nexus), ignore = "no program; `rt check nexus` makes it")]
+fn a_write_that_fails() {
+    let folder = Folder::new("full");
+    let text = File::open(folder.file("text", example::TEXT.as_bytes())).expect("a text");
+    let full = File::options().write(true).open("/dev/full");
+    let mut program = program();
+    program.stdin(text).stdout(full.expect("a full device"));
+    let output = program.output().expect("the program runs");
+    assert_eq!(output.stderr, b"write: No space left on device\n");
+    assert_eq!(output.status.code(), Some(0));
 }
 
 /// The longest record: as many cells of several states as the input has room for.
