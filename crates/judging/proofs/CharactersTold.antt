@@ -1,13 +1,14 @@
 -- The characters of a record: what judging their lines tells of each, and of all. Assumes nothing.
 use Prim.Native.Nat.{ℕ, suc, _+_, _-_, _≤_, _<_}
 use Rattle.block.specs.Blocks.{ordered?}
+use Rattle.block.specs.Reading.{Character}
 use Rattle.block.specs.Sound.{sound·label}
 use Rattle.block.specs.declared.model.CharacterOrdering.{CharacterOrdering}
 use Rattle.judging.proofs.ListTold.{Listing, listing-over, listing-short, listing-start, listing-step}
 use Rattle.judging.proofs.RowsTold.{line-behind}
 use Rattle.judging.proofs.TellLaws.{no-end, tells-as, tells-no-first, tells-none, tells-same, tells-then}
 use Rattle.judging.specs.Lists.{Listed, spelled·all}
-use Rattle.judging.specs.Parts.{Character·good, Character·told, Characters·told, Counted·told, Few, Keyed·number, Label·told, Number·told, Order·told, States·good, States·told, Tail, Tail·told, character·marks, join·marks, no·marks, spell·counted, spell·one, spell·state, spell·tail, tail·marks}
+use Rattle.judging.specs.Parts.{Character·good, Character·told, Characters·told, Counted·told, Few, Keyed·number, Label·told, Lines·told, Number·told, Order·told, States·good, States·told, Tail, Tail·told, character·marks, join·marks, no·marks, spell·counted, spell·lines, spell·one, spell·state, spell·tail, tail·marks}
 use Rattle.judging.specs.Tells.{Marks, Part, nothing, until, Tells, behind·of, characters·of, flag·of, number·of}
 use Rattle.judging.specs.declared.Behind.{Behind}
 use Rattle.judging.specs.declared.characters.Characters.{Characters}
@@ -22,7 +23,7 @@ use lib.Dec.{ltb}
 use lib.ListN.{length}
 use mathlib.Core.Bool.{Bool, true, false, _||_, not}
 use mathlib.Core.List.{List, [], _∷_, _++_}
-use mathlib.Core.Path.{_≡_, refl, sym, ap, _∙_, subst}
+use mathlib.Core.Path.{_≡_, refl, sym, subst}
 use native.Mathlib.Omega.{arith}
 
 -- State labels behind their count.
@@ -131,11 +132,8 @@ module _ (b : List ℕ) (i : ℕ) (labelled : Bool) (most : ℕ) (r : Flag) (jud
   tail-unordered none =
       as-tail nothing (tells-no-first b i (λ o. Unit {0}) ordering ordered? (λ v. Few most) (λ v. spell·counted) marks (subst (λ a. Order·told b i a) none judged))
 
--- The number, the label, and the lines behind it.
-module _ (b : List ℕ) (i k most : ℕ) (r : Behind) (judged : Number·told b i k r) where
-  abbrev numbering : List ℕ
-  numbering = line "character=" (decimal k) []
-
+-- The label, and the lines behind it.
+module _ (b : List ℕ) (i most : ℕ) (r : Flag) (judged : Label·told b i r) where
   abbrev labelling : List ℕ → List ℕ
   labelling l = line "label=" (escaped l) []
 
@@ -148,48 +146,55 @@ module _ (b : List ℕ) (i k most : ℕ) (r : Behind) (judged : Number·told b i
   abbrev Tail·few : Tail → Type 0
   Tail·few t = Few most (t .states)
 
-  abbrev Lines : Type 0
-  Lines = List ℕ × Tail
+  as-lines : (s : Part Marks)
+      → Tells b i (λ (p : List ℕ × Tail). Label (p .0) × Tail·few (p .1)) (λ p. labelling (p .0) ++ spell·tail (p .1)) (λ p. tail·marks (label? (p .0)) (p .1)) s
+      → Tells b i (Character·good most) spell·lines character·marks s
+  unfolding spell·lines spell·tail tail·marks character·marks any·label
+  as-lines =
+      tells-same b i (Character·good most) spell·lines character·marks
+      (λ (p : List ℕ × Tail). record { label = p .0; states = p .1 .states; ordering = p .1 .ordering })
+      (λ p g. line-behind "label=" (escaped (p .0)) _)
+      (λ p g. record { label = g .0; states = g .1 })
+      (λ p g. refl)
+      (λ c g. ((c .label, record { ordering = c .ordering; states = c .states }), (g .label, g .states), refl))
+
+  pub lines-whole : (l : ℕ) (labelled : Bool) → r ≡ Flag.At l labelled → (t : Characters) → Tail·told b l labelled most t → Lines·told b i most t
+  unfolding flag·of
+  lines-whole l labelled here t tail =
+      as-lines (characters·of t)
+      (tells-then b i Label labelling label? (λ v. Tail·few) (λ v. spell·tail) tail·marks l labelled (characters·of t) (subst (λ a. Label·told b i a) here judged) tail)
+
+  pub lines-unlabelled : r ≡ Flag.Wrong → Lines·told b i most Characters.Wrong
+  unfolding flag·of characters·of
+  lines-unlabelled none =
+      as-lines nothing (tells-no-first b i Label labelling label? (λ v. Tail·few) (λ v. spell·tail) tail·marks (subst (λ a. Label·told b i a) none judged))
+
+-- The number, and the lines behind it.
+module _ (b : List ℕ) (i k most : ℕ) (r : Behind) (judged : Number·told b i k r) where
+  abbrev numbering : List ℕ
+  numbering = line "character=" (decimal k) []
 
   as-character : (s : Part Marks)
-      → Tells b i (λ (p : Unit {0} × Lines). Unit {0} × (Label (p .1 .0) × Tail·few (p .1 .1))) (λ p. numbering ++ (labelling (p .1 .0) ++ spell·tail (p .1 .1))) (λ p. tail·marks (label? (p .1 .0)) (p .1 .1)) s
+      → Tells b i (λ (p : Unit {0} × Character). Unit {0} × Character·good most (p .1)) (λ p. numbering ++ spell·lines (p .1)) (λ p. character·marks (p .1)) s
       → Tells b i (Character·good most) (spell·one k) character·marks s
-  unfolding spell·one spell·tail tail·marks character·marks any·label
+  unfolding spell·one
   as-character =
-      tells-same b i (Character·good most) (spell·one k) character·marks
-      (λ (p : Unit {0} × Lines). record { label = p .1 .0; states = p .1 .1 .states; ordering = p .1 .1 .ordering })
-      (λ p g. line-behind "character=" (decimal k) _ ∙ ap (λ l. numbering ++ l) (line-behind "label=" (escaped (p .1 .0)) _))
-      (λ p g. record { label = g .1 .0; states = g .1 .1 })
+      tells-same b i (Character·good most) (spell·one k) character·marks (λ (p : Unit {0} × Character). p .1) (λ p g. line-behind "character=" (decimal k) _) (λ p g. g .1)
       (λ p g. refl)
-      (λ c g. ((tt, (c .label, record { ordering = c .ordering; states = c .states })), (tt, (g .label, g .states)), refl))
+      (λ c g. ((tt, c), (tt, g), refl))
 
-  behind-number : (j : ℕ) → r ≡ Behind.At j → (s : Part Marks)
-      → Tells b j (λ (p : Lines). Label (p .0) × Tail·few (p .1)) (λ p. labelling (p .0) ++ spell·tail (p .1)) (λ p. tail·marks (label? (p .0)) (p .1)) s
-      → Tells b i (Character·good most) (spell·one k) character·marks s
+  pub character-whole : (j : ℕ) → r ≡ Behind.At j → (t : Characters) → Lines·told b j most t → Character·told b i k most t
   unfolding behind·of
-  behind-number j here s told =
-      as-character s
-      (tells-then {B = Lines} b i (λ u. Unit {0}) (λ u. numbering) (λ u. tt {0}) (λ v p. Label (p .0) × Tail·few (p .1)) (λ v p. labelling (p .0) ++ spell·tail (p .1)) (λ v p. tail·marks (label? (p .0)) (p .1)) j tt s
-      (subst (λ a. Number·told b i k a) here judged) told)
-
-  pub character-whole : (j : ℕ) → r ≡ Behind.At j → (s : Flag) → Label·told b j s → (l : ℕ) (labelled : Bool) → s ≡ Flag.At l labelled → (t : Characters)
-      → Tail·told b l labelled most t → Character·told b i k most t
-  unfolding flag·of
-  character-whole j here s told l labelled end t lines =
-      behind-number j here (characters·of t)
-      (tells-then b j Label labelling label? (λ v. Tail·few) (λ v. spell·tail) tail·marks l labelled (characters·of t) (subst (λ a. Label·told b j a) end told) lines)
-
-  pub character-unlabelled : (j : ℕ) → r ≡ Behind.At j → (s : Flag) → Label·told b j s → s ≡ Flag.Wrong → Character·told b i k most Characters.Wrong
-  unfolding flag·of characters·of
-  character-unlabelled j here s told none =
-      behind-number j here nothing
-      (tells-no-first b j Label labelling label? (λ v. Tail·few) (λ v. spell·tail) tail·marks (subst (λ a. Label·told b j a) none told))
+  character-whole j here t lines =
+      as-character (characters·of t)
+      (tells-then b i (λ u. Unit {0}) (λ u. numbering) (λ u. tt {0}) (λ v. Character·good most) (λ v. spell·lines) (λ v. character·marks) j tt (characters·of t)
+      (subst (λ a. Number·told b i k a) here judged) lines)
 
   pub character-unnumbered : r ≡ Behind.Wrong → Character·told b i k most Characters.Wrong
   unfolding behind·of characters·of
   character-unnumbered none =
       as-character nothing
-      (tells-no-first {B = Lines} b i (λ u. Unit {0}) (λ u. numbering) (λ u. tt {0}) (λ v p. Label (p .0) × Tail·few (p .1)) (λ v p. labelling (p .0) ++ spell·tail (p .1)) (λ v p. tail·marks (label? (p .0)) (p .1))
+      (tells-no-first b i (λ u. Unit {0}) (λ u. numbering) (λ u. tt {0}) (λ v. Character·good most) (λ v. spell·lines) (λ v. character·marks)
       (subst (λ a. Number·told b i k a) none judged))
 
 -- What the turns over characters keep: what is judged of the characters that are left is judged of all.

@@ -9,7 +9,6 @@ mod CellRuns
 mod CellsFit
 mod CellsJudged
 mod CellsRun
-mod CharacterApart
 mod CharactersTold
 mod HollowTexts
 mod KeyLaws
@@ -20,12 +19,11 @@ mod NameJudged
 mod NameRests
 mod NumberLaws
 mod OpeningTold
+mod PlainLines
 mod ReadingParts
 mod RecordParts
 mod RecordReads
 mod RowsTold
-mod RunBytes
-mod RunsTold
 mod SymbolRuns
 mod TellLaws
 mod Utf8Bytes

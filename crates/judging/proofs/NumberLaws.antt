@@ -1,23 +1,25 @@
 -- The value of the digits at a place, and the number that stands there: a decimal is read as its number. Assumes nothing.
-use Prim.Native.Nat.{ℕ, zero, suc, _+_, _*_, _-_, _/_, _%_, _^_, _≤_, _<_}
-use Rattle.emit.proofs.DigitsStored.{digits-most}
-use Rattle.emit.proofs.PutLaws.{puts-whole}
-use Rattle.emit.specs.Puts.{Puts}
-use Rattle.judging.proofs.JudgeLaws.{wrong-no-end}
+use Prim.Native.Nat.{ℕ, zero, suc, _+_, _*_, _-_, _/_, _%_, _≤_, _<_}
+use Rattle.emit.proofs.DecimalMade.{decimal-last, decimal-one}
+use Rattle.judging.proofs.JudgeLaws.{judges-none, wrong-no-end}
+use Rattle.judging.proofs.KeyLaws.{word-whole}
 use Rattle.naming.proofs.RowLaws.{drop-behind}
 use Rattle.judging.specs.Judges.{Judges}
 use Rattle.judging.specs.Numbers.{Number·judged, Number·stands, leading}
 use Rattle.judging.specs.declared.Behind.{Behind}
 use Rattle.judging.specs.declared.numbers.Number.{Number}
+use Rattle.lexer.proofs.Basics.{by-test}
 use Rattle.lexer.proofs.ListLaws.{drop-next}
 use Rattle.lexer.specs.Base.{pick}
 use Rattle.record.specs.Decimal.{decimal, decimal·from, digit}
 use borrow.Author.Tests.{le-leb, lt-leb, ltb-false, ltb-true}
 use lib.Dec.{leb, ltb}
 use lib.ListN.{length, drop, drop-of-length-le, getD, length-append}
+use lib.Seq.{append-snoc, getD-drop}
 use mathlib.Core.Bool.{Bool, true, false, _&&_}
-use mathlib.Core.List.{List, [], _∷_, _++_}
+use mathlib.Core.List.{List, [], _∷_, _++_, append-assoc, append-nil}
 use mathlib.Core.Path.{_≡_, refl, sym, ap, subst, _∙_}
+use native.Mathlib.Nat.{add-zero}
 use native.Mathlib.Omega.{arith}
 
 -- Digits in front of others are those of the number and the others.
@@ -62,7 +64,7 @@ leading-ended : (n : ℕ) (rest : List ℕ) → leading n (10 ∷ rest) ≡ n
 unfolding leading pick
 leading-ended n rest = refl
 
-leading-decimal : (v : ℕ) (rest : List ℕ) → v ≤ 1048576 → leading 0 (decimal v ++ (10 ∷ rest)) ≡ v
+pub leading-decimal : (v : ℕ) (rest : List ℕ) → v ≤ 1048576 → leading 0 (decimal v ++ (10 ∷ rest)) ≡ v
 unfolding decimal
 leading-decimal v rest h =
     ap (leading 0) (from-append v v [] (10 ∷ rest)) ∙ leading-from v v (10 ∷ rest) (omega arith) h ∙ leading-ended v rest
@@ -90,11 +92,82 @@ module _ (n b : ℕ) (rest : List ℕ) where
       go true false = refl
       go false y = refl
 
--- Digits that were put into a scratch of twenty bytes end within it.
-pub digits-within : (scratch after : List ℕ) (value end : ℕ) → value < 2 ^ 64 → length scratch ≡ 20 → Puts scratch 0 (λ behind. decimal value ++ behind) after end → end ≤ length after
-digits-within scratch after value end fits size p =
-    let few : length (decimal value ++ []) ≤ length scratch = omega (arith, length-append (decimal value) [], digits-most 19 value (omega arith)) in
-    omega (arith, puts-whole scratch after (λ behind. decimal value ++ behind) end p few (omega arith) .1, few, p .kept)
+-- The digits of a number in front of its last one: none, or those of its tenth.
+digits-front : (n : ℕ) → (front : List ℕ) × (decimal n ≡ front ++ (digit n ∷ [])) × (0 < length front → front ≡ decimal (n / 10))
+unfolding digit
+digits-front n =
+    by-test (ltb n 10)
+    (λ t. let small = ltb-true n 10 t in let e : n % 10 ≡ n = omega arith in ([], rw e (decimal-one n small), λ h. absurd (omega arith)))
+    (λ f. (decimal (n / 10), decimal-last n (ltb-false n 10 f), λ h. refl))
+
+-- Digits were compared from the last one on: they stand at their place, and those that are left in front of them are those of the rest.
+pub record Digits·left (b : List ℕ) (i value left rest : ℕ) : Type 0 where
+  pub front : List ℕ
+  pub behind : List ℕ
+  pub made : decimal value ≡ front ++ behind
+  pub size : length front ≡ left
+  pub few : left ≤ length (decimal value)
+  pub last : 0 < left → front ≡ decimal rest
+  pub held : drop (i + left) b ≡ behind ++ drop (i + length (decimal value)) b
+
+module _ (b : List ℕ) (i value : ℕ) where
+  pub digits-start : (count : ℕ) → count ≡ length (decimal value) → Digits·left b i value count value
+  digits-start count all =
+      record {
+        front = decimal value;
+        behind = [];
+        made = sym (append-nil (decimal value));
+        size = sym all;
+        few = omega (arith, all);
+        last = λ h. refl;
+        held = rw all refl;
+      }
+
+  module _ (left rest : ℕ) (w : Digits·left b i value left rest) (some : 0 < left) where
+    -- The last digit that is left, those in front of it and those behind.
+    abbrev fore : List ℕ
+    fore = digits-front rest .0
+
+    cut : decimal value ≡ fore ++ (digit rest ∷ w .behind)
+    cut = w .made ∙ ap (λ l. l ++ w .behind) (w .last some ∙ digits-front rest .1) ∙ append-snoc fore (digit rest) (w .behind)
+
+    shorter : length fore ≡ left - 1
+    shorter = omega (arith, w .size, ap length (w .last some ∙ digits-front rest .1), length-append fore (digit rest ∷ []))
+
+    -- It stands there, or another byte does.
+    pub digits-turn : i + (left - 1) < length b → getD b (i + (left - 1)) 0 ≡ digit rest → Digits·left b i value (left - 1) (rest / 10)
+    digits-turn within e =
+        let next : i + (left - 1) + 1 ≡ i + left = omega arith in
+        record {
+          front = fore;
+          behind = digit rest ∷ w .behind;
+          made = cut;
+          size = shorter;
+          few = omega (arith, w .few);
+          last = λ h. digits-front rest .2 (omega (arith, shorter));
+          held = drop-next b (i + (left - 1)) within ∙ rw (e, next) (ap (λ l. digit rest ∷ l) (w .held));
+        }
+
+    pub digits-other : (getD b (i + (left - 1)) 0 ≡ digit rest → ⊥) → Judges b i (λ (u : Unit {0}). Unit {0}) (λ u. decimal value) Behind.Wrong
+    digits-other ne = judges-none b i _ _ none
+      where
+        none : (u : Unit {0}) (t : List ℕ) → Unit {0} → drop i b ≡ decimal value ++ t → ⊥
+        none u t g e =
+            let there : drop (i + length fore) b ≡ digit rest ∷ (w .behind ++ t) =
+            drop-behind b i fore _ (e ∙ ap (λ l. l ++ t) cut ∙ append-assoc fore (digit rest ∷ w .behind) t) in
+            ne (ap (λ n. getD b (i + n) 0) (sym shorter) ∙ ap (λ n. getD b n 0) (sym (add-zero (i + length fore))) ∙ sym (getD-drop (i + length fore) b 0 0) ∙ ap (λ l. getD l 0 0) there)
+
+  -- None is left.
+  pub digits-end : (rest : ℕ) (left count : ℕ) → Digits·left b i value left rest → left ≤ 0 → count ≡ length (decimal value)
+      → Judges b i (λ (u : Unit {0}). Unit {0}) (λ u. decimal value) (Behind.At (i + count))
+  digits-end rest left count w over all =
+      let none : left ≡ 0 = omega arith in
+      rw all (word-whole b i (decimal value) (digits-whole (w .front) (w .size ∙ none) (w .made) (rw none at (w .held))))
+    where
+      digits-whole : (front : List ℕ) → length front ≡ 0 → decimal value ≡ front ++ w .behind → drop (i + 0) b ≡ w .behind ++ drop (i + length (decimal value)) b
+          → drop i b ≡ decimal value ++ drop (i + length (decimal value)) b
+      digits-whole [] size made held = ap (λ n. drop n b) (sym (add-zero i)) ∙ held ∙ ap (λ l. l ++ drop (i + length (decimal value)) b) (sym made)
+      digits-whole (x ∷ l) size made held = absurd (omega arith)
 
 -- The walk over the digits at a place: the value so far and those behind it are that of all.
 pub record Valuing (b : List ℕ) (i value at : ℕ) : Type 0 where

@@ -15,8 +15,9 @@ use Rattle.judging.proofs.RowsTold.{line-behind}
 use Rattle.judging.proofs.SymbolRuns.{Fresh, run-fresh, run-whole}
 use Rattle.judging.proofs.TellLaws.{no-end, same-told, tells-as, tells-failed, tells-keyed, tells-no-first, tells-no-key, tells-none, tells-passed, tells-same, tells-then, tells-untested, tells-value}
 use Rattle.judging.specs.Judges.{Stands}
+use Rattle.judging.specs.Lists.{spelled·all}
 use Rattle.judging.specs.Opening.{Apart, Behind·taxa, Behind·type, Count·good, Count·told, Opening, Opening·good, Opening·told, Sizes, Standard·told, Symbols·told, Word·told, headed·of, opened, opening·sizes, run·of, spell·opening}
-use Rattle.judging.specs.Parts.{Keyed·number, Order·told}
+use Rattle.judging.specs.Parts.{Keyed·number, Order·told, Plain·told, plain·character, spell·counted, spell·lines}
 use Rattle.judging.specs.Tells.{Part, nothing, until, Tells, flag·of, number·of}
 use Rattle.judging.specs.declared.Behind.{Behind}
 use Rattle.judging.specs.declared.characters.Flag.{Flag}
@@ -26,8 +27,8 @@ use Rattle.judging.specs.declared.numbers.Number.{Number}
 use Rattle.lexer.proofs.Basics.{all-four, and-both, not-both, or-both, or-left, or-right, same-refl, same-true}
 use Rattle.lexer.proofs.ListLaws.{drop-next}
 use Rattle.lexer.specs.Base.{among, bytes, pick}
-use Rattle.record.specs.Decimal.{decimal}
-use Rattle.record.specs.Spell.{line, order·word, type·word}
+use Rattle.record.specs.Decimal.{decimal, decimal·from, digit}
+use Rattle.record.specs.Spell.{escaped, line, order·word, type·word}
 use borrow.Author.Tests.{le-leb, le-ltb, leb-true, ltb-false}
 use lib.Dec.{leb, ltb}
 use lib.ListN.{length, drop, getD, take, length-append, length-drop, take-append-drop}
@@ -80,20 +81,20 @@ module _ (b : List ℕ) (i : ℕ) (first second : List ℕ) (apart : Apart first
         neither false rest g e = wrong-no-end _ (sym none ∙ judged .all tt rest tt e)
         neither true rest g e = wrong-no-end _ (sym nor ∙ other .all tt rest tt e)
 
--- The line of a character's type.
-pub order-told : (b : List ℕ) (i : ℕ) (r : Flag)
-    → (Apart (bytes "order=UNORD\n") (bytes "order=ORD\n") → Word·told b i (bytes "order=UNORD\n") (bytes "order=ORD\n") r) → Order·told b i r
-unfolding line order·word ordered? pick bytes
-order-told b i r told =
-    tells-same b i (λ o. Unit {0}) (λ o. line "order=" (order·word o) []) ordered? made spells (λ x g. tt) tells maker (flag·of r) (told apart)
+-- One of two words, one for each type of a character.
+ordering-told : (b : List ℕ) (i : ℕ) (spelled : CharacterOrdering → List ℕ) (r : Flag) (first second : List ℕ)
+    → spelled CharacterOrdering.Unordered ≡ first → spelled CharacterOrdering.Ordered ≡ second → Word·told b i first second r
+    → Tells b i (λ (o : CharacterOrdering). Unit {0}) spelled ordered? (flag·of r)
+unfolding ordered? pick
+ordering-told b i spelled r first second unordered ordered = tells-same b i (λ o. Unit {0}) spelled ordered? made spells (λ x g. tt) tells maker (flag·of r)
   where
     made : Bool → CharacterOrdering
     made false = CharacterOrdering.Unordered
     made true = CharacterOrdering.Ordered
 
-    spells : (x : Bool) → Unit {0} → line "order=" (order·word (made x)) [] ≡ pick x (bytes "order=ORD\n") (bytes "order=UNORD\n")
-    spells false g = refl
-    spells true g = refl
+    spells : (x : Bool) → Unit {0} → spelled (made x) ≡ pick x second first
+    spells false g = unordered
+    spells true g = ordered
 
     tells : (x : Bool) → Unit {0} → ordered? (made x) ≡ x
     tells false g = refl
@@ -103,8 +104,21 @@ order-told b i r told =
     maker CharacterOrdering.Unordered g = (false, tt, refl)
     maker CharacterOrdering.Ordered g = (true, tt, refl)
 
-    apart : Apart (bytes "order=UNORD\n") (bytes "order=ORD\n")
-    apart s t e = let z : _≡_ {A = ℕ} 85 79 = ap (λ l. getD l 6 0) e in omega (arith, z)
+-- The line of a character's type; and all lines behind the number of one without labels.
+pub order-told : (b : List ℕ) (i : ℕ) (r : Flag)
+    → (Apart (bytes "order=UNORD\n") (bytes "order=ORD\n") → Word·told b i (bytes "order=UNORD\n") (bytes "order=ORD\n") r) → Order·told b i r
+unfolding line order·word bytes
+order-told b i r told =
+    ordering-told b i (λ o. line "order=" (order·word o) []) r _ _ refl refl
+    (told (λ s t e. let z : _≡_ {A = ℕ} 85 79 = ap (λ l. getD l 6 0) e in omega (arith, z)))
+
+pub plain-told : (b : List ℕ) (i : ℕ) (r : Flag)
+    → (Apart (bytes "label=\norder=UNORD\nstates=0\n") (bytes "label=\norder=ORD\nstates=0\n")
+    → Word·told b i (bytes "label=\norder=UNORD\nstates=0\n") (bytes "label=\norder=ORD\nstates=0\n") r) → Plain·told b i r
+unfolding plain·character spell·lines spell·counted spelled·all line order·word escaped decimal decimal·from digit bytes
+plain-told b i r told =
+    ordering-told b i (λ o. spell·lines (plain·character o)) r _ _ refl refl
+    (told (λ s t e. let z : _≡_ {A = ℕ} 85 79 = ap (λ l. getD l 13 0) e in omega (arith, z)))
 
 -- A count that is not 0.
 module _ (b : List ℕ) (i : ℕ) (key : List ℕ) (r : Number) (judged : Keyed·number b i key r) where

@@ -8,7 +8,7 @@ use Rattle.block.specs.Sequential.{names}
 use Rattle.block.specs.Sound.{few·states, gap·among, gap·in, sound·cells, sound·label, sound·labels, sound·name, sound·names, sound·rows}
 use Rattle.judging.proofs.RowsTold.{line-behind}
 use Rattle.judging.specs.Lists.{Each, spelled·all, told·all}
-use Rattle.judging.specs.Parts.{Character·good, Row·good, States·good, character·marks, join·marks, row·gap, spell·counted, spell·one, spell·row, spell·state}
+use Rattle.judging.specs.Parts.{Character·good, Row·good, States·good, character·marks, join·marks, row·gap, spell·counted, spell·lines, spell·one, spell·row, spell·state}
 use Rattle.judging.specs.Tells.{Marks}
 use Rattle.lexer.proofs.Basics.{and-both, and-left, and-right, or-assoc, or-false}
 use Rattle.record.specs.Decimal.{decimal}
@@ -94,20 +94,26 @@ pub line-append : (key : _) (v a behind : List ℕ) → line key v (a ++ behind)
 line-append key v a behind =
     line-behind key v (a ++ behind) ∙ sym (append-assoc (line key v []) a behind) ∙ ap (λ l. l ++ behind) (sym (line-behind key v a))
 
--- A character in front of what stands behind it.
-character-spelled : (k : ℕ) (c : Character) (behind : List ℕ) → spell·character k c behind ≡ spell·one k c ++ behind
-unfolding spell·character spell·one spell·counted
-character-spelled k c behind =
+-- A character's lines, and the character, in front of what stands behind.
+abbrev counted : Character → List ℕ → List ℕ
+counted c behind = line "label=" (escaped (c .label)) (line "order=" (order·word (c .ordering)) (line "states=" (decimal (length (c .states))) behind))
+
+pub lines-spelled : (c : Character) (behind : List ℕ) → counted c (spelled·all spell·state 1 (c .states) ++ behind) ≡ spell·lines c ++ behind
+unfolding spell·lines spell·counted
+lines-spelled c behind =
     let states = spelled·all spell·state 1 (c .states) in
-    let counted = line "states=" (decimal (length (c .states))) in
+    let numbered = line "states=" (decimal (length (c .states))) in
     let ordered = line "order=" (order·word (c .ordering)) in
-    let labelling = line "label=" (escaped (c .label)) in
-    let numbered = line "character=" (decimal k) in
-    ap (λ l. numbered (labelling (ordered (counted l)))) (states-spelled 1 (c .states) behind)
-    ∙ ap (λ l. numbered (labelling (ordered l))) (line-append "states=" (decimal (length (c .states))) states behind)
-    ∙ ap (λ l. numbered (labelling l)) (line-append "order=" (order·word (c .ordering)) (counted states) behind)
-    ∙ ap numbered (line-append "label=" (escaped (c .label)) (ordered (counted states)) behind)
-    ∙ line-append "character=" (decimal k) (labelling (ordered (counted states))) behind
+    ap (λ l. line "label=" (escaped (c .label)) (ordered l)) (line-append "states=" (decimal (length (c .states))) states behind)
+    ∙ ap (line "label=" (escaped (c .label))) (line-append "order=" (order·word (c .ordering)) (numbered states) behind)
+    ∙ line-append "label=" (escaped (c .label)) (ordered (numbered states)) behind
+
+character-spelled : (k : ℕ) (c : Character) (behind : List ℕ) → spell·character k c behind ≡ spell·one k c ++ behind
+unfolding spell·character spell·one
+character-spelled k c behind =
+    ap (λ l. line "character=" (decimal k) (counted c l)) (states-spelled 1 (c .states) behind)
+    ∙ ap (line "character=" (decimal k)) (lines-spelled c behind)
+    ∙ line-append "character=" (decimal k) (spell·lines c) behind
 
 pub characters-spelled : (k : ℕ) (cs : List Character) (behind : List ℕ) → spell·characters k cs behind ≡ spelled·all spell·one k cs ++ behind
 unfolding spell·characters spelled·all

@@ -1,4 +1,4 @@
--- Laws of judging parts of which something is told: where nothing stands, a part made of another, a part that must pass a test besides, and a part
+-- Laws of judging parts of which something is told: where nothing stands, where one thing stands, a part made of another, a part that must pass a test besides, and a part
 -- behind another, which may depend on what is told of the first. Assumes nothing.
 use Prim.Native.Nat.{ℕ, _+_}
 use Rattle.judging.proofs.JudgeLaws.{wrong-no-end}
@@ -25,6 +25,17 @@ module _ {A T : Type 0} (b : List ℕ) (i : ℕ) (good : A → Type 0) (spelled 
   -- Where nothing good stands, the answer is none.
   pub tells-none : ((what : A) (rest : List ℕ) → good what → drop i b ≡ spelled what ++ rest → ⊥) → Tells b i good spelled tell nothing
   tells-none absent = record { found = λ j v e. absurd (no-end e); all = λ what rest g e. absurd (absent what rest g e) }
+
+  -- Where something good stands, and nothing else that is good, the answer is its end and what is told of it.
+  pub tells-one : (what : A) (rest : List ℕ) → good what → drop i b ≡ spelled what ++ rest → ((w : A) (t : List ℕ) → good w → drop i b ≡ spelled w ++ t → w ≡ what)
+      → Tells b i good spelled tell (until (i + length (spelled what)) (tell what))
+  tells-one what rest g e only = record { found = found; all = λ w t h f. ap (λ x. until (i + length (spelled x)) (tell x)) (sym (only w t h f)) }
+    where
+      found : (j : ℕ) (v : T) → until (i + length (spelled what)) (tell what) ≡ until j v → (s : Stands b i good spelled j) × (v ≡ tell (s .what))
+      found j v q =
+          let (end, is) = same-told q in
+          let behind : drop j b ≡ rest = ap (λ n. drop n b) (sym end) ∙ drop-behind b i (spelled what) rest e in
+          (record { what = what; sound = g; here = rw behind e; end = sym end }, sym is)
 
   -- Where the answer is none, nothing good stands.
   pub tells-nothing : Tells b i good spelled tell nothing → (what : A) (rest : List ℕ) → good what → drop i b ≡ spelled what ++ rest → ⊥

@@ -9,6 +9,5 @@ pub mod Shapes
 pub mod Tells
 pub mod Lists
 pub mod Parts
-pub mod Runs
 pub mod Opening
 pub mod Whole

@@ -95,19 +95,33 @@ tail·marks labelled t = record { labelled = labelled || not (empty? (t .states)
 abbrev pub Tail·told : List ℕ → ℕ → Bool → ℕ → Characters → Type 0
 Tail·told b i labelled most r = Tells b i (λ t. Few most (t .states)) spell·tail (tail·marks labelled) (characters·of r)
 
--- The character of a number: its number, its label, and the lines behind it.
+-- The character of a number: its number, and its lines behind it, a label, a type and state labels.
 pub record Character·good (most : ℕ) (c : Character) : Type 0 where
   pub label : sound·label (c .label) ≡ true
   pub states : Few most (c .states)
 
+unfoldable pub spell·lines : Character → List ℕ
+spell·lines c = line "label=" (escaped (c .label)) (line "order=" (order·word (c .ordering)) (spell·counted (c .states)))
+
 unfoldable pub spell·one : ℕ → Character → List ℕ
-spell·one k c = line "character=" (decimal k) (line "label=" (escaped (c .label)) (line "order=" (order·word (c .ordering)) (spell·counted (c .states))))
+spell·one k c = line "character=" (decimal k) (spell·lines c)
 
 unfoldable pub character·marks : Character → Marks
 character·marks c = record { labelled = any·label c; ordered = ordered? (c .ordering) }
 
+-- Its lines behind its number, and the whole.
+abbrev pub Lines·told : List ℕ → ℕ → ℕ → Characters → Type 0
+Lines·told b i most r = Tells b i (Character·good most) spell·lines character·marks (characters·of r)
+
 abbrev pub Character·told : List ℕ → ℕ → ℕ → ℕ → Characters → Type 0
 Character·told b i k most r = Tells b i (Character·good most) (spell·one k) character·marks (characters·of r)
+
+-- The lines behind its number of a character that has neither a label nor state labels: whether it is ordered is told.
+unfoldable pub plain·character : CharacterOrdering → Character
+plain·character o = record { label = []; states = []; ordering = o }
+
+abbrev pub Plain·told : List ℕ → ℕ → Flag → Type 0
+Plain·told b i r = Tells b i (λ (o : CharacterOrdering). Unit {0}) (λ o. spell·lines (plain·character o)) ordered? (flag·of r)
 
 -- So many characters.
 unfoldable pub join·marks : Marks → Marks → Marks

@@ -10,7 +10,7 @@ ghost use mathlib.Core.Path.{_≡_};
 use super::cells::Mode;
 use super::cells::Walk;
 
-// Is each of sixteen bytes between two bytes, or one of two others? All are compared, so that the compiler does it at once.
+// Is each of sixteen bytes between two bytes, or one of two others? All are compared, even behind one that is not.
 fn all_held(source: &[u8], at: usize, low: &[u8], high: &[u8], one: &[u8], other: &[u8]) -> bool
     requires { ⌜ (at + 16 ≤ length (now source)) × (length (now low) ≡ 16) × (length (now high) ≡ 16) × (length (now one) ≡ 16) × (length (now other) ≡ 16) ⌝ }
     ensures { λ r. ⌜ (r ≡ true → All·held (now (source .entry)) at (now (low .entry)) (now (high .entry)) (now (one .entry)) (now (other .entry)) 16) ⌝ }
@@ -33,7 +33,7 @@ fn eight_gaps(source: &[u8], at: usize) -> bool
     let mut gap = false;
     let mut i = 0;
     while i < 8 {
-        gap = gap | (source[at + 2 * i] == 103);
+        gap = gap | (source[at + 2 * i] == b'g');
         i += 1;
     }
     gap
@@ -44,9 +44,9 @@ fn top_digit(symbols: usize) -> u8
     ensures { λ r. ⌜ (r ≤ 57) × (r < 48 + symbols) ⌝ }
 {
     if symbols < 10 {
-        return 47 + symbols as u8;
+        return b'/' + symbols as u8;
     }
-    57
+    b'9'
 }
 
 // The walk where a cell is to begin, behind so many blanks, with a gap before it or none.
@@ -68,21 +68,21 @@ fn eights(source: &[u8], from: usize, blanks: usize, gap: bool, top: u8) -> Walk
 {
     let high = [
         top,
-        32,
+        b' ',
         top,
-        32,
+        b' ',
         top,
-        32,
+        b' ',
         top,
-        32,
+        b' ',
         top,
-        32,
+        b' ',
         top,
-        32,
+        b' ',
         top,
-        32,
+        b' ',
         top,
-        32,
+        b' ',
     ];
     let mut at = from;
     let mut many = blanks;
@@ -105,7 +105,7 @@ fn eights(source: &[u8], from: usize, blanks: usize, gap: bool, top: u8) -> Walk
     fresh(at, many, any)
 }
 
-// This behind seven cells, and each eight further on; else the walk as it is.
+// The same, tried only where seven cells, or eight more each time, were read: where cells do not go by eights, it is seldom tried in vain.
 pub fn cells_run(source: &[u8], from: usize, blanks: usize, gap: bool, symbols: usize) -> Walk
     requires { ⌜ (from ≤ length (now source)) × (blanks ≤ from) ⌝ }
     ensures { λ r. ⌜ (from ≤ r .at) × Moves (now (source .entry)) symbols (record { at = from; mode = Mode.Fresh; blanks = blanks; gap = gap }) r ⌝ }

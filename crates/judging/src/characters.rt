@@ -1,7 +1,7 @@
 // The characters of a record, each by its number, its label, its type and its state labels.
 
 ghost use Prim.Native.Nat.{_≤_};
-ghost use Rattle.judging.specs.Parts.{Character·told, Characters·told, Counted·told, Label·told, Order·told, States·told, Tail·told, Number·told};
+ghost use Rattle.judging.specs.Parts.{Character·told, Characters·told, Counted·told, Label·told, Lines·told, Number·told, Order·told, Plain·told, States·told, Tail·told};
 use super::Behind;
 use super::heads::two_words;
 use super::keys::key_at;
@@ -10,7 +10,6 @@ use super::names::label_line;
 use super::numbers::Number;
 use super::numbers::decimal_at;
 use super::numbers::keyed_number;
-use super::runs::alike_run;
 use block::CharacterNumber;
 use lexer::byte_or_zero;
 
@@ -45,7 +44,7 @@ fn keyed_label(source: &[u8], i: usize) -> Flag
 {
     match key_at(source, i, b"label=") {
         Behind::At(j) => match label_line(source, j) {
-            Behind::At(k) => Flag::At(k, byte_or_zero(source, j) != 10),
+            Behind::At(k) => Flag::At(k, byte_or_zero(source, j) != b'\n'),
             Behind::Wrong => Flag::Wrong,
         },
         Behind::Wrong => Flag::Wrong,
@@ -110,21 +109,42 @@ fn behind_label(source: &[u8], i: usize, labelled: bool, most: usize) -> Charact
     }
 }
 
+// The lines of a character behind its number, if it has neither a label nor state labels: where they end, and whether it is ordered.
+fn plain_lines(source: &[u8], i: usize) -> Flag
+    ensures { λ r. ⌜ Plain·told (now (source .entry)) i r ⌝ }
+{
+    two_words(
+        source,
+        i,
+        b"label=\norder=UNORD\nstates=0\n",
+        b"label=\norder=ORD\nstates=0\n",
+    )
+}
+
+// The lines of a character behind its number, with at most so many state labels. Most characters have no labels, so this is tried first.
+fn behind_number(source: &[u8], i: usize, most: usize) -> Characters
+    ensures { λ r. ⌜ (most ≤ 1048576 → Lines·told (now (source .entry)) i most r) ⌝ }
+{
+    match plain_lines(source, i) {
+        Flag::At(j, ordered) => Characters::Behind(j, false, ordered),
+        Flag::Wrong => match keyed_label(source, i) {
+            Flag::At(l, labelled) => behind_label(source, l, labelled, most),
+            Flag::Wrong => Characters::Wrong,
+        },
+    }
+}
+
 // The character of a number, with at most so many state labels.
 fn character(source: &[u8], i: usize, k: CharacterNumber, most: usize) -> Characters
     ensures { λ r. ⌜ (most ≤ 1048576 → Character·told (now (source .entry)) i (k .0) most r) ⌝ }
 {
     match character_number(source, i, k) {
-        Behind::At(j) => match keyed_label(source, j) {
-            Flag::At(l, labelled) => behind_label(source, l, labelled, most),
-            Flag::Wrong => Characters::Wrong,
-        },
+        Behind::At(j) => behind_number(source, j, most),
         Behind::Wrong => Characters::Wrong,
     }
 }
 
-// So many characters from a place on, each with at most so many state labels. Those that follow one with the same bytes but for two digits of their
-// number are as good as it.
+// So many characters from a place on, each with at most so many state labels.
 pub fn character_lines(
     source: &[u8],
     i: usize,
@@ -138,12 +158,9 @@ pub fn character_lines(
     let mut ordered = false;
     let mut left = characters.0;
     while 0 < left {
-        let k = CharacterNumber(characters.0 - left + 1);
-        match character(source, at, k, most) {
+        match character(source, at, CharacterNumber(characters.0 - left + 1), most) {
             Characters::Behind(j, l, o) => {
-                let run = alike_run(source, at, j, k, left - 1);
-                at = run.behind;
-                left -= run.count;
+                at = j;
                 labelled = labelled | l;
                 ordered = ordered | o;
             }

@@ -42,10 +42,10 @@ pub fn two_words(source: &[u8], i: usize, first: &[u8], second: &[u8]) -> Flag
 }
 
 // A count behind a key, which is not 0.
-fn count_line(source: &[u8], i: usize, key: &[u8]) -> Number
-    ensures { λ r. ⌜ Count·told (now (source .entry)) i (now (key .entry)) r ⌝ }
+fn count_line(source: &[u8], i: usize, word: &[u8]) -> Number
+    ensures { λ r. ⌜ Count·told (now (source .entry)) i (now (word .entry)) r ⌝ }
 {
-    match keyed_number(source, i, key) {
+    match keyed_number(source, i, word) {
         Number::At(n, j) => {
             if n == 0 {
                 return Number::Wrong;

@@ -8,7 +8,6 @@ mod keys;
 mod names;
 mod numbers;
 mod rows;
-mod runs;
 mod symbols;
 mod whole;
 

@@ -66,10 +66,10 @@ fn lead(b: u8, blank: bool) -> Naming
 fn next_byte(s: Naming, b: u8, wide: bool) -> Naming
     ensures { λ r. ⌜ ((n : List ℕ) → wide·blank b n ≡ wide → name·rest s (b ∷ n) ≡ name·rest r n) ⌝ }
 {
-    if (b == 95) | (b == 13) {
+    if (b == b'_') | (b == b'\r') {
         return no_name();
     }
-    let hollow = ((9 <= b) & (b <= 13)) | ((128 <= b) & (b < 192)) | ((192 <= b) & wide);
+    let hollow = ((b'\t' <= b) & (b <= b'\r')) | ((128 <= b) & (b < 192)) | ((192 <= b) & wide);
     let blank = s.blank & hollow;
     if s.more == 0 {
         if b < 128 {
@@ -112,7 +112,7 @@ fn wide_at(source: &[u8], i: usize) -> bool
 fn unescape(b: u8) -> u8
     ensures { λ r. ⌜ r ≡ unescape b ⌝ }
 {
-    choose(b == 48, 10, choose(b == 49, 92, 0))
+    choose(b == b'0', b'\n', choose(b == b'1', b'\\', 0))
 }
 
 // The name's end at j, if it may end where this is open.
@@ -134,7 +134,7 @@ fn ascii_run(source: &[u8], from: usize) -> usize
     let mut at = from;
     while at < source.len() {
         let b = source[at];
-        if (128 <= b) | (b == 10) | (b == 92) | ((b == 95) | (b == 13)) {
+        if (128 <= b) | (b == b'\n') | (b == b'\\') | ((b == b'_') | (b == b'\r')) {
             return at;
         }
         at += 1;
@@ -168,10 +168,10 @@ pub fn name_line(source: &[u8], i: usize) -> Behind
     let mut at = i;
     while at < source.len() {
         let b = source[at];
-        if b == 10 {
+        if b == b'\n' {
             return name_end(s, at + 1);
         }
-        if b == 92 {
+        if b == b'\\' {
             let meant = unescape(byte_or_zero(source, at + 1));
             if meant == 0 {
                 return Behind::Wrong;
@@ -190,17 +190,17 @@ pub fn name_line(source: &[u8], i: usize) -> Behind
 pub fn label_line(source: &[u8], i: usize) -> Behind
     ensures { λ r. ⌜ Judges (now (source .entry)) i (λ n. sound·label n ≡ true) (λ n. escaped n ++ (10 ∷ [])) r ⌝ }
 {
-    if byte_or_zero(source, i) == 10 {
+    if byte_or_zero(source, i) == b'\n' {
         return Behind::At(i + 1);
     }
     name_line(source, i)
 }
 
 // A line of a key and a name: where it ends, or that there is none.
-pub fn keyed_name(source: &[u8], i: usize, key: &[u8]) -> Behind
-    ensures { λ r. ⌜ Judges (now (source .entry)) i (λ n. sound·name n ≡ true) (λ n. now (key .entry) ++ (escaped n ++ (10 ∷ []))) r ⌝ }
+pub fn keyed_name(source: &[u8], i: usize, word: &[u8]) -> Behind
+    ensures { λ r. ⌜ Judges (now (source .entry)) i (λ n. sound·name n ≡ true) (λ n. now (word .entry) ++ (escaped n ++ (10 ∷ []))) r ⌝ }
 {
-    match key_at(source, i, key) {
+    match key_at(source, i, word) {
         Behind::At(j) => name_line(source, j),
         Behind::Wrong => Behind::Wrong,
     }

@@ -7,8 +7,9 @@ ghost use Rattle.record.specs.Decimal.{decimal};
 ghost use lib.ListN.{drop};
 ghost use mathlib.Core.Path.{_≡_};
 use super::Behind;
+use super::keys::bytes_from;
 use super::keys::key_at;
-use emit::put_decimal;
+use emit::digits_of;
 
 // A number and where its line ends; or there is none.
 pub enum Number {
@@ -24,28 +25,39 @@ fn leading(source: &[u8], i: usize) -> usize
     let mut at = i;
     while at < source.len() {
         let b = source[at];
-        if b < 48 {
+        if b < b'0' {
             return value;
         }
-        if 57 < b {
+        if b'9' < b {
             return value;
         }
         if 1048576 < value {
             return value;
         }
-        value = value * 10 + (b - 48) as usize;
+        value = value * 10 + (b - b'0') as usize;
         at += 1;
     }
     value
 }
 
-// Do the digits of a number stand at a place?
+// Do the digits of a number stand at a place? They are compared from the last one on.
 pub fn decimal_at(source: &[u8], i: usize, value: usize) -> Behind
     ensures { λ r. ⌜ Judges (now (source .entry)) i (λ (u : Unit {0}). Unit {0}) (λ u. decimal value) r ⌝ }
 {
-    let mut digits = [0u8; 20];
-    let n = put_decimal(&mut digits, 0, value as u64);
-    key_at(source, i, &digits[..n])
+    let count = digits_of(value as u64);
+    if bytes_from(source, i) < count {
+        return Behind::Wrong;
+    }
+    let mut left = count;
+    let mut rest = value;
+    while 0 < left {
+        left -= 1;
+        if source[i + left] != b'0' + (rest % 10) as u8 {
+            return Behind::Wrong;
+        }
+        rest = rest / 10;
+    }
+    Behind::At(i + count)
 }
 
 // The number that stands at a place, ended by LF.
@@ -66,10 +78,10 @@ pub fn number_line(source: &[u8], i: usize) -> Number
 }
 
 // The number that stands at a place behind a key, ended by LF.
-pub fn keyed_number(source: &[u8], i: usize, key: &[u8]) -> Number
-    ensures { λ r. ⌜ Keyed·number (now (source .entry)) i (now (key .entry)) r ⌝ }
+pub fn keyed_number(source: &[u8], i: usize, word: &[u8]) -> Number
+    ensures { λ r. ⌜ Keyed·number (now (source .entry)) i (now (word .entry)) r ⌝ }
 {
-    match key_at(source, i, key) {
+    match key_at(source, i, word) {
         Behind::At(j) => number_line(source, j),
         Behind::Wrong => Number::Wrong,
     }

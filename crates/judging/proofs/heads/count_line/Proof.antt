@@ -11,16 +11,16 @@ enum-known-n : tie.Need-enum-known-n
 enum-known-n c = search needs
 
 returns : tie.Need-returns
-returns c = let n = c .before .before in count-zero _ _ (c .before .before .before .before .before .before .before .args .key .now) _ (n .before .before .keyed-number .ensures) _ _ (n .n .given .1) (c .if1 .taken)
+returns c = let n = c .before .before in count-zero _ _ (c .before .before .before .before .before .before .before .args .word .now) _ (n .before .before .keyed-number .ensures) _ _ (n .n .given .1) (c .if1 .taken)
 
 enum-told : tie.Need-enum-told
 enum-told c = search needs
 
 returns-2 : tie.Need-returns-2
-returns-2 c = let n = c .before .before in count-some _ _ (c .before .before .before .before .before .before .before .args .key .now) _ (n .before .before .keyed-number .ensures) _ _ (n .n .given .1) (c .if1 .left)
+returns-2 c = let n = c .before .before in count-some _ _ (c .before .before .before .before .before .before .before .args .word .now) _ (n .before .before .keyed-number .ensures) _ _ (n .n .given .1) (c .if1 .left)
 
 returns-3 : tie.Need-returns-3
-returns-3 c = count-none _ _ (c .before .before .before .before .before .args .key .now) _ (c .before .before .keyed-number .ensures) (c .enum-told .given .1)
+returns-3 c = count-none _ _ (c .before .before .before .before .before .args .word .now) _ (c .before .before .keyed-number .ensures) (c .enum-told .given .1)
 
 pub count-line-spec : {M : Type 1} → statement M
 count-line-spec =

@@ -1,36 +1,35 @@
--- The function `key_at` meets its contract. A turn compares one byte more. The measure is how many of the key are left. Assumes nothing.
+-- The function `key_at` meets its contract: a turn compares one byte more. The measure is how many of the word are left. Assumes nothing.
 use Prim.Native.Nat.{_-_}
-use Rattle.judging.proofs.KeyLaws.{Keyed, keyed-end, keyed-other, keyed-short, keyed-start, keyed-turn}
-use Rattle.judging.proofs.keys.key_at.Statement.{statement}
-use Rattle.judging.proofs.keys.key_at.Tie as tie
+use Rattle.judging.proofs.KeyLaws.{Compared, compared-other, compared-same, compared-start, compared-turn, word-short}
 use borrow.Author.Needs.{needs}
 use lib.ListN.{length}
+use native.Mathlib.Omega.{arith}
+use Rattle.judging.proofs.keys.key_at.Statement.{statement}
+use Rattle.judging.proofs.keys.key_at.Tie as tie
 
 abbrev Inv-loop : tie.InvT-loop
-Inv-loop source i key at₀ k₀ at k = Keyed source i key at k
+Inv-loop source i word same₀ k₀ same k = Compared source i word same k
 
 abbrev μ-loop : tie.MeasureT-loop
-μ-loop source i key at₀ k₀ at k = length key - k
+μ-loop source i word same₀ k₀ same k = length word - k
 
-loop-holds : tie.Need-loop-holds Inv-loop μ-loop
-loop-holds c = keyed-start _ _ _
+bytes-from-requires : tie.Need-bytes-from-requires Inv-loop μ-loop
+bytes-from-requires c κs = search needs
 
 returns : tie.Need-returns Inv-loop μ-loop
-returns c = keyed-short _ _ _ _ _ (c .before .before .loop .inv) (c .before .loop-test .taken) (c .if1 .taken)
+returns c = word-short _ _ _ (omega (arith, c .before .bytes-from .ensures, c .if1 .taken))
 
-shared-slice-read-if2 : tie.Need-shared-slice-read-if2 Inv-loop μ-loop
-shared-slice-read-if2 c = search needs
+loop-holds : tie.Need-loop-holds Inv-loop μ-loop
+loop-holds c = compared-start _ _ _
 
-shared-slice-read-if2-2 : tie.Need-shared-slice-read-if2-2 Inv-loop μ-loop
-shared-slice-read-if2-2 c = search needs
+add-same : tie.Need-add-same Inv-loop μ-loop
+add-same c = search needs
 
-returns-2 : tie.Need-returns-2 Inv-loop μ-loop
-returns-2 c =
-    let t = c .before .before .before .before in
-    keyed-other _ _ _ _ _ (t .before .loop .inv) (t .loop-test .taken) (c .if2 .taken)
+shared-slice-read-same : tie.Need-shared-slice-read-same Inv-loop μ-loop
+shared-slice-read-same c = search needs
 
-add-at : tie.Need-add-at Inv-loop μ-loop
-add-at c = search needs
+shared-slice-read-same-2 : tie.Need-shared-slice-read-same-2 Inv-loop μ-loop
+shared-slice-read-same-2 c = search needs
 
 add-k : tie.Need-add-k Inv-loop μ-loop
 add-k c = search needs
@@ -40,11 +39,18 @@ loop-less c = search needs
 
 loop-again : tie.Need-loop-again Inv-loop μ-loop
 loop-again c =
-    let t = c .before .before .before .before in
-    keyed-turn _ _ _ _ _ (t .before .loop .inv) (t .loop-test .taken) (c .before .before .before .if1 .left) (c .if2 .left)
+    let l = c .before .before .before in
+    let room = l .before in
+    compared-turn _ _ _ _ _ (l .loop .inv) (c .before .before .loop-test .taken) (omega (arith, c .before .before .loop-test .taken, room .if1 .left, room .before .bytes-from .ensures))
+
+add-t16 : tie.Need-add-t16 Inv-loop μ-loop
+add-t16 c = search needs
+
+returns-2 : tie.Need-returns-2 Inv-loop μ-loop
+returns-2 c = compared-same _ _ _ _ _ (c .before .before .loop .inv) (c .before .loop-test .left) (c .if2 .taken)
 
 returns-3 : tie.Need-returns-3 Inv-loop μ-loop
-returns-3 c = keyed-end _ _ _ _ _ (c .before .loop .inv) (c .loop-test .left)
+returns-3 c = compared-other _ _ _ _ _ (c .before .before .loop .inv) (c .if2 .left)
 
 pub key-at-spec : {M : Type 1} → statement M
 key-at-spec =
@@ -52,13 +58,15 @@ key-at-spec =
     (tie.spec
     Inv-loop
     μ-loop
-    loop-holds
+    bytes-from-requires
     returns
-    shared-slice-read-if2
-    shared-slice-read-if2-2
-    returns-2
-    add-at
+    loop-holds
+    add-same
+    shared-slice-read-same
+    shared-slice-read-same-2
     add-k
     loop-less
     loop-again
+    add-t16
+    returns-2
     returns-3)

@@ -1,45 +1,83 @@
--- The function `decimal_at` meets its contract: the digits stand at the front of a scratch, and are compared as a key. Assumes nothing.
-use Rattle.emit.proofs.DigitsStored.{digits-front}
-use Rattle.judging.proofs.NumberLaws.{digits-within}
+-- The function `decimal_at` meets its contract: a turn compares the last digit that is left. The measure is how many are left. Assumes nothing.
+use Rattle.judging.proofs.KeyLaws.{word-short}
+use Rattle.judging.proofs.NumberLaws.{Digits·left, digits-end, digits-other, digits-start, digits-turn}
+use Rattle.record.specs.Decimal.{digit}
+use borrow.Author.Needs.{needs}
+use native.Mathlib.Omega.{arith}
 use Rattle.judging.proofs.numbers.decimal_at.Statement.{statement}
 use Rattle.judging.proofs.numbers.decimal_at.Tie as tie
-use Rattle.judging.specs.Judges.{Judges}
-use borrow.Author.Needs.{needs}
-use denote.Ref.{now}
-use lib.Seq.{length-take-le}
-use mathlib.Core.Path.{sym, subst, refl}
-use native.Mathlib.Omega.{arith}
 
-slice-aggregate-put-decimal : tie.Need-slice-aggregate-put-decimal
-slice-aggregate-put-decimal c = search needs
+abbrev Inv-loop : tie.InvT-loop
+Inv-loop source i value count left₀ rest₀ left rest = Digits·left source i value left rest
 
-put-decimal-requires : tie.Need-put-decimal-requires
-put-decimal-requires c κs = search needs
+abbrev μ-loop : tie.MeasureT-loop
+μ-loop source i value count left₀ rest₀ left rest = left
 
-array-share-prefix-digits : tie.Need-array-share-prefix-digits
-array-share-prefix-digits c = digits-within _ _ _ _ (omega arith) refl (c .before .put-decimal .ensures)
+digits-of-requires : tie.Need-digits-of-requires Inv-loop μ-loop
+digits-of-requires c κs = search needs
 
-slice-aggregate-key-at : tie.Need-slice-aggregate-key-at
-slice-aggregate-key-at c =
-    let p = c .before .before in
-    sym (length-take-le _ (p .put-decimal .last .0) (digits-within _ _ _ _ (omega arith) refl (p .put-decimal .ensures)))
+bytes-from-requires : tie.Need-bytes-from-requires Inv-loop μ-loop
+bytes-from-requires c κs = search needs
 
-key-at-requires : tie.Need-key-at-requires
-key-at-requires c κs = search needs
+returns : tie.Need-returns Inv-loop μ-loop
+returns c = word-short _ _ _ (omega (arith, c .before .bytes-from .ensures, c .before .before .digits-of .ensures, c .if1 .taken))
 
-returns : tie.Need-returns
-returns c =
-    let p = c .before .before .before in
-    let s = p .before .before .before in
-    subst (λ l. Judges (now (s .args .source)) (s .args .i) (λ (u : Unit {0}). Unit {0}) (λ u. l) (c .key-at .result)) (digits-front _ _ _ _ (omega arith) refl (p .put-decimal .ensures)) (c .key-at .ensures)
+loop-holds : tie.Need-loop-holds Inv-loop μ-loop
+loop-holds c = digits-start _ _ _ _ (c .before .before .digits-of .ensures)
+
+sub-left : tie.Need-sub-left Inv-loop μ-loop
+sub-left c = search needs
+
+add-if2 : tie.Need-add-if2 Inv-loop μ-loop
+add-if2 c = search needs
+
+shared-slice-read-if2 : tie.Need-shared-slice-read-if2 Inv-loop μ-loop
+shared-slice-read-if2 c = search needs
+
+cast-if2 : tie.Need-cast-if2 Inv-loop μ-loop
+cast-if2 c = search needs
+
+add-if2-2 : tie.Need-add-if2-2 Inv-loop μ-loop
+add-if2-2 c = search needs
+
+returns-2 : tie.Need-returns-2 Inv-loop μ-loop
+unfolding digit
+returns-2 c = let l = c .before .before .before in digits-other _ _ _ _ _ (l .loop .inv) (c .before .before .loop-test .taken) (c .if2 .taken)
+
+loop-less : tie.Need-loop-less Inv-loop μ-loop
+loop-less c = search needs
+
+loop-again : tie.Need-loop-again Inv-loop μ-loop
+unfolding digit
+loop-again c =
+    let l = c .before .before .before in
+    let room = l .before in
+    let some = c .before .before .loop-test .taken in
+    digits-turn _ _ _ _ _ (l .loop .inv) some (omega (arith, some, l .loop .inv .few, room .if1 .left, room .before .bytes-from .ensures, room .before .before .digits-of .ensures)) (c .if2 .left)
+
+add-t8 : tie.Need-add-t8 Inv-loop μ-loop
+add-t8 c = search needs
+
+returns-3 : tie.Need-returns-3 Inv-loop μ-loop
+returns-3 c = digits-end _ _ _ _ _ _ (c .before .loop .inv) (c .loop-test .left) (c .before .before .before .before .digits-of .ensures)
 
 pub decimal-at-spec : {M : Type 1} → statement M
 decimal-at-spec =
     tie.close
     (tie.spec
-    slice-aggregate-put-decimal
-    put-decimal-requires
-    array-share-prefix-digits
-    slice-aggregate-key-at
-    key-at-requires
-    returns)
+    Inv-loop
+    μ-loop
+    digits-of-requires
+    bytes-from-requires
+    returns
+    loop-holds
+    sub-left
+    add-if2
+    shared-slice-read-if2
+    cast-if2
+    add-if2-2
+    returns-2
+    loop-less
+    loop-again
+    add-t8
+    returns-3)
