@@ -4,8 +4,8 @@ use Rattle.block.specs.Chunk.{closer}
 use Rattle.block.specs.Commands.{newline}
 use Rattle.block.specs.Outcome.{done}
 use Rattle.block.specs.declared.kinds.Bracket.{Bracket}
-use Rattle.lexer.proofs.Basics.{all-under, and-left, and-right, by-test, eqb-same, implied, not-both, or-left, or-right, under-at, and-false}
-use Rattle.lexer.proofs.ListLaws.{drop-next}
+use Rattle.lexer.proofs.Basics.{all-four, all-under, and-left, and-right, by-test, eqb-same, implied, not-both, or-left, or-right, under-at, and-false}
+use Rattle.lexer.proofs.ListLaws.{drop-next, take-next}
 use Rattle.lexer.proofs.WordsTold.{word-told}
 use Rattle.lexer.specs.Base.{pick, among, bytes}
 use Rattle.lexer.specs.ByteBlocks.{plain?}
@@ -17,16 +17,16 @@ use Rattle.lexer.specs.Tokens.{token, kind·of}
 use Rattle.lexer.specs.Words.{punct, mark?, word?, line·end?}
 use Rattle.lexer.specs.declared.Kind.{Kind}
 use Rattle.matrix.specs.RowShape.{coded, symbols·coded, within·with, chunk·shape}
-use Rattle.matrix.specs.WholeSets.{Set·bytes, Set·closed, Whole·set, bracket·of, opener, rising, simple?}
+use Rattle.matrix.specs.WholeSets.{Set·bytes, Set·closed, Whole·set, bracket·of, marks?, opener, rising, set?, set·closes, simple?}
 use Rattle.matrix.specs.declared.matrix.Cells.{Cells}
 use Rattle.matrix.specs.declared.matrix.Chunk.{Chunk}
-use borrow.Author.Tests.{eqb-true, le-leb, leb-false, lt-leb, lt-ltb, ltb-true, ltb-false, ne-eqb}
+use borrow.Author.Tests.{eqb-true, le-leb, le-ltb, lt-leb, lt-ltb, ltb-true, ltb-false, ne-eqb}
 use lib.Dec.{eqb, leb, ltb}
-use lib.ListN.{length, getD, take, drop, length-take, length-drop}
-use lib.Seq.{getD-drop, getD-take, take-suc}
-use mathlib.Core.Bool.{Bool, true, false, _&&_, _||_, not, true≢false}
-use mathlib.Core.List.{List, [], _∷_, _++_, append-assoc, append-nil}
-use mathlib.Core.Path.{_≡_, refl, ap, subst, _∙_}
+use lib.ListN.{length, getD, drop, length-take, length-drop}
+use lib.Seq.{getD-drop, getD-take}
+use mathlib.Core.Bool.{Bool, true, false, _&&_, _||_, not}
+use mathlib.Core.List.{List, [], _∷_}
+use mathlib.Core.Path.{_≡_, refl, ap, _∙_}
 use native.Mathlib.Nat.{min-eq-left}
 use native.Mathlib.Omega.{arith}
 
@@ -70,60 +70,36 @@ rising-coded codes least (b ∷ r) t n =
     let state : ltb c 96 ≡ true = lt-ltb c 96 (omega arith) in
     rw (good, state) (rising-coded codes (c + 1) r (and-right (leb least c && ltb c 10 && simple? b) (rising codes (c + 1) r) t) (n + 1) ∙ ap (λ m. Cells.Some m true) (omega arith))
 
--- Whatever rises from a number on makes the whole rise.
-pub record Rising·to (codes text : List ℕ) (from least i : ℕ) : Type 0 where
-  pub ahead : from ≤ i
-  pub within : i ≤ length text
-  pub rest : (l : List ℕ) → rising codes least l ≡ true → rising codes 0 (part text from i ++ l) ≡ true
+-- All states rise if the first does and those behind it do: what the code asks of the first, by its code.
+module _ (codes text : List ℕ) (least i end code : ℕ) (e : code ≡ getD codes (getD text i 0) 0) (h : i < end) (w : i < length text) where
+  abbrev b : ℕ
+  b = getD text i 0
 
-module _ {codes text : List ℕ} {from : ℕ} where
-  pub rising-start : from ≤ length text → Rising·to codes text from 0 from
-  rising-start h = record { ahead = omega arith; within = h; rest = λ l t. let z : from - from ≡ 0 = omega arith in rw z t }
+  abbrev more : Bool
+  more = rising codes (code + 1) (part text (i + 1) end)
 
-  module _ {least i : ℕ} (k : Rising·to codes text from least i) where
-    abbrev b : ℕ
-    b = getD text i 0
+  rising-next : rising codes least (part text i end) ≡ leb least code && ltb code 10 && simple? b && more
+  unfolding rising
+  rising-next = rw (take-next text i end h w, e) refl
 
-    more : i < length text → (l : List ℕ) → part text from (i + 1) ++ l ≡ part text from i ++ (b ∷ l)
-    more w l =
-        let ahead = k .ahead in
-        let one : i + 1 - from ≡ suc (i - from) = omega arith in
-        let there : from + (i - from) ≡ i = omega arith in
-        ap (λ n. take n (drop from text) ++ l) one
-        ∙ ap (λ x. x ++ l) (take-suc (drop from text) (i - from) 0 (rw (length-drop from text) (omega arith)) ∙ ap (λ x. part text from i ++ (x ∷ [])) (getD-drop from text (i - from) 0 ∙ ap (λ n. getD text n 0) there))
-        ∙ append-assoc (part text from i) (b ∷ []) l
+  pub rising-high : ltb code least || ltb 9 code ≡ true → rising codes least (part text i end) ≡ false
+  rising-high t =
+      rising-next
+      ∙ by-test (ltb code least) (λ l. rw (lt-leb least code (ltb-true code least l)) refl)
+      (λ f. let over = ltb-true 9 code (rw f at t) in rw (le-ltb code 10 (omega arith), and-false (leb least code)) refl)
 
-    pub rising-turn : (code : ℕ) → code ≡ getD codes b 0 → i < length text → least ≤ code → code < 10 → simple? b ≡ true → Rising·to codes text from (code + 1) (i + 1)
-    unfolding rising
-    rising-turn code e w le lt s =
-        record {
-          ahead = omega (arith, k .ahead);
-          within = omega arith;
-          rest = λ l t. rw (more w l) (k .rest (b ∷ l) (rw (← e, le-leb least code le, lt-ltb code 10 lt, s) t));
-        }
+  pub rising-other : simple? b ≡ false → rising codes least (part text i end) ≡ false
+  rising-other s = rising-next ∙ rw (s, and-false (leb least code && ltb code 10)) refl
 
-    pub rising-end : rising codes 0 (part text from i) ≡ true
-    unfolding rising
-    rising-end = rw (append-nil (part text from i)) at (k .rest [] refl)
+  pub rising-turn : ltb code least || ltb 9 code ≡ false → simple? b ≡ true → rising codes least (part text i end) ≡ more
+  rising-turn t s =
+      let low = ltb-false code least (or-left (ltb code least) (ltb 9 code) t) in
+      let few = ltb-false 9 code (or-right (ltb code least) (ltb 9 code) t) in
+      rising-next ∙ rw (le-leb least code low, lt-ltb code 10 (omega arith), s) refl
 
--- Two states rise if the second is the higher; and what the code asks of their codes.
-pub pair-rises : (codes text : List ℕ) (start : ℕ) → start + 3 < length text → getD codes (getD text (start + 1) 0) 0 < getD codes (getD text (start + 2) 0) 0
-    → getD codes (getD text (start + 2) 0) 0 < 10
-    → simple? (getD text (start + 1) 0) ≡ true
-    → simple? (getD text (start + 2) 0) ≡ true
-    → rising codes 0 (part text (start + 1) (start + 3)) ≡ true
-pair-rises codes text start h up few low high =
-    let second : start + 1 + 1 ≡ start + 2 = omega arith in
-    let third : start + 2 + 1 ≡ start + 3 = omega arith in
-    let one = rw second at (rising-turn {codes = codes} {text = text} (rising-start (omega arith)) _ refl (omega arith) (omega arith) (omega arith) low) in
-    rising-end (rw third at (rising-turn one _ refl (omega arith) (omega arith) few high))
-
-pub pair-order : (low high : ℕ) → leb high low || ltb 9 high ≡ false → (low < high) × (high < 10)
-pair-order low high e = (leb-false high low (or-left (leb high low) (ltb 9 high) e), (let few = ltb-false 9 high (or-right (leb high low) (ltb 9 high) e) in omega arith))
-
-pub not-not : (s : Bool) → not s ≡ false → s ≡ true
-not-not true e = refl
-not-not false e = absurd (true≢false e)
+pub rising-none : (codes text : List ℕ) (least i end : ℕ) → end ≤ i → rising codes least (part text i end) ≡ true
+unfolding rising
+rising-none codes text least i end h = let none : end - i ≡ 0 = omega arith in rw none refl
 
 -- The tokens at the marks of a set.
 open-token : (k : Bracket) (r : List ℕ) → token (opener k) r .kind ≡ Kind.Punctuation (opener k)
@@ -145,22 +121,38 @@ mark-at : (text : List ℕ) (i b : ℕ) → i < length text → getD text i 0 �
 unfolding token·at first·token
 mark-at text i b h e = rw (drop-next text i h, e)
 
--- What the code asks of the marks of a set, and of where its words begin.
-pub marks-told : (b e : ℕ) → (eqb b 123 && eqb e 125) || (eqb b 40 && eqb e 41) ≡ true → (b ≡ opener (bracket·of b)) × (e ≡ closer (bracket·of b))
-unfolding opener closer bracket·of pick
+-- A whole set by what the code asks, one after another.
+module _ (codes text : List ℕ) (start end : ℕ) where
+  pub set-outside : ltb (start + 1) end && ltb end (length text) ≡ false → false ≡ set? codes text start end
+  unfolding set?
+  set-outside e = rw e refl
+
+  pub set-no-marks : marks? (getD text start 0) (getD text end 0) ≡ false → false ≡ set? codes text start end
+  unfolding set?
+  set-no-marks e = rw (e, and-false (ltb (start + 1) end && ltb end (length text))) refl
+
+  pub set-by-states : ltb (start + 1) end && ltb end (length text) ≡ true → marks? (getD text start 0) (getD text end 0) ≡ true
+      → rising codes 0 (part text (start + 1) end) ≡ set? codes text start end
+  unfolding set?
+  set-by-states e m = rw (e, m) refl
+
+pub inside-told : (text : List ℕ) (start end : ℕ) → ltb (start + 1) end && ltb end (length text) ≡ true → (start + 1 < end) × (end < length text)
+inside-told text start end e = (ltb-true (start + 1) end (and-left (ltb (start + 1) end) (ltb end (length text)) e), ltb-true end (length text) (and-right (ltb (start + 1) end) (ltb end (length text)) e))
+
+-- The marks of a set, and its bytes.
+marks-told : (b e : ℕ) → marks? b e ≡ true → (b ≡ opener (bracket·of b)) × (e ≡ closer (bracket·of b))
+unfolding marks? opener closer bracket·of pick
 marks-told b e t =
     by-test (eqb b 123)
     (λ f. let brace = eqb-true b 123 f in by-test (eqb e 125) (λ g. rw brace (refl, eqb-true e 125 g)) (λ g. not-both refl (rw (brace, g) at t)))
     (λ f. let round = rw f at t in let mark = eqb-true b 40 (and-left (eqb b 40) (eqb e 41) round) in rw mark (refl, eqb-true e 41 (and-right (eqb b 40) (eqb e 41) round)))
 
-pub marks-brace : (b e : ℕ) → b ≡ 123 → eqb e 125 ≡ (eqb b 123 && eqb e 125) || (eqb b 40 && eqb e 41)
-marks-brace b e h = by-test (eqb e 125) (λ t. rw (h, t) refl) (λ f. rw (h, f) refl)
-
-pub marks-round : (b e : ℕ) → (b ≡ 123 → ⊥) → eqb b 40 && eqb e 41 ≡ (eqb b 123 && eqb e 125) || (eqb b 40 && eqb e 41)
-marks-round b e h = rw (ne-eqb b 123 h) refl
-
-pub starts-told : (a x b y : ℕ) → not (eqb a x) || not (eqb b y) ≡ false → (a ≡ x) × (b ≡ y)
-starts-told a x b y e = (eqb-true a x (not-not (eqb a x) (or-left (not (eqb a x)) (not (eqb b y)) e)), eqb-true b y (not-not (eqb b y) (or-right (not (eqb a x)) (not (eqb b y)) e)))
+set-bytes-told : (codes text : List ℕ) (start end : ℕ) → set? codes text start end ≡ true → Set·bytes codes text start end
+unfolding set?
+set-bytes-told codes text start end t =
+    let four = all-four (ltb (start + 1) end) (ltb end (length text)) (marks? (getD text start 0) (getD text end 0)) (rising codes 0 (part text (start + 1) end)) t in
+    let marks = marks-told (getD text start 0) (getD text end 0) (four .2) in
+    record { opens = marks .0; some = ltb-true (start + 1) end (four .0); within = ltb-true end (length text) (four .1); rises = four .3; closes = marks .1 }
 
 -- The three words of a set by its bytes.
 module _ (codes text work : List ℕ) (i to end : ℕ) where
@@ -170,7 +162,7 @@ module _ (codes text work : List ℕ) (i to end : ℕ) where
   abbrev states : List ℕ
   states = part text (start + 1) end
 
-  pub set-told : Set·bytes codes text start end → i + 2 < to → getD work (i + 1) 0 ≡ start + 1 → getD work (i + 2) 0 ≡ end → Set·closed codes text work i to end
+  set-told : Set·bytes codes text start end → i + 2 < to → getD work (i + 1) 0 ≡ start + 1 → getD work (i + 2) 0 ≡ end → Set·closed codes text work i to end
   unfolding word·of
   set-told s room first last =
       let k = bracket·of (getD text start 0) in
@@ -191,12 +183,40 @@ module _ (codes text work : List ℕ) (i to end : ℕ) where
         };
       }
 
--- A set of two states, whose first word begins at a place.
-pub pair-closed : (codes text work : List ℕ) (start i to : ℕ) → start ≡ getD work i 0 → Set·bytes codes text start (start + 3) → i + 2 < to → getD work (i + 1) 0 ≡ start + 1
-    → getD work (i + 2) 0 ≡ start + 3
-    → Set·closed codes text work i to (start + 3)
-pair-closed codes text work start i to e b room first last =
-    set-told codes text work i to (start + 3) (subst (λ x. Set·bytes codes text x (start + 3)) e b) room (first ∙ ap (λ x. x + 1) e) last
+-- Where a set closes by what the code asks, one after another; and where one does.
+module _ (codes text work : List ℕ) (i to : ℕ) where
+  abbrev first : Bool
+  first = eqb (getD work (i + 1) 0) (getD work i 0 + 1)
+
+  abbrev whole : Bool
+  whole = set? codes text (getD work i 0) (getD work (i + 2) 0)
+
+  pub closes-few : to ≤ i + 2 → 0 ≡ set·closes codes text work i to
+  unfolding set·closes pick
+  closes-few h = rw (le-ltb (i + 2) to h) refl
+
+  module _ (start second end : ℕ) (s : start ≡ getD work i 0) (m : second ≡ getD work (i + 1) 0) (e : end ≡ getD work (i + 2) 0) where
+    pub closes-apart : (second ≡ start + 1 → ⊥) → 0 ≡ set·closes codes text work i to
+    unfolding set·closes pick
+    closes-apart n = let apart : first ≡ false = rw (← s, ← m) (ne-eqb second (start + 1) n) in rw (apart, and-false (ltb (i + 2) to)) refl
+
+    pub closes-by : i + 2 < to → second ≡ start + 1 → (b : Bool) → set? codes text start end ≡ b → pick b end 0 ≡ set·closes codes text work i to
+    unfolding set·closes
+    closes-by h n b t =
+        let next : first ≡ true = rw (← s, ← m, n) (eqb-same (start + 1)) in
+        let same : whole ≡ b = rw (← s, ← e) t in
+        rw (lt-ltb (i + 2) to h, next, same, e) refl
+
+  whole-closed : ltb (i + 2) to && first && whole ≡ true → Set·closed codes text work i to (getD work (i + 2) 0)
+  whole-closed t =
+      let front = and-left (ltb (i + 2) to && first) whole t in
+      let bytes = set-bytes-told codes text (getD work i 0) (getD work (i + 2) 0) (and-right (ltb (i + 2) to && first) whole t) in
+      set-told codes text work i to (getD work (i + 2) 0) bytes (ltb-true (i + 2) to (and-left (ltb (i + 2) to) first front)) (eqb-true (getD work (i + 1) 0) (getD work i 0 + 1) (and-right (ltb (i + 2) to) first front)) refl
+
+  pub closes-told : (end : ℕ) → end ≡ set·closes codes text work i to → (end ≡ 0 → ⊥) → Set·closed codes text work i to end
+  unfolding set·closes pick
+  closes-told end e some =
+      by-test (ltb (i + 2) to && first && whole) (λ t. let there : end ≡ getD work (i + 2) 0 = e ∙ rw t refl in rw there (whole-closed t)) (λ f. absurd (some (e ∙ rw f refl)))
 
 -- What judging the three words comes to, and that none of them is a newline.
 module _ {codes text work : List ℕ} {i to : ℕ} {k : Bracket} {states : List ℕ} (s : Whole·set codes text work i to k states) where

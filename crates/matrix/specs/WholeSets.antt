@@ -33,6 +33,24 @@ opener Bracket.Parenthesis = byte "("
 unfoldable pub bracket·of : ℕ → Bracket
 bracket·of b = pick (eqb b (byte "{")) Bracket.Brace Bracket.Parenthesis
 
+-- Are two bytes the mark that opens a set and the one that closes it?
+unfoldable pub marks? : ℕ → ℕ → Bool
+marks? mark close = (eqb mark (byte "{") && eqb close (byte "}")) || (eqb mark (byte "(") && eqb close (byte ")"))
+
+-- Are the bytes of a text from a place up to and with an end a whole set: its mark, at least one state, all of them rising, and the mark that closes it?
+unfoldable pub set? : (codes text : List ℕ) (start end : ℕ) → Bool
+set? codes text start end =
+    let states = rising codes 0 (part text (start + 1) end) in
+    ltb (start + 1) end && ltb end (length text) && marks? (getD text start 0) (getD text end 0) && states
+
+-- Where the set closes that begins with the word of an index, if this word and the two behind it, all below an end, begin where the mark, the states and
+-- the closing mark of such a set do; else 0.
+unfoldable pub set·closes : (codes text work : List ℕ) (i to : ℕ) → ℕ
+set·closes codes text work i to =
+    let start = getD work i 0 in
+    let end = getD work (i + 2) 0 in
+    pick (ltb (i + 2) to && eqb (getD work (i + 1) 0) (start + 1) && set? codes text start end) end 0
+
 -- From a place on a text has the bytes of a whole set: its mark, at least one state, and at the end the mark that closes it.
 pub record Set·bytes (codes text : List ℕ) (start end : ℕ) : Type 0 where
   pub opens : getD text start 0 ≡ opener (bracket·of (getD text start 0))

@@ -6,7 +6,6 @@ ghost use Rattle.matrix.specs.SequentialShape.{Cells·passed, Told·cell
 ghost use mathlib.Core.Path.{_≡_};
 use super::cells::all_cells;
 use super::matrix::Passed;
-use super::sets::pair_closes;
 use super::sets::set_closes;
 use block::newline;
 use lexer::start_of;
@@ -36,12 +35,6 @@ fn told_cells(
             };
         }
         return Passed { cells: n, next: i };
-    }
-    if pair_closes(text, work, start, i, to, codes) {
-        return Passed {
-            cells: n + 1,
-            next: i + 3,
-        };
     }
     if set_closes(text, work, i, to, codes) != 0 {
         return Passed {

@@ -5,7 +5,7 @@ use Rattle.block.specs.Chunk.{plain, within, closer, set·cell}
 use Rattle.block.specs.Format.{Format}
 use Rattle.block.specs.declared.kinds.Bracket.{Bracket}
 use Rattle.emit.proofs.DecimalMade.{decimal-one}
-use Rattle.emit.proofs.PutLaws.{byte-written, puts-as, puts-none, puts-then}
+use Rattle.emit.proofs.PutLaws.{puts-as, puts-none, puts-then}
 use Rattle.emit.specs.Puts.{Puts}
 use Rattle.lexer.proofs.Basics.{and-left, and-right, by-test, eqb-same}
 use Rattle.lexer.proofs.ListLaws.{take-next}
@@ -24,7 +24,7 @@ use Rattle.reading.specs.declared.cells.Putting.{Putting}
 use Rattle.record.specs.Spell.{dotted, spell·cell}
 use borrow.Author.Tests.{lt-ltb, leb-true, ltb-true}
 use lib.Dec.{eqb, leb, ltb}
-use lib.ListN.{length, getD, drop, set, length-take, length-drop}
+use lib.ListN.{length, getD, drop, length-take, length-drop}
 use lib.Seq.{getD-drop, getD-take}
 use mathlib.Core.Bool.{true, _&&_}
 use mathlib.Core.List.{List, [], _∷_, _++_}
@@ -124,37 +124,6 @@ module _ (codes text : List ℕ) (start end : ℕ) (s : Set·bytes codes text st
       → Puts b m (marked·digits codes letter states) d n → l ≡ row .left - 1
       → Row·put a row (set·cell (bracket·of (getD text start 0)) (codes·of codes states) ∷ []) d (record { at = n; started = true; left = l })
   whole-put e p q f = row-one _ p (puts-as q (λ behind. ap (λ x. marked·digits codes x states behind) e ∙ set-spelled behind)) f
-
--- Four bytes that are written, and the states of a set of two.
-pub four-written : (buffer : List ℕ) (n a b c d : ℕ) → Puts buffer n (λ behind. a ∷ b ∷ c ∷ d ∷ behind) (set (set (set (set buffer n a) (n + 1) b) (n + 2) c) (n + 3) d) (n + 4)
-four-written buffer n a b c d =
-    let second : n + 1 + 1 ≡ n + 2 = omega arith in
-    let third : n + 2 + 1 ≡ n + 3 = omega arith in
-    let fourth : n + 3 + 1 ≡ n + 4 = omega arith in
-    let x = set buffer n a in
-    let y = set x (n + 1) b in
-    let z = set y (n + 2) c in
-    puts-then (byte-written buffer n a) (puts-then (rw second at (byte-written x (n + 1) b)) (puts-then (rw third at (byte-written y (n + 2) c)) (rw fourth at (byte-written z (n + 3) d))))
-
-pair-digits : (codes text : List ℕ) (start m : ℕ) → start + 3 < length text → (behind : List ℕ)
-    → marked·digits codes m (part text (start + 1) (start + 3)) behind ≡ m ∷ (48 + getD codes (getD text (start + 1) 0) 0) ∷ 46 ∷ (48 + getD codes (getD text (start + 2) 0) 0) ∷ behind
-unfolding marked·digits
-pair-digits codes text start m h behind =
-    let second : start + 1 + 1 ≡ start + 2 = omega arith in
-    let none : start + 3 - (start + 2 + 1) ≡ 0 = omega arith in
-    rw (take-next text (start + 1) (start + 3) (omega arith) (omega arith), second, take-next text (start + 2) (start + 3) (omega arith) (omega arith), none) refl
-
--- A blank and a set of two states.
-pub pair-put : (codes text : List ℕ) (start : ℕ) → Set·bytes codes text start (start + 3) → {a d : List ℕ} {row : Putting} {n l letter low high : ℕ} → row .started ≡ true
-    → letter ≡ letter·of (getD text start 0)
-    → low ≡ getD codes (getD text (start + 1) 0) 0
-    → high ≡ getD codes (getD text (start + 2) 0) 0
-    → Puts (set a (row .at) 32) (row .at + 1) (λ behind. letter ∷ (48 + low) ∷ 46 ∷ (48 + high) ∷ behind) d n
-    → l ≡ row .left - 1
-    → Row·put a row (set·cell (bracket·of (getD text start 0)) (codes·of codes (part text (start + 1) (start + 3))) ∷ []) d (record { at = n; started = true; left = l })
-unfolding pick
-pair-put codes text start s {a} {row = row} {letter = letter} begun e first second p f =
-    whole-put codes text start (start + 3) s e (puts-as (byte-written a (row .at) 32) (λ behind. rw begun refl)) (puts-as p (λ behind. rw (first, second) (sym (pair-digits codes text start letter (s .within) behind)))) f
 
 -- Whatever puts the states that are left makes all of them put.
 module _ (codes text : List ℕ) (from end : ℕ) (before : List ℕ) (n letter : ℕ) where

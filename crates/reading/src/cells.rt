@@ -14,7 +14,6 @@ ghost use mathlib.Core.Bool.{true};
 ghost use mathlib.Core.List.{[], _∷_};
 ghost use mathlib.Core.Path.{_≡_};
 use super::sets::put_bits;
-use super::sets::put_pair;
 use super::sets::put_whole_set;
 use block::punct;
 use emit::put;
@@ -30,7 +29,6 @@ use lexer::text_start;
 use lexer::word_bytes;
 use lexer::word_stop;
 use lexer::word_stop_by;
-use matrix::sets::pair_closes;
 use matrix::sets::set_closes;
 
 // A row that is put: the next place, whether a cell was put, and how many cells are lacking.
@@ -275,25 +273,6 @@ fn put_run(
     put_rest(text, ran.next, end, buffer, ran.row, codes)
 }
 
-// The same where few cells are expected, which mostly are of one byte each: then nothing more is to be done.
-fn put_few(
-    text: &[u8],
-    from: usize,
-    end: usize,
-    buffer: &mut [u8],
-    row: Putting,
-    codes: &[u8; 256],
-) -> Putting
-    requires { ⌜ (from ≤ end) × (end - from ≤ length (now text) - from) ⌝ }
-    ensures { λ r. ⌜ Row·put (now (buffer .entry)) row (cells·coded (now (codes .entry)) (take (end - from) (drop from (now (text .entry))))) (now (buffer .exit)) r ⌝ }
-{
-    let ran = put_short(text, from, end, buffer, row, codes);
-    if ran.next == end {
-        return ran.row;
-    }
-    put_run(text, ran.next, end, buffer, ran.row, codes)
-}
-
 // Puts the cells of a token's text behind those of a row: those of a run of plain bytes, then of the next byte, and so on.
 fn put_cells(
     text: &[u8],
@@ -376,13 +355,8 @@ pub fn put_told(
             if last.left <= end - start {
                 return Ran { row: last, next: i };
             }
-            last = put_few(text, start, end, buffer, last, codes);
+            last = put_run(text, start, end, buffer, last, codes);
             i += 1;
-            continue;
-        }
-        if pair_closes(text, starts, start, i, to, codes) {
-            last = put_pair(text, start, buffer, last, codes);
-            i += 3;
             continue;
         }
         let close = set_closes(text, starts, i, to, codes);

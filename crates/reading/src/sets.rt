@@ -11,7 +11,7 @@ ghost use Rattle.matrix.specs.Taken.{also, states·taken};
 ghost use Rattle.matrix.specs.WholeSets.{Set·bytes, bracket·of};
 ghost use Rattle.reading.specs.CodedCells.{Cleared, Digits, Row·put, cells·coded, codes·of, decoded, dotted·on, letter·of, marked, marked·digits, marks, members, topped, word·coded};
 ghost use Rattle.record.specs.Spell.{spell·cell};
-ghost use lib.ListN.{length, getD};
+ghost use lib.ListN.{getD};
 ghost use mathlib.Core.Bool.{false};
 ghost use mathlib.Core.List.{[], _∷_, _++_};
 ghost use mathlib.Core.Path.{_≡_};
@@ -20,7 +20,6 @@ use super::cells::fewer;
 use super::cells::has_cells;
 use super::cells::put_blank;
 use block::Bracket;
-use emit::has_room;
 use emit::put;
 use emit::put_decimal;
 use lexer::Item;
@@ -151,45 +150,6 @@ pub fn put_whole_set(
         started: true,
         left: fewer(row.left),
     }
-}
-
-// Writes a set of two states, which has room: its letter, a digit, a dot and a digit.
-fn write_pair(buffer: &mut [u8], n: usize, letter: u8, low: u8, high: u8) -> usize
-    requires { ⌜ n + 4 ≤ length (now buffer) ⌝ }
-    ensures { λ r. ⌜ Puts (now (buffer .entry)) n (λ behind. letter ∷ low ∷ 46 ∷ high ∷ behind) (now (buffer .exit)) r ⌝ }
-{
-    buffer[n] = letter;
-    buffer[n + 1] = low;
-    buffer[n + 2] = 46;
-    buffer[n + 3] = high;
-    n + 4
-}
-
-// Puts a whole set of two states behind the cells of a row, from its opening mark on. Where all of it has room no byte is tested for it.
-pub fn put_pair(
-    text: &[u8],
-    start: usize,
-    buffer: &mut [u8],
-    row: Putting,
-    codes: &[u8; 256],
-) -> Putting
-    requires { ⌜ Set·bytes (now codes) (now text) start (start + 3) ⌝ }
-    ensures { λ r. ⌜ Row·put (now (buffer .entry)) row (set·cell (bracket·of (getD (now (text .entry)) start 0)) (codes·of (now (codes .entry)) (part (now (text .entry)) (start + 1) (start + 3))) ∷ []) (now (buffer .exit)) r ⌝ }
-{
-    let at = row.at;
-    if row.started & has_room(buffer.len(), at, 5) {
-        let letter = set_letter(text[start]);
-        let low = 48 + entry_of(codes, text[start + 1]);
-        let high = 48 + entry_of(codes, text[start + 2]);
-        buffer[at] = 32;
-        let next = write_pair(buffer, at + 1, letter, low, high);
-        return Putting {
-            at: next,
-            started: true,
-            left: fewer(row.left),
-        };
-    }
-    put_whole_set(text, start, start + 3, buffer, row, codes)
 }
 
 // Puts the state of a code into a set, if it has one, and answers the end of the marks that are looked at.

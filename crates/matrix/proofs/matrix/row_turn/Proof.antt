@@ -1,4 +1,5 @@
 -- The function `row_turn` meets its contract: what is told at once is passed, then one word more, or a whole set. Assumes nothing.
+use Rattle.matrix.proofs.SetLaws.{closes-told}
 use Rattle.matrix.proofs.SetTurns.{row-turns, set-turns}
 use Rattle.matrix.proofs.matrix.row_turn.Statement.{statement}
 use Rattle.matrix.proofs.matrix.row_turn.Tie as tie
@@ -14,7 +15,7 @@ unfolding so·far
 pass-words-requires c κs = (c .before .before .before .before .before .pre .0, rw (c .before .row .given .1) at (c .before .before .before .before .before .pre .1))
 
 set-closes-requires : tie.Need-set-closes-requires
-set-closes-requires c κs = search needs
+set-closes-requires c κs = c .pass-words .ensures .below
 
 plain-chunk-requires : tie.Need-plain-chunk-requires
 plain-chunk-requires c κs = c .before .before .pass-words .ensures .few
@@ -34,8 +35,7 @@ add-row-grown c = let few = c .before .before .pass-words .ensures .few in omega
 
 add-row-grown-2 : tie.Need-add-row-grown-2
 add-row-grown-2 c =
-    let some = c .if1 .left in
-    let whole = c .before .set-closes .ensures (omega (arith, some)) .whole in
+    let whole = closes-told _ _ _ _ _ _ (c .before .set-closes .ensures) (c .if1 .left) .whole in
     omega (arith, whole .room)
 
 row-grown-requires-2 : tie.Need-row-grown-requires-2
@@ -43,8 +43,7 @@ row-grown-requires-2 c κs = search needs
 
 add-t27 : tie.Need-add-t27
 add-t27 c =
-    let some = c .before .if1 .left in
-    let whole = c .before .before .set-closes .ensures (omega (arith, some)) .whole in
+    let whole = closes-told _ _ _ _ _ _ (c .before .before .set-closes .ensures) (c .before .if1 .left) .whole in
     omega (arith, whole .room)
 
 enum-known-row-2 : tie.Need-enum-known-row-2
@@ -63,8 +62,7 @@ add-t29 c = search needs
 returns-2 : tie.Need-returns-2
 unfolding chunked·of
 returns-2 c =
-    let some = c .before .if1 .left in
-    let whole = c .before .before .set-closes .ensures (omega (arith, some)) .whole in
+    let whole = closes-told _ _ _ _ _ _ (c .before .before .set-closes .ensures) (c .before .if1 .left) .whole in
     λ taxa names. rw (c .before .before .before .before .before .row .given .1) (c .before .before .before .pass-words .ensures .goes _ taxa names _ _ (set-turns _ _ _ _ _ _ _ _ _ _ whole (c .row-grown2 .ensures)))
 
 returns-3 : tie.Need-returns-3

@@ -1,4 +1,5 @@
 -- The function `told_cells` meets its contract: a word, a whole set, or nothing. Assumes nothing.
+use Rattle.matrix.proofs.SetLaws.{closes-told}
 use Rattle.matrix.proofs.SetTurns.{word-cells-told}
 use Rattle.matrix.proofs.passing.told_cells.Statement.{statement}
 use Rattle.matrix.proofs.passing.told_cells.Tie as tie
@@ -35,35 +36,20 @@ returns c = word-cells-told _ _ _ _ _ _ (c .before .before .before .before .star
 returns-2 : tie.Need-returns-2
 returns-2 c = nothing·told
 
-pair-closes-requires : tie.Need-pair-closes-requires
-pair-closes-requires c κs = (c .before .before .before .before .before .pre .0, c .before .before .start-of .ensures)
+set-closes-requires : tie.Need-set-closes-requires
+set-closes-requires c κs = search needs
 
 add-t16 : tie.Need-add-t16
 add-t16 c = search needs
 
 add-t17 : tie.Need-add-t17
-add-t17 c = let whole = c .before .pair-closes .ensures (c .if3 .taken) .whole in omega (arith, whole .room)
+add-t17 c = let whole = closes-told _ _ _ _ _ _ (c .before .set-closes .ensures) (c .if3 .taken) .whole in omega (arith, whole .room)
 
 returns-3 : tie.Need-returns-3
-returns-3 c = set·told (c .before .pair-closes .ensures (c .if3 .taken) .whole)
-
-set-closes-requires : tie.Need-set-closes-requires
-set-closes-requires c κs = search needs
-
-add-t19 : tie.Need-add-t19
-add-t19 c = search needs
-
-add-t20 : tie.Need-add-t20
-add-t20 c =
-    let some = c .if4 .taken in
-    let whole = c .before .set-closes .ensures (omega (arith, some)) .whole in
-    omega (arith, whole .room)
+returns-3 c = set·told (closes-told _ _ _ _ _ _ (c .before .set-closes .ensures) (c .if3 .taken) .whole)
 
 returns-4 : tie.Need-returns-4
-returns-4 c = let some = c .if4 .taken in set·told (c .before .set-closes .ensures (omega (arith, some)) .whole)
-
-returns-5 : tie.Need-returns-5
-returns-5 c = nothing·told
+returns-4 c = nothing·told
 
 pub told-cells-spec : {M : Type 1} → statement M
 told-cells-spec =
@@ -77,12 +63,8 @@ told-cells-spec =
     add-t14
     returns
     returns-2
-    pair-closes-requires
+    set-closes-requires
     add-t16
     add-t17
     returns-3
-    set-closes-requires
-    add-t19
-    add-t20
-    returns-4
-    returns-5)
+    returns-4)

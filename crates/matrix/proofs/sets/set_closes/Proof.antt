@@ -1,29 +1,20 @@
--- The function `set_closes` meets its contract. Assumes nothing.
-use Prim.Native.Nat.{_+_}
-use Rattle.matrix.proofs.SetLaws.{set-told, starts-told}
+-- The function `set_closes` meets its contract: test by test. Assumes nothing.
+use Rattle.lexer.specs.Base.{pick}
+use Rattle.matrix.proofs.SetLaws.{closes-apart, closes-by, closes-few}
 use Rattle.matrix.proofs.sets.set_closes.Statement.{statement}
 use Rattle.matrix.proofs.sets.set_closes.Tie as tie
 use borrow.Author.Needs.{needs}
 use mathlib.Core.Path.{sym, _∙_}
 use native.Mathlib.Omega.{arith}
 
-start-of-requires : tie.Need-start-of-requires
-start-of-requires c κs = search needs
-
-set-bytes-requires : tie.Need-set-bytes-requires
-set-bytes-requires c κs = search needs
+sub-if1 : tie.Need-sub-if1
+sub-if1 c = search needs
 
 returns : tie.Need-returns
-returns c = λ above. absurd (omega arith)
+returns c = closes-few _ _ _ _ _ (let few = c .if1 .taken in omega arith)
 
-returns-2 : tie.Need-returns-2
-returns-2 c = λ above. absurd (omega arith)
-
-sub-if3 : tie.Need-sub-if3
-sub-if3 c = search needs
-
-returns-3 : tie.Need-returns-3
-returns-3 c = λ above. absurd (omega arith)
+start-of-requires : tie.Need-start-of-requires
+start-of-requires c κs = search needs
 
 add-start-of : tie.Need-add-start-of
 add-start-of c = search needs
@@ -31,43 +22,54 @@ add-start-of c = search needs
 start-of-requires-2 : tie.Need-start-of-requires-2
 start-of-requires-2 c κs = search needs
 
-add-if4 : tie.Need-add-if4
-add-if4 c =
-    let some = c .before .before .before .if1 .left in
-    let b = c .before .before .before .before .set-bytes .ensures (omega (arith, some)) in
-    omega (arith, b .some, b .within)
-
 add-start-of-2 : tie.Need-add-start-of-2
 add-start-of-2 c = search needs
 
 start-of-requires-3 : tie.Need-start-of-requires-3
 start-of-requires-3 c κs = search needs
 
-returns-4 : tie.Need-returns-4
-returns-4 c = λ above. absurd (omega arith)
+add-if2 : tie.Need-add-if2
+add-if2 c =
+    let k = c .before .before in
+    omega (arith, k .start-of .ensures, k .before .before .shared-slice-known2 .given (k .before .before .before .before .args .i))
 
-returns-5 : tie.Need-returns-5
-returns-5 c =
-    let e = c .before .before .before .before .before .before in
-    let s = e .before .start-of in
-    let m = starts-told (c .before .before .start-of2 .result) (s .result + 1) (c .before .start-of3 .result) (e .set-bytes .result) (c .if4 .left) in
-    λ above.
-    set-told _ _ _ _ _ _ (rw (← s .ensures) (e .set-bytes .ensures above)) (omega arith) (rw (← s .ensures) (sym (c .before .before .start-of2 .ensures) ∙ m .0)) (sym (c .before .start-of3 .ensures) ∙ m .1)
+returns-2 : tie.Need-returns-2
+returns-2 c = closes-apart _ _ _ _ _ _ _ _ (c .before .before .before .start-of .ensures) (c .before .start-of3 .ensures) (c .before .before .start-of2 .ensures) (c .if2 .taken)
+
+is-set-requires : tie.Need-is-set-requires
+is-set-requires c κs =
+    let k = c .before .before .before in
+    omega (arith, k .start-of .ensures, k .before .before .shared-slice-known2 .given (k .before .before .before .before .args .i))
+
+returns-3 : tie.Need-returns-3
+unfolding pick
+returns-3 c =
+    let l = c .before .before .before in
+    let f = l .before .before in
+    let few = f .before .if1 .left in
+    closes-by _ _ _ _ _ _ _ _ (f .start-of .ensures) (l .start-of3 .ensures) (l .before .start-of2 .ensures) (omega arith) (c .before .before .if2 .left) _ (sym (c .before .is-set .ensures) ∙ c .if3 .taken)
+
+returns-4 : tie.Need-returns-4
+unfolding pick
+returns-4 c =
+    let l = c .before .before .before in
+    let f = l .before .before in
+    let few = f .before .if1 .left in
+    closes-by _ _ _ _ _ _ _ _ (f .start-of .ensures) (l .start-of3 .ensures) (l .before .start-of2 .ensures) (omega arith) (c .before .before .if2 .left) _ (sym (c .before .is-set .ensures) ∙ c .if3 .left)
 
 pub set-closes-spec : {M : Type 1} → statement M
 set-closes-spec =
     tie.close
     (tie.spec
-    start-of-requires
-    set-bytes-requires
+    sub-if1
     returns
-    returns-2
-    sub-if3
-    returns-3
+    start-of-requires
     add-start-of
     start-of-requires-2
-    add-if4
     add-start-of-2
     start-of-requires-3
-    returns-4
-    returns-5)
+    add-if2
+    returns-2
+    is-set-requires
+    returns-3
+    returns-4)

@@ -1,5 +1,6 @@
 -- The function `put_told` meets its contract: a turn puts a word or a whole set, or ends. The measure is what is left of the tokens. Assumes nothing.
 use Prim.Native.Nat.{ℕ, _-_, _<_}
+use Rattle.matrix.proofs.SetLaws.{closes-told}
 use Rattle.reading.proofs.ToldRows.{told-kept, told-set, told-word}
 use Rattle.reading.proofs.cells.put_told.Statement.{statement}
 use Rattle.reading.proofs.cells.put_told.Tie as tie
@@ -43,93 +44,74 @@ same-length c = told-kept (c .before .before .before .before .before .before .be
 returns : tie.Need-returns Inv-loop μ-loop
 returns c = c .before .before .before .before .before .before .before .before .loop .inv
 
-put-few-requires : tie.Need-put-few-requires Inv-loop μ-loop
-put-few-requires c κs =
+put-run-requires : tie.Need-put-run-requires Inv-loop μ-loop
+put-run-requires c κs =
     let within = c .before .before .before .before .word-stop-by .ensures (c .before .before .before .if2 .taken) .within in
     (omega arith, omega arith)
 
 add-i : tie.Need-add-i Inv-loop μ-loop
 add-i c =
-    let l = c .before .before .before .before .before .before .before .before .before .before .before .before .loop in
-    let g = going (l .i) (c .before .before .before .before .before .before .before .before .before .before .before .before .before .before .before .before .before .args .to) (l .last .left) (c .before .before .before .before .before .before .before .before .before .before .if1 .taken) in
-    omega (arith, g .0, c .before .before .before .before .before .before .before .before .before .before .before .before .before .before .before .before .before .good)
+    let t = c .before .before .before .before .before .before .before .before .before .before in
+    let l = t .before .before .loop in
+    let g = going (l .i) (t .before .before .before .before .before .before .before .args .to) (l .last .left) (t .if1 .taken) in
+    omega (arith, g .0, t .before .before .before .before .before .before .before .good)
 
 loop-less : tie.Need-loop-less Inv-loop μ-loop
 loop-less c =
-    let l = c .before .before .before .before .before .before .before .before .before .before .before .before .loop in
-    let g = going (l .i) (c .before .before .before .before .before .before .before .before .before .before .before .before .before .before .before .before .before .args .to) (l .last .left) (c .before .before .before .before .before .before .before .before .before .before .if1 .taken) in
+    let t = c .before .before .before .before .before .before .before .before .before .before in
+    let l = t .before .before .loop in
+    let g = going (l .i) (t .before .before .before .before .before .before .before .args .to) (l .last .left) (t .if1 .taken) in
     omega (arith, g .0)
 
 loop-again : tie.Need-loop-again Inv-loop μ-loop
 loop-again c =
-    let l = c .before .before .before .before .before .before .before .before .before .before .before .before .loop in
-    let g = going (l .i) (c .before .before .before .before .before .before .before .before .before .before .before .before .before .before .before .before .before .args .to) (l .last .left) (c .before .before .before .before .before .before .before .before .before .before .if1 .taken) in
-    told-word (l .inv) (g .0) _ _ (c .before .before .before .before .before .before .before .before .before .start-of .ensures) (c .before .before .before .before .before .before .before .word-stop-by .ensures (c .before .before .before .before .before .before .if2 .taken)) (c .before .before .before .before .if3 .left) (c .before .before .put-few .ensures)
+    let w = c .before .before .before .before .before .before .before in
+    let t = c .before .before .before .before .before .before .before .before .before .before in
+    let l = t .before .before .loop in
+    let g = going (l .i) (t .before .before .before .before .before .before .before .args .to) (l .last .left) (t .if1 .taken) in
+    told-word (l .inv) (g .0) _ _ (w .before .before .start-of .ensures) (w .word-stop-by .ensures (c .before .before .before .before .before .before .if2 .taken)) (c .before .before .before .before .if3 .left) (c .before .before .put-run .ensures)
 
-pair-closes-requires : tie.Need-pair-closes-requires Inv-loop μ-loop
-pair-closes-requires c κs =
-    let l = c .before .before .before .before .before .before .loop in
-    let g = going (l .i) (c .before .before .before .before .before .before .before .before .before .before .before .args .to) (l .last .left) (c .before .before .before .before .if1 .taken) in
-    (g .0, c .before .before .before .start-of .ensures)
+set-closes-requires : tie.Need-set-closes-requires Inv-loop μ-loop
+set-closes-requires c κs =
+    let t = c .before .before .before .before in
+    let l = t .before .before .loop in
+    let g = going (l .i) (t .before .before .before .before .before .before .before .args .to) (l .last .left) (t .if1 .taken) in
+    g .0
 
-put-pair-requires : tie.Need-put-pair-requires Inv-loop μ-loop
-put-pair-requires c κs =
-    let s = c .before .before .before .before .before .before .start-of .ensures in
-    rw s (rw s at (c .before .before .pair-closes .ensures (c .before .if4 .taken) .bytes))
+same-length-2 : tie.Need-same-length-2 Inv-loop μ-loop
+same-length-2 c = told-kept (c .before .before .before .before .before .before .before .before .loop .inv) .0
+
+returns-2 : tie.Need-returns-2 Inv-loop μ-loop
+returns-2 c = c .before .before .before .before .before .before .before .before .loop .inv
+
+put-whole-set-requires : tie.Need-put-whole-set-requires Inv-loop μ-loop
+put-whole-set-requires c κs =
+    let s = c .before .before in
+    rw (s .before .before .before .before .start-of .ensures) (closes-told _ _ _ _ _ _ (s .set-closes .ensures) (c .before .if4 .left) .bytes)
 
 add-i-2 : tie.Need-add-i-2 Inv-loop μ-loop
 add-i-2 c =
-    let whole = c .before .before .before .before .before .pair-closes .ensures (c .before .before .before .before .if4 .taken) .whole in
+    let s = c .before .before .before .before .before in
+    let whole = closes-told _ _ _ _ _ _ (s .set-closes .ensures) (c .before .before .before .before .if4 .left) .whole in
     omega (arith, whole .room, c .before .before .before .before .before .before .before .before .before .before .before .before .before .before .before .before .before .good)
 
 loop-less-2 : tie.Need-loop-less-2 Inv-loop μ-loop
 loop-less-2 c =
-    let whole = c .before .before .before .before .before .pair-closes .ensures (c .before .before .before .before .if4 .taken) .whole in
-    let l = c .before .before .before .before .before .before .before .before .before .before .before .before .loop in
-    let g = going (l .i) (c .before .before .before .before .before .before .before .before .before .before .before .before .before .before .before .before .before .args .to) (l .last .left) (c .before .before .before .before .before .before .before .before .before .before .if1 .taken) in
+    let s = c .before .before .before .before .before in
+    let whole = closes-told _ _ _ _ _ _ (s .set-closes .ensures) (c .before .before .before .before .if4 .left) .whole in
+    let t = c .before .before .before .before .before .before .before .before .before .before in
+    let l = t .before .before .loop in
+    let g = going (l .i) (t .before .before .before .before .before .before .before .args .to) (l .last .left) (t .if1 .taken) in
     omega (arith, whole .room, g .0)
 
 loop-again-2 : tie.Need-loop-again-2 Inv-loop μ-loop
 loop-again-2 c =
-    let e = c .before .before .before .before .before .before .before .before .before .start-of .ensures in
-    let l = c .before .before .before .before .before .before .before .before .before .before .before .before .loop in
-    let g = going (l .i) (c .before .before .before .before .before .before .before .before .before .before .before .before .before .before .before .before .before .args .to) (l .last .left) (c .before .before .before .before .before .before .before .before .before .before .if1 .taken) in
-    told-set (l .inv) (g .0) _ (rw e at (c .before .before .before .before .before .pair-closes .ensures (c .before .before .before .before .if4 .taken))) (g .1) (rw e at (c .before .before .put-pair .ensures))
-
-set-closes-requires : tie.Need-set-closes-requires Inv-loop μ-loop
-set-closes-requires c κs = search needs
-
-same-length-2 : tie.Need-same-length-2 Inv-loop μ-loop
-same-length-2 c = told-kept (c .before .before .before .before .before .before .before .before .before .before .loop .inv) .0
-
-returns-2 : tie.Need-returns-2 Inv-loop μ-loop
-returns-2 c = c .before .before .before .before .before .before .before .before .before .before .loop .inv
-
-put-whole-set-requires : tie.Need-put-whole-set-requires Inv-loop μ-loop
-put-whole-set-requires c κs =
-    let some = c .before .if5 .left in
-    rw (c .before .before .before .before .before .before .before .before .start-of .ensures) (c .before .before .set-closes .ensures (omega (arith, some)) .bytes)
-
-add-i-3 : tie.Need-add-i-3 Inv-loop μ-loop
-add-i-3 c =
-    let some = c .before .before .before .before .if5 .left in
-    let whole = c .before .before .before .before .before .set-closes .ensures (omega (arith, some)) .whole in
-    omega (arith, whole .room, c .before .before .before .before .before .before .before .before .before .before .before .before .before .before .before .before .before .before .before .good)
-
-loop-less-3 : tie.Need-loop-less-3 Inv-loop μ-loop
-loop-less-3 c =
-    let some = c .before .before .before .before .if5 .left in
-    let whole = c .before .before .before .before .before .set-closes .ensures (omega (arith, some)) .whole in
-    let l = c .before .before .before .before .before .before .before .before .before .before .before .before .before .before .loop in
-    let g = going (l .i) (c .before .before .before .before .before .before .before .before .before .before .before .before .before .before .before .before .before .before .before .args .to) (l .last .left) (c .before .before .before .before .before .before .before .before .before .before .before .before .if1 .taken) in
-    omega (arith, whole .room, g .0)
-
-loop-again-3 : tie.Need-loop-again-3 Inv-loop μ-loop
-loop-again-3 c =
-    let some = c .before .before .before .before .if5 .left in
-    let l = c .before .before .before .before .before .before .before .before .before .before .before .before .before .before .loop in
-    let g = going (l .i) (c .before .before .before .before .before .before .before .before .before .before .before .before .before .before .before .before .before .before .before .args .to) (l .last .left) (c .before .before .before .before .before .before .before .before .before .before .before .before .if1 .taken) in
-    told-set (l .inv) (g .0) _ (c .before .before .before .before .before .set-closes .ensures (omega (arith, some))) (g .1) (rw (c .before .before .before .before .before .before .before .before .before .before .before .start-of .ensures) at (c .before .before .put-whole-set .ensures))
+    let s = c .before .before .before .before .before in
+    let closed = closes-told _ _ _ _ _ _ (s .set-closes .ensures) (c .before .before .before .before .if4 .left) in
+    let t = c .before .before .before .before .before .before .before .before .before .before in
+    let l = t .before .before .loop in
+    let g = going (l .i) (t .before .before .before .before .before .before .before .args .to) (l .last .left) (t .if1 .taken) in
+    told-set (l .inv) (g .0) _ closed (g .1) (rw (s .before .before .before .before .start-of .ensures) at (c .before .before .put-whole-set .ensures))
 
 same-length-3 : tie.Need-same-length-3 Inv-loop μ-loop
 same-length-3 c = told-kept (c .before .before .loop .inv) .0
@@ -150,21 +132,16 @@ put-told-spec =
     sub-if3
     same-length
     returns
-    put-few-requires
+    put-run-requires
     add-i
     loop-less
     loop-again
-    pair-closes-requires
-    put-pair-requires
-    add-i-2
-    loop-less-2
-    loop-again-2
     set-closes-requires
     same-length-2
     returns-2
     put-whole-set-requires
-    add-i-3
-    loop-less-3
-    loop-again-3
+    add-i-2
+    loop-less-2
+    loop-again-2
     same-length-3
     returns-3)

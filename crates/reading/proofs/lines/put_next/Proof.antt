@@ -1,4 +1,5 @@
 -- The function `put_next` meets its contract: a word, or a whole set. Assumes nothing.
+use Rattle.matrix.proofs.SetLaws.{closes-told}
 use Rattle.reading.proofs.lines.put_next.Statement.{statement}
 use Rattle.reading.proofs.lines.put_next.Tie as tie
 use Rattle.reading.specs.RowWalk.{one·word, whole·set}
@@ -25,14 +26,12 @@ start-of-requires : tie.Need-start-of-requires
 start-of-requires c κs = search needs
 
 put-whole-set-requires : tie.Need-put-whole-set-requires
-put-whole-set-requires c κs =
-    let some = c .before .before .if1 .left in
-    rw (c .before .start-of .ensures) (c .before .before .before .set-closes .ensures (omega (arith, some)) .bytes)
+put-whole-set-requires c κs = rw (c .before .start-of .ensures) (closes-told _ _ _ _ _ _ (c .before .before .before .set-closes .ensures) (c .before .before .if1 .left) .bytes)
 
 add-t15 : tie.Need-add-t15
 add-t15 c =
-    let some = c .before .before .before .before .before .if1 .left in
-    let whole = c .before .before .before .before .before .before .set-closes .ensures (omega (arith, some)) .whole in
+    let e = c .before .before .before .before .before in
+    let whole = closes-told _ _ _ _ _ _ (e .before .set-closes .ensures) (e .if1 .left) .whole in
     omega (arith, whole .room)
 
 same-length-2 : tie.Need-same-length-2
@@ -40,8 +39,8 @@ same-length-2 c = search needs
 
 returns-2 : tie.Need-returns-2
 returns-2 c =
-    let some = c .before .before .before .before .before .if1 .left in
-    let whole = c .before .before .before .before .before .before .set-closes .ensures (omega (arith, some)) .whole in
+    let e = c .before .before .before .before .before in
+    let whole = closes-told _ _ _ _ _ _ (e .before .set-closes .ensures) (e .if1 .left) .whole in
     λ none set.
     whole·set refl
     (record {
