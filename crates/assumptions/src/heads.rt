@@ -60,19 +60,19 @@ fn form_word(text: &[u8], work: &[u32], i: usize) -> FormWord
 fn close_from(
     text: &[u8],
     work: &[u32],
-    form: Form,
+    layout: Form,
     word: usize,
     from: usize,
     to: usize,
 ) -> FormAnswer
-    ensures { λ r. ⌜ ((t : Typeset) → form·then r (λ f. typeset·at t (now (text .entry)) (now (work .entry)) to (equals f)) ≡ typeset·at t (now (text .entry)) (now (work .entry)) to (close form word) from) ⌝ }
+    ensures { λ r. ⌜ ((t : Typeset) → form·then r (λ f. typeset·at t (now (text .entry)) (now (work .entry)) to (equals f)) ≡ typeset·at t (now (text .entry)) (now (work .entry)) to (close layout word) from) ⌝ }
 {
     let i = next_word(text, work, from, to);
     if to <= i {
         return FormAnswer::Refused(Refusal::TypeSet, word);
     }
     if punct(text, work, i, b')') {
-        return FormAnswer::Form(form, i + 1);
+        return FormAnswer::Form(layout, i + 1);
     }
     FormAnswer::Refused(Refusal::TypeSet, word)
 }
@@ -110,18 +110,18 @@ fn equals_from(
     text: &[u8],
     work: &[u32],
     head: usize,
-    form: Form,
+    layout: Form,
     from: usize,
     to: usize,
 ) -> FormAnswer
-    ensures { λ r. ⌜ ((n : ℕ) → form·then r (λ f. typeset·at (set·of n head) (now (text .entry)) (now (work .entry)) to (after·equals n f)) ≡ typeset·at (set·of n head) (now (text .entry)) (now (work .entry)) to (equals form) from) ⌝ }
+    ensures { λ r. ⌜ ((n : ℕ) → form·then r (λ f. typeset·at (set·of n head) (now (text .entry)) (now (work .entry)) to (after·equals n f)) ≡ typeset·at (set·of n head) (now (text .entry)) (now (work .entry)) to (equals layout) from) ⌝ }
 {
     let i = next_word(text, work, from, to);
     if to <= i {
         return FormAnswer::Refused(Refusal::TypeSet, head);
     }
     if punct(text, work, i, b'=') {
-        return FormAnswer::Form(form, i + 1);
+        return FormAnswer::Form(layout, i + 1);
     }
     FormAnswer::Refused(Refusal::TypeSet, head)
 }

@@ -24,12 +24,12 @@ pub fn record_of(text: &[u8], work: &mut [u32], buffer: &mut [u8]) -> Answer
     read(text, work, buffer)
 }
 
-// A record is written into `form`, and what was written is read again into `again`: where nothing is refused, that is the record, byte for byte.
-pub fn written_again(source: &[u8], work: &mut [u32], form: &mut [u8], again: &mut [u8]) -> Answer
-    ensures { λ r. ⌜ Written·again (now (source .entry)) (now (work .entry)) (now (work .exit)) (now (form .entry)) (now (form .exit)) (now (again .entry)) (now (again .exit)) r ⌝ }
+// A record is written into `written`, and what was written is read again into `again`: where nothing is refused, that is the record, byte for byte.
+pub fn written_again(source: &[u8], work: &mut [u32], written: &mut [u8], again: &mut [u8]) -> Answer
+    ensures { λ r. ⌜ Written·again (now (source .entry)) (now (work .entry)) (now (work .exit)) (now (written .entry)) (now (written .exit)) (now (again .entry)) (now (again .exit)) r ⌝ }
 {
-    match write(source, form) {
-        Answer::Length(n) => read(&form[..n], work, again),
+    match write(source, written) {
+        Answer::Length(n) => read(&written[..n], work, again),
         Answer::Refused(why, at) => Answer::Refused(why, at),
     }
 }
@@ -51,12 +51,12 @@ fn compare(first: &[u8], second: &[u8]) -> Compared
     Compared::Same
 }
 
-// A text is read into `kept`, and its record, which then stands there, is written into `form`.
-fn form_of(text: &[u8], work: &mut [u32], kept: &mut [u8], form: &mut [u8]) -> Answer
-    ensures { λ r. ⌜ Formed (now (text .entry)) (now (work .entry)) (now (work .exit)) (now (kept .entry)) (now (kept .exit)) (now (form .entry)) (now (form .exit)) r ⌝ }
+// A text is read into `kept`, and its record, which then stands there, is written into `written`.
+fn form_of(text: &[u8], work: &mut [u32], kept: &mut [u8], written: &mut [u8]) -> Answer
+    ensures { λ r. ⌜ Formed (now (text .entry)) (now (work .entry)) (now (work .exit)) (now (kept .entry)) (now (kept .exit)) (now (written .entry)) (now (written .exit)) r ⌝ }
 {
     match read(text, work, kept) {
-        Answer::Length(n) => write(&kept[..n], form),
+        Answer::Length(n) => write(&kept[..n], written),
         Answer::Refused(why, at) => Answer::Refused(why, at),
     }
 }
@@ -67,14 +67,14 @@ pub fn forms_agree(
     second: &[u8],
     work: &mut [u32],
     kept: &mut [u8],
-    form: &mut [u8],
+    written: &mut [u8],
     other: &mut [u8],
 ) -> Compared
-    ensures { λ r. ⌜ Forms·compared (now (first .entry)) (now (second .entry)) (now (work .entry)) (now (work .exit)) (now (kept .entry)) (now (kept .exit)) (now (form .entry)) (now (form .exit)) (now (other .entry)) (now (other .exit)) r ⌝ }
+    ensures { λ r. ⌜ Forms·compared (now (first .entry)) (now (second .entry)) (now (work .entry)) (now (work .exit)) (now (kept .entry)) (now (kept .exit)) (now (written .entry)) (now (written .exit)) (now (other .entry)) (now (other .exit)) r ⌝ }
 {
-    match form_of(first, work, kept, form) {
+    match form_of(first, work, kept, written) {
         Answer::Length(n) => match form_of(second, work, kept, other) {
-            Answer::Length(m) => compare(&form[..n], &other[..m]),
+            Answer::Length(m) => compare(&written[..n], &other[..m]),
             Answer::Refused(why, at) => Compared::Refused(why, at),
         },
         Answer::Refused(why, at) => Compared::Refused(why, at),

@@ -87,27 +87,27 @@ fn put_name(text: &[u8], starts: &[u32], buffer: &mut [u8], n: usize, i: usize) 
     put_text(text, text_start(text, start), buffer, n)
 }
 
-// Puts a line: a key, and the name that the word of an index is.
+// Puts a line: a word, and the name that the word of an index is.
 pub fn put_named(
     text: &[u8],
     starts: &[u32],
     buffer: &mut [u8],
     n: usize,
-    key: &[u8],
+    word: &[u8],
     i: usize,
 ) -> usize
-    ensures { λ r. ⌜ Puts (now (buffer .entry)) n (λ behind. now (key .entry) ++ name·piece (now (text .entry)) (now (starts .entry)) i (10 ∷ behind)) (now (buffer .exit)) r ⌝ }
+    ensures { λ r. ⌜ Puts (now (buffer .entry)) n (λ behind. now (word .entry) ++ name·piece (now (text .entry)) (now (starts .entry)) i (10 ∷ behind)) (now (buffer .exit)) r ⌝ }
 {
-    let m = put_all(buffer, n, key);
+    let m = put_all(buffer, n, word);
     let m = put_name(text, starts, buffer, m, i);
     put(buffer, m, b'\n')
 }
 
-// Puts a line: a key, and a number.
-pub fn put_number(buffer: &mut [u8], n: usize, key: &[u8], value: usize) -> usize
-    ensures { λ r. ⌜ Puts (now (buffer .entry)) n (λ behind. now (key .entry) ++ (decimal value ++ (10 ∷ behind))) (now (buffer .exit)) r ⌝ }
+// Puts a line: a word, and a number.
+pub fn put_number(buffer: &mut [u8], n: usize, word: &[u8], value: usize) -> usize
+    ensures { λ r. ⌜ Puts (now (buffer .entry)) n (λ behind. now (word .entry) ++ (decimal value ++ (10 ∷ behind))) (now (buffer .exit)) r ⌝ }
 {
-    let m = put_all(buffer, n, key);
+    let m = put_all(buffer, n, word);
     let m = put_decimal(buffer, m, value as u64);
     put(buffer, m, b'\n')
 }
