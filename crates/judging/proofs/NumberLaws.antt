@@ -93,9 +93,9 @@ module _ (n b : ℕ) (rest : List ℕ) where
       go false y = refl
 
 -- The digits of a number in front of its last one: none, or those of its tenth.
-digits-front : (n : ℕ) → (front : List ℕ) × (decimal n ≡ front ++ (digit n ∷ [])) × (0 < length front → front ≡ decimal (n / 10))
+digits-but-last : (n : ℕ) → (front : List ℕ) × (decimal n ≡ front ++ (digit n ∷ [])) × (0 < length front → front ≡ decimal (n / 10))
 unfolding digit
-digits-front n =
+digits-but-last n =
     by-test (ltb n 10)
     (λ t. let small = ltb-true n 10 t in let e : n % 10 ≡ n = omega arith in ([], rw e (decimal-one n small), λ h. absurd (omega arith)))
     (λ f. (decimal (n / 10), decimal-last n (ltb-false n 10 f), λ h. refl))
@@ -126,13 +126,13 @@ module _ (b : List ℕ) (i value : ℕ) where
   module _ (left rest : ℕ) (w : Digits·left b i value left rest) (some : 0 < left) where
     -- The last digit that is left, those in front of it and those behind.
     abbrev fore : List ℕ
-    fore = digits-front rest .0
+    fore = digits-but-last rest .0
 
     cut : decimal value ≡ fore ++ (digit rest ∷ w .behind)
-    cut = w .made ∙ ap (λ l. l ++ w .behind) (w .last some ∙ digits-front rest .1) ∙ append-snoc fore (digit rest) (w .behind)
+    cut = w .made ∙ ap (λ l. l ++ w .behind) (w .last some ∙ digits-but-last rest .1) ∙ append-snoc fore (digit rest) (w .behind)
 
     shorter : length fore ≡ left - 1
-    shorter = omega (arith, w .size, ap length (w .last some ∙ digits-front rest .1), length-append fore (digit rest ∷ []))
+    shorter = omega (arith, w .size, ap length (w .last some ∙ digits-but-last rest .1), length-append fore (digit rest ∷ []))
 
     -- It stands there, or another byte does.
     pub digits-turn : i + (left - 1) < length b → getD b (i + (left - 1)) 0 ≡ digit rest → Digits·left b i value (left - 1) (rest / 10)
@@ -144,7 +144,7 @@ module _ (b : List ℕ) (i value : ℕ) where
           made = cut;
           size = shorter;
           few = omega (arith, w .few);
-          last = λ h. digits-front rest .2 (omega (arith, shorter));
+          last = λ h. digits-but-last rest .2 (omega (arith, shorter));
           held = drop-next b (i + (left - 1)) within ∙ rw (e, next) (ap (λ l. digit rest ∷ l) (w .held));
         }
 
