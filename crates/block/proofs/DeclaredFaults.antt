@@ -1,11 +1,12 @@
 -- What TAXLABELS, DIMENSIONS and FORMAT refuse, and which of their words they name. Assumes nothing.
 use Prim.Native.Nat.{ℕ, zero, suc}
-use Rattle.block.proofs.Faulted.{Faults, Ends, gives, refuses, either, both, needed, then-ends, fold-ends}
-use Rattle.block.proofs.OutcomeLaws.{All, Any}
+use Rattle.block.proofs.Faulted.{Faults, Ends, gives, refuses, either, both, needed, come, then-ends, fold-ends, reached-ends}
+use Rattle.block.proofs.OutcomeLaws.{All, Any, all-right}
 use Rattle.block.specs.Dimensions.{no·dimensions, count·option, dimension·option, dimension·value, dimension·turn, dimension·end, dimensions}
 use Rattle.block.specs.Faults.{valued·key}
 use Rattle.block.specs.Format.{Options, no·options, Formatting, option, perhaps, equals, value, once, key, key·option, format·option, single·symbol, symbol·value, format·value, format·turn, format·end, format·of, good·symbols, judged, format}
 use Rattle.block.specs.Names.{known, add·name, name·turn, unique·names}
+use Rattle.block.specs.Outcome.{done, then, fold}
 use Rattle.block.specs.declared.dimension.Count.{Count}
 use Rattle.block.specs.declared.dimension.Dimensioning.{Dimensioning}
 use Rattle.block.specs.declared.dimension.Dimensions.{Dimensions}
@@ -14,15 +15,20 @@ use Rattle.block.specs.declared.formats.Valued.{Valued}
 use Rattle.lexer.specs.Base.{bytes, byte, given}
 use Rattle.lexer.specs.Words.{Numbered, is, punct, string?, label, number}
 use Rattle.lexer.specs.declared.refusal.Refusal.{Refusal}
-use mathlib.Core.Bool.{Bool, true, _&&_, not}
-use mathlib.Core.List.{List, []}
+use mathlib.Core.Bool.{Bool, true, false, _&&_, not}
+use mathlib.Core.List.{List, [], _∷_, _++_}
 use mathlib.Core.Option.{Option, none, some}
 use mathlib.Core.Path.{_≡_, refl}
 
--- Names: 17 at a word that is none, 18 at one that is.
-pub record Name·faults (R : Faults) (w : Numbered) : Type 0 where
-  pub unnamed : label w ≡ none → R Refusal.NotName (w .index)
-  pub twice : (n : List ℕ) → label w ≡ some n → R Refusal.TaxonTwice (w .index)
+-- Names: 17 at a word that is none.
+abbrev pub Unnamed : Faults → Numbered → Type 0
+Unnamed R w = label w ≡ none → R Refusal.NotName (w .index)
+
+-- TAXLABELS: 18 at a word whose name is known from those before it.
+abbrev pub Names·twice : Faults → List Numbered → Type 0
+Names·twice R ws =
+    (before : List Numbered) (w : Numbered) (after : List Numbered) (ns : List (List ℕ)) (n : List ℕ) → ws ≡ before ++ (w ∷ after) → unique·names before ≡ done ns → label w ≡ some n → known n ns ≡ true
+    → R Refusal.TaxonTwice (w .index)
 
 -- DIMENSIONS: 15 at any word, 19 at an option that takes a value.
 pub record Dimension·faults (R : Faults) (w : Numbered) : Type 0 where
@@ -36,15 +42,16 @@ pub record Format·faults (R : Faults) (w : Numbered) : Type 0 where
   pub format : R Refusal.FormatOption (w .index)
 
 module _ (R : Faults) where
-  name-faults : (names : List (List ℕ)) (w : Numbered) → Any names → Name·faults R w → Ends R Any (name·turn names w)
+  name-faults : (names : List (List ℕ)) (w : Numbered) → Unnamed R w → ((n : List ℕ) → label w ≡ some n → known n names ≡ true → R Refusal.TaxonTwice (w .index)) → Ends R Any (name·turn names w)
   unfolding name·turn add·name
-  name-faults names w p q =
-      then-ends R (needed R (label w) Refusal.NotName (w .index) (q .unnamed) (λ n e. e))
-      (λ n e. both R (known n names) (refuses (q .twice n e)) (gives tt))
+  name-faults names w q t =
+      then-ends R (needed R (label w) Refusal.NotName (w .index) q (λ n e. e)) (λ n e. either R (known n names) (λ k. refuses (t n e k)) (λ k. gives tt))
 
-  pub unique-names-faults : (ws : List Numbered) → All (Name·faults R) ws → Ends R Any (unique·names ws)
+  pub unique-names-faults : (ws : List Numbered) → All (Unnamed R) ws → Names·twice R ws → Ends R (λ ns. Any ns × (unique·names ws ≡ done ns)) (unique·names ws)
   unfolding unique·names
-  unique-names-faults ws q = fold-ends R Any (Name·faults R) name·turn name-faults [] ws tt q
+  unique-names-faults ws q t =
+      reached-ends R Any name·turn [] ws
+      (λ before w after ns e r p. name-faults ns w (all-right (Unnamed R) before (w ∷ after) (rw e at q) .0) (λ n l k. t before w after ns n e r l k)) tt
 
   -- DIMENSIONS: the option whose `=` or value is awaited may be refused for it.
   abbrev Sizing : Dimensioning → Type 0
@@ -140,9 +147,10 @@ module _ (R : Faults) where
   format-end-faults (equals o k i) p = refuses (p .0)
   format-end-faults (value o k i) p = refuses (p .0)
 
-  -- 21 at the word FORMAT.
-  pub format-faults : (i : ℕ) (ws : List Numbered) → R Refusal.Symbols i → All (Format·faults R) ws → Ends R Any (format i ws)
+  -- 21 at the word FORMAT, where the options give symbols that cannot stand together.
+  pub format-faults : (i : ℕ) (ws : List Numbered) → ((o : Options) → then (fold format·turn (option no·options) ws) format·end ≡ done o → good·symbols o (format·of o) ≡ false → R Refusal.Symbols i)
+      → All (Format·faults R) ws → Ends R Any (format i ws)
   unfolding format judged
   format-faults i ws r q =
-      then-ends R (then-ends R (fold-ends R Formed (Format·faults R) format·turn format-turn-faults (option no·options) ws tt q) format-end-faults)
-      (λ o p. both R (good·symbols o (format·of o)) (gives tt) (refuses r))
+      then-ends R (come R (then-ends R (fold-ends R Formed (Format·faults R) format·turn format-turn-faults (option no·options) ws tt q) format-end-faults))
+      (λ o p. either R (good·symbols o (format·of o)) (λ g. gives tt) (λ g. refuses (r o (p .1) g)))

@@ -1,15 +1,17 @@
 -- What the label commands refuse, and which of their words they name. Assumes nothing.
 use Prim.Native.Nat.{ℕ}
-use Rattle.block.proofs.Faulted.{Faults, Ends, gives, refuses, both, needed, then-ends, fold-ends}
-use Rattle.block.proofs.OutcomeLaws.{All, Any}
+use Rattle.block.proofs.Faulted.{Faults, Ends, gives, refuses, either, both, needed, then-ends, fold-ends, reached-ends}
+use Rattle.block.proofs.LabelsApplied.{labels-applied}
+use Rattle.block.proofs.OutcomeLaws.{All, Any, all-right}
 use Rattle.block.specs.Labels.{Labelled, unlabelled, LabelCommand, label·each, char·labels, Entry, first, next, numbered, labelled, states, Entries, at, character, begin·states, entry·number, entry·begins, entry·label, entry·states, state·label, entry·turn, entry·end, label·entries, label·command, apply·labels}
+use Rattle.block.specs.Outcome.{done}
 use Rattle.block.specs.declared.kinds.Labelling.{Labelling}
 use Rattle.lexer.specs.Base.{byte, given}
 use Rattle.lexer.specs.Words.{Numbered, label, number, punct}
 use Rattle.lexer.specs.declared.refusal.Refusal.{Refusal}
 use lib.Dec.{ltb, leb, eqb}
 use lib.ListN.{length, replicate}
-use mathlib.Core.Bool.{_&&_}
+use mathlib.Core.Bool.{false, _&&_}
 use mathlib.Core.List.{List, [], _∷_}
 use mathlib.Core.Option.{none}
 use mathlib.Core.Path.{_≡_, refl}
@@ -19,13 +21,14 @@ pub record Label·faults (R : Faults) (w : Numbered) : Type 0 where
   pub entry : R Refusal.LabelEntry (w .index)
   pub unnamed : label w ≡ none → R Refusal.NotName (w .index)
 
--- A label command: 26 at its first word, and 16 there if it is CHARLABELS.
-pub record Labelling·faults (R : Faults) (c : LabelCommand) : Type 0 where
-  pub count : c .what ≡ Labelling.CharLabels → R Refusal.Count (c .head)
+-- A label command: 26 at its first word, and 16 there if it is CHARLABELS and has more or fewer words than there are characters. So many are
+-- there where the first says so.
+pub record Labelling·faults (N : ℕ → Type 0) (R : Faults) (c : LabelCommand) : Type 0 where
+  pub count : (n : ℕ) → N n → c .what ≡ Labelling.CharLabels → eqb (length (c .words)) n ≡ false → R Refusal.Count (c .head)
   pub entry : R Refusal.LabelEntry (c .head)
   pub each : All (Label·faults R) (c .words)
 
-module _ (R : Faults) where
+module _ (N : ℕ → Type 0) (R : Faults) where
   each-faults : (cs : List Labelled) (ws : List Numbered) → All (Label·faults R) ws → Ends R Any (label·each cs ws)
   unfolding label·each
   each-faults [] ws q = gives tt
@@ -56,7 +59,7 @@ module _ (R : Faults) where
   number-faults Labelling.CharStateLabels cs w k q = gives (q .entry)
   number-faults Labelling.StateLabels cs w k q = states-faults cs k (w .index) (q .entry)
 
-  module _ (count : ℕ) (c : LabelCommand) (h : Labelling·faults R c) where
+  module _ (count : ℕ) (c : LabelCommand) (h : Labelling·faults N R c) where
     begins-faults : (cs : List Labelled) (w : Numbered) → Label·faults R w → Ends R Entered (entry·begins c cs w)
     unfolding entry·begins
     begins-faults cs w q =
@@ -96,13 +99,16 @@ module _ (R : Faults) where
         then-ends R (fold-ends R Entered (Label·faults R) (λ e w. entry·turn count c (e .characters) (e .entry) w) (λ e w p q. turn-faults (e .characters) (e .entry) w p q) (at cs first) (c .words) tt (h .each))
         (λ e p. end-faults (e .characters) (e .entry) p)
 
-    command-faults : (l : Labelling) → c .what ≡ l → (cs : List Labelled) → Ends R Any (label·command count l c cs)
+    command-faults : (l : Labelling) → c .what ≡ l → (cs : List Labelled) → N (length cs) → Ends R Any (label·command count l c cs)
     unfolding label·command char·labels
-    command-faults Labelling.CharLabels e cs = both R (eqb (length (c .words)) (length cs)) (each-faults cs (c .words) (h .each)) (refuses (h .count e))
-    command-faults Labelling.StateLabels e cs = entries-faults cs
-    command-faults Labelling.CharStateLabels e cs = entries-faults cs
+    command-faults Labelling.CharLabels e cs n =
+        either R (eqb (length (c .words)) (length cs)) (λ f. each-faults cs (c .words) (h .each)) (λ f. refuses (h .count (length cs) n e f))
+    command-faults Labelling.StateLabels e cs n = entries-faults cs
+    command-faults Labelling.CharStateLabels e cs n = entries-faults cs
 
-  pub labels-faults : (count characters : ℕ) (commands : List LabelCommand) → All (Labelling·faults R) commands → Ends R Any (apply·labels count characters commands)
+  pub labels-faults : (count characters : ℕ) (commands : List LabelCommand) → N characters → All (Labelling·faults N R) commands
+      → Ends R (λ ls. Any ls × (apply·labels count characters commands ≡ done ls)) (apply·labels count characters commands)
   unfolding apply·labels
-  labels-faults count characters commands q =
-      fold-ends R Any (Labelling·faults R) (λ cs c. label·command count (c .what) c cs) (λ cs c p h. command-faults count c h (c .what) refl cs) (replicate characters unlabelled) commands tt q
+  labels-faults count characters commands n q =
+      reached-ends R Any (λ cs c. label·command count (c .what) c cs) (replicate characters unlabelled) commands
+      (λ before c after cs e r p. command-faults count c (all-right (Labelling·faults N R) before (c ∷ after) (rw e at q) .0) (c .what) refl cs (rw (labels-applied count characters before cs r .0) n)) tt

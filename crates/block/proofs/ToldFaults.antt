@@ -1,19 +1,22 @@
 -- The refusals that a command of a text may come to, each at the token that it names. Assumes nothing.
 use Prim.Native.Nat.{ℕ}
-use Rattle.block.proofs.DeclaredFaults.{Name·faults, Dimension·faults, Format·faults}
+use Rattle.block.proofs.DeclaredFaults.{Unnamed, Dimension·faults, Format·faults}
 use Rattle.block.proofs.LabelFaults.{Label·faults, Labelling·faults}
 use Rattle.block.proofs.MatrixFaults.{Matrix·faults}
 use Rattle.block.proofs.OutcomeLaws.{All, all-map}
 use Rattle.block.proofs.TypeFaults.{Type·faults}
 use Rattle.block.specs.Blocks.{labelling}
 use Rattle.block.specs.Commands.{command, words, newline}
-use Rattle.block.specs.Faults.{Token·of, Comes·to, First·word, Later·word, label·word, taxon·word, name·word, count·word, May·stand·at, dimension, label·count, not·name, taxon·twice, no·count, no·value, format·option, format·in, cell·symbol, open·set, not·states, wrong·row, row·count, no·entry, label·entry, type·word, default·type, character·list}
+use Rattle.block.specs.Faults.{Token·of, Comes·to, First·word, Later·word, label·word, taxon·word, name·word, count·word, Shaped·by, May·stand·at, dimension, label·count, not·name, no·count, no·value, format·option, format·in, cell·symbol, open·set, not·states, wrong·row, no·entry, label·entry, type·word, default·type, character·list}
 use Rattle.block.specs.Interleaved.{Line, to·newline, lines·from, lines}
+use Rattle.block.specs.Sequential.{Shape}
 use Rattle.block.specs.declared.kinds.Labelling.{Labelling}
 use Rattle.lexer.proofs.Basics.{by-test, or-first, or-second}
 use Rattle.lexer.specs.Base.{pick, bytes, given}
 use Rattle.lexer.specs.Words.{Numbered, is, label}
 use Rattle.lexer.specs.declared.refusal.Refusal.{Refusal}
+use borrow.Author.Tests.{eqb-false}
+use lib.ListN.{length}
 use mathlib.Core.Bool.{Bool, true, false}
 use mathlib.Core.List.{List, [], _∷_, List·Memᴰ}
 use mathlib.Core.Option.{none, some}
@@ -54,6 +57,10 @@ module _ (Q : Numbered → Type 0) where
   unfolding lines
   lines-shown ws q = lines-from-shown false ws q
 
+-- Reading comes to a MATRIX command with so many characters.
+abbrev pub Characters : List ℕ → ℕ → Type 0
+Characters text n = (h : Numbered) × (m : First·word text (is (bytes "MATRIX")) h) × (sh : Shape) × Shaped·by (m .comes .state) h sh × (sh .characters ≡ n)
+
 -- A token behind the first word of a command.
 abbrev pub Behind : List ℕ → List Numbered → Numbered → Type 0
 Behind text raw w = Token·of text w × List·Memᴰ w raw
@@ -69,26 +76,18 @@ module _ {text : List ℕ} {h : Numbered} {raw : List Numbered} (c : Command·of
   first kind e = record { behind = raw; comes = c .comes; of·kind = e }
 
   module _ (w : Numbered) (q : Shown (Behind text raw) w) where
-    abbrev later : (kind : Numbered → Bool) → kind h ≡ true → Later·word text kind w
+    abbrev pub later : (kind : Numbered → Bool) → kind h ≡ true → Later·word text kind w
     later kind e = record { first = h; behind = raw; comes = c .comes; of·kind = e; among = q .0 .1; shown = q .1 }
 
-    told : {n : Refusal} → May·stand·at text n w → Told text n (w .index)
+    pub told : {n : Refusal} → May·stand·at text n w → Told text n (w .index)
     told s = at·token w (q .0 .0) s
 
     unnamed : name·word h ≡ true → label w ≡ none → Told text Refusal.NotName (w .index)
     unnamed e n = told (not·name (later name·word e) n)
 
-    names-told : taxon·word h ≡ true → Name·faults (Told text) w
-    unfolding name·word
-    names-told e =
-        record {
-          unnamed = unnamed (or-first (taxon·word h) _ e);
-          twice = λ n p. told (taxon·twice (later taxon·word e) (unfold given in rw p));
-        }
-
-    pub taxlabels-told : is (bytes "TAXLABELS") h ≡ true → Name·faults (Told text) w
-    unfolding taxon·word
-    taxlabels-told e = names-told (or-first (is (bytes "TAXLABELS") h) _ e)
+    pub taxlabels-told : is (bytes "TAXLABELS") h ≡ true → Unnamed (Told text) w
+    unfolding name·word taxon·word
+    taxlabels-told e = unnamed (or-first (taxon·word h) _ (or-first (is (bytes "TAXLABELS") h) _ e))
 
     pub dimensions-told : is (bytes "DIMENSIONS") h ≡ true → Dimension·faults (Told text) w
     unfolding count·word
@@ -106,16 +105,15 @@ module _ {text : List ℕ} {h : Numbered} {raw : List Numbered} (c : Command·of
         record { value = λ p. told (no·value l p); format = told (format·option l) }
 
     pub matrix-told : is (bytes "MATRIX") h ≡ true → Matrix·faults (Told text) (format·in (c .comes .state .phase)) w
-    unfolding taxon·word
+    unfolding name·word taxon·word
     matrix-told e =
         let l = later (is (bytes "MATRIX")) e in
         record {
-          count = told (row·count l);
           symbol = λ p. told (cell·symbol l p);
           opened = λ p. told (open·set l p);
           states = λ cells p n. told (not·states l p n);
           row = told (wrong·row l);
-          name = names-told (or-second (is (bytes "TAXLABELS") h) _ e);
+          unnamed = unnamed (or-first (taxon·word h) _ (or-second (is (bytes "TAXLABELS") h) _ e));
         }
 
     label-told : label·word h ≡ true → Label·faults (Told text) w
@@ -155,12 +153,12 @@ module _ {text : List ℕ} {h : Numbered} {raw : List Numbered} (c : Command·of
       other false true p = cc
       other false false p = cc
 
-  pub labelling-told : (l : Labelling) → labelling h ≡ some l → Labelling·faults (Told text) (record { what = l; head = h .index; words = words raw })
+  pub labelling-told : (l : Labelling) → labelling h ≡ some l → Labelling·faults (Characters text) (Told text) (record { what = l; head = h .index; words = words raw })
   unfolding label·word
   labelling-told l e =
       let k : label·word h ≡ true = unfold given in rw e in
       record {
-        count = λ p. told-first (label·count (first (is (bytes "CHARLABELS")) (char-labels (e ∙ ap some p))));
+        count = λ n m p f. told-first (label·count (first (is (bytes "CHARLABELS")) (char-labels (e ∙ ap some p))) (m .1) (m .3) (rw (m .4) (eqb-false (length (words raw)) n f)));
         entry = told-first (no·entry (first label·word k));
         each = told-words (Label·faults (Told text)) (λ w q. label-told w q k);
       }

@@ -1,8 +1,9 @@
 -- What TYPESET refuses, and which of its words it names. Assumes nothing.
 use Prim.Native.Nat.{ℕ, zero, suc}
-use Rattle.block.proofs.Faulted.{Faults, Ends, gives, refuses, both, needed, then-ends, fold-ends}
+use Rattle.block.proofs.Faulted.{Faults, Ends, gives, refuses, either, both, needed, come, then-ends, fold-ends}
 use Rattle.block.proofs.OutcomeLaws.{All, Any, Opt}
 use Rattle.block.specs.CharacterList.{Part, part, cut·from, parts, dash?, stride?, all?, character·number, range, first·number, first·item, next·item, last·number, stride·number, item·turn, Listed, listed, with·further, part·turn, list·turn, item·end}
+use Rattle.block.specs.Outcome.{done, fold}
 use Rattle.block.specs.Typeset.{ordering, Types, typed, Typing, star, name, named, form, close, equals, types, type, colon, begin, list, Typeset, name·word, equals·word, vector·word, list·ends, list·word, typeset·turn, vector·end, typeset·end, typeset}
 use Rattle.block.specs.declared.kinds.Form.{Form}
 use Rattle.block.specs.declared.kinds.Further.{Further}
@@ -120,7 +121,7 @@ module _ (R : Faults) where
   Typed (begin ts o i) = R Refusal.TypeSet i × R Refusal.CharacterList i
   Typed (list ts o i l) = R Refusal.TypeSet i × Listing l
 
-  module _ (t : Typeset) (head : R Refusal.TypeSet (t .head)) (count : R Refusal.Count (t .head)) where
+  module _ (t : Typeset) (head : R Refusal.TypeSet (t .head)) where
     name-word-faults : (w : Numbered) → Type·faults R w → Ends R Typed (name·word w)
     unfolding name·word
     name-word-faults w q = then-ends R {P = Any} (needed R (label w) Refusal.NotName (w .index) (q .unnamed) (λ n e. tt)) (λ n e. gives tt)
@@ -163,26 +164,31 @@ module _ (R : Faults) where
         both R (punct (byte ",") w) (refuses (p .1)) (list-word-faults ts o i (listed [] Item.Number) w (p .0) tt q)
     turn-faults (list ts o i l) w p q = list-word-faults ts o i l w (p .0) (p .1) q
 
-    vector-end-faults : (ts : Types) (bad : Option ℕ) → Opt (R Refusal.TypeSet) bad → Ends R Any (vector·end t ts bad)
+    -- 16 where a VECTOR has types for more or fewer characters.
+    abbrev Counted : Types → Type 0
+    Counted ts = eqb (length ts) (t .characters) ≡ false → R Refusal.Count (t .head)
+
+    vector-end-faults : (ts : Types) (bad : Option ℕ) → Counted ts → Opt (R Refusal.TypeSet) bad → Ends R Any (vector·end t ts bad)
     unfolding vector·end
-    vector-end-faults [] bad p = refuses head
-    vector-end-faults (o ∷ ts) none p = both R (eqb (length (o ∷ ts)) (t .characters)) (gives tt) (refuses count)
-    vector-end-faults (o ∷ ts) (some i) p = both R (eqb (length (o ∷ ts)) (t .characters)) (refuses p) (refuses count)
+    vector-end-faults [] bad c p = refuses head
+    vector-end-faults (o ∷ ts) none c p = either R (eqb (length (o ∷ ts)) (t .characters)) (λ e. gives tt) (λ e. refuses (c e))
+    vector-end-faults (o ∷ ts) (some i) c p = either R (eqb (length (o ∷ ts)) (t .characters)) (λ e. refuses p) (λ e. refuses (c e))
 
-    end-faults : (m : Typing) → Typed m → Ends R Any (typeset·end t m)
-    unfolding typeset·end
-    end-faults star p = refuses head
-    end-faults name p = refuses head
-    end-faults named p = refuses head
-    end-faults form p = refuses head
-    end-faults (close f i) p = refuses p
-    end-faults (equals f) p = refuses head
-    end-faults (types ts bad) p = vector-end-faults ts bad p
-    end-faults (type ts) p = refuses head
-    end-faults (colon ts o i) p = refuses (p .0)
-    end-faults (begin ts o i) p = refuses (p .1)
-    end-faults (list ts o i l) p = list-ends-faults ts o i l (p .0) (p .1)
+    module _ (ws : List Numbered) (count : (ts : Types) (bad : Option ℕ) → fold (typeset·turn t) star ws ≡ done (types ts bad) → Counted ts) where
+      end-faults : (m : Typing) → Typed m → fold (typeset·turn t) star ws ≡ done m → Ends R Any (typeset·end t m)
+      unfolding typeset·end
+      end-faults star p e = refuses head
+      end-faults name p e = refuses head
+      end-faults named p e = refuses head
+      end-faults form p e = refuses head
+      end-faults (close f i) p e = refuses p
+      end-faults (equals f) p e = refuses head
+      end-faults (types ts bad) p e = vector-end-faults ts bad (count ts bad e) p
+      end-faults (type ts) p e = refuses head
+      end-faults (colon ts o i) p e = refuses (p .0)
+      end-faults (begin ts o i) p e = refuses (p .1)
+      end-faults (list ts o i l) p e = list-ends-faults ts o i l (p .0) (p .1)
 
-    pub typeset-faults : (ws : List Numbered) → All (Type·faults R) ws → Ends R Any (typeset t ws)
-    unfolding typeset
-    typeset-faults ws q = then-ends R (fold-ends R Typed (Type·faults R) (typeset·turn t) turn-faults star ws tt q) end-faults
+      pub typeset-faults : All (Type·faults R) ws → Ends R Any (typeset t ws)
+      unfolding typeset
+      typeset-faults q = then-ends R (come R (fold-ends R Typed (Type·faults R) (typeset·turn t) turn-faults star ws tt q)) (λ m k. end-faults m (k .0) (k .1))

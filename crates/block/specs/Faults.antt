@@ -1,30 +1,37 @@
 -- Where a text is refused: at 0,0, at an opening mark, or at a token, and which token each number may name.
-use Prim.Native.Nat.{ℕ, zero, suc, _+_, _≤_, _<_}
-use Rattle.block.specs.Blocks.{Phase, outside, in·taxa, in·data, in·assumptions, in·trees, State, at·start, labelling, ends, outside?, step, orderable, finish}
+use Prim.Native.Nat.{ℕ, zero, suc, _+_, _*_, _≤_, _<_}
+use Rattle.block.specs.Blocks.{Data, Phase, outside, in·taxa, in·data, in·assumptions, in·trees, State, at·start, declared·count, rows, matrix·shape, labelling, characters·in, ends, outside?, step, orderable, finish}
 use Rattle.block.specs.Cell.{Cell}
 use Rattle.block.specs.Chunk.{symbols, only·states}
 use Rattle.block.specs.Commands.{Command, command, empty, unended, words, newline, semicolon}
-use Rattle.block.specs.Format.{Format, default·format, key}
-use Rattle.block.specs.Outcome.{done, refused, fold}
+use Rattle.block.specs.Dimensions.{dimensions}
+use Rattle.block.specs.Format.{Format, default·format, Options, no·options, option, key, format·turn, format·end, format·of, good·symbols}
+use Rattle.block.specs.Interleaved.{Line, lines, Page, first·page, pages, all·long}
+use Rattle.block.specs.Names.{unique·names}
+use Rattle.block.specs.Outcome.{done, refused, then, fold}
 use Rattle.block.specs.Parse.{fault, read}
-use Rattle.block.specs.Reading.{Reading}
+use Rattle.block.specs.Reading.{Taxon, Reading}
+use Rattle.block.specs.Sequential.{Shape, names, between, sequential·turn}
 use Rattle.block.specs.TaxonOrder.{commands·of}
+use Rattle.block.specs.Typeset.{Types, star, types, Typeset, typeset·turn}
+use Rattle.block.specs.declared.dimension.Dimensions.{Dimensions}
 use Rattle.block.specs.declared.formats.Key.{Key}
-use Rattle.lexer.specs.Base.{pick, bytes, byte, empty?, given}
+use Rattle.lexer.specs.Base.{pick, bytes, byte, empty?, given, alike}
 use Rattle.lexer.specs.Classes.{symbol}
 use Rattle.lexer.specs.Lexing.{token·at}
 use Rattle.lexer.specs.Places.{place, starts, first·byte}
 use Rattle.lexer.specs.Refusals.{number}
 use Rattle.lexer.specs.Tokens.{next, unclosed, tokens, unmarked, left·open}
 use Rattle.lexer.specs.Utf8.{utf8}
-use Rattle.lexer.specs.Words.{Numbered, numbered, is, punct, label}
+use Rattle.lexer.specs.Words.{Numbered, numbered, is, punct, label, largest}
 use Rattle.lexer.specs.declared.Mode.{Mode}
 use Rattle.lexer.specs.declared.Place.{Place}
 use Rattle.lexer.specs.declared.refusal.Refusal.{Refusal}
+use lib.Dec.{eqb}
 use lib.ListN.{length, getD}
-use mathlib.Core.Bool.{Bool, true, false, _||_}
-use mathlib.Core.List.{List, [], _∷_, _++_, List·Memᴰ}
-use mathlib.Core.Logic.{_↔_}
+use mathlib.Core.Bool.{Bool, true, false, _&&_, _||_, not}
+use mathlib.Core.List.{List, [], _∷_, _++_, List·Memᴰ, map}
+use mathlib.Core.Logic.{_↔_, _⊎_}
 use mathlib.Core.Option.{Option, none, some, Option·getD}
 use mathlib.Core.Path.{_≡_}
 
@@ -140,6 +147,75 @@ valued·key Key.Missing = true
 valued·key Key.Gap = true
 valued·key Key.Unknown = false
 
+-- Why a block may not begin in this state: its name is none that is read; or there is such a block already, or the matrix is, which must stand
+-- behind TAXA and before ASSUMPTIONS.
+pub data Misplaced (s : State) (w : Numbered) : Type 0 where
+  unknown : known·block w ≡ false → Misplaced s w
+  taxa·late : is (bytes "TAXA") w ≡ true → given (s .taxa) || given (s .matrix) ≡ true → Misplaced s w
+  data·twice : is (bytes "DATA") w || is (bytes "CHARACTERS") w ≡ true → given (s .matrix) ≡ true → Misplaced s w
+  assumptions·early : is (bytes "ASSUMPTIONS") w ≡ true → given (s .matrix) ≡ false → Misplaced s w
+  assumptions·twice : is (bytes "ASSUMPTIONS") w ≡ true → s .assumptions ≡ true → Misplaced s w
+
+-- A block that must hold something holds nothing: no names of taxa, no matrix.
+unfoldable pub unfilled : Phase → Bool
+unfilled outside = false
+unfilled (in·taxa b count names) = not (given names)
+unfilled (in·data b d) = not (given (d .matrix))
+unfilled (in·assumptions b default set) = false
+unfilled (in·trees b) = false
+
+-- What MATRIX lacks before it: DIMENSIONS; a count of characters or of taxa in it; NTAX beside NEWTAXA.
+pub data Not·ready (d : Data) : Type 0 where
+  no·dimensions : d .dimensions ≡ none → Not·ready d
+  no·counts : {x : Dimensions} → d .dimensions ≡ some x → eqb (x .characters) 0 || eqb (declared·count (d .taxa) (x .taxa)) 0 ≡ true → Not·ready d
+  no·new·count : {x : Dimensions} → d .dimensions ≡ some x → x .«new_taxa» && eqb (x .taxa) 0 ≡ true → Not·ready d
+
+-- By what a MATRIX command with this first word is read, where reading comes to it: the data of the block, and the shape that follows from it.
+pub record Shaped·by (s : State) (w : Numbered) (sh : Shape) : Type 0 where
+  pub block : ℕ
+  pub block·data : Data
+  pub inside : s .phase ≡ in·data block block·data
+  pub dimensions : Dimensions
+  pub sized : block·data .dimensions ≡ some dimensions
+  pub shaped : matrix·shape block·data dimensions (w .index) ≡ done sh
+
+-- A word's name is like one of these, ASCII case ignored.
+pub record Like·one (names : List (List ℕ)) (w : Numbered) : Type 0 where
+  pub name : List ℕ
+  pub named : label w ≡ some name
+  pub other : List ℕ
+  pub among : List·Memᴰ other names
+  pub like : alike name other ≡ true
+
+-- A row of the matrix with these words begins at this one, and these are the names of the rows before it: those that the words before it are
+-- read as; or, on the first page, the first words of the lines before.
+pub data Begins·row (sh : Shape) (raw : List Numbered) : Numbered → List (List ℕ) → Type 0 where
+  in·sequence : (before after : List Numbered) {w : Numbered} {rows : List Taxon} → sh .format .interleave ≡ false → words raw ≡ before ++ (w ∷ after)
+      → fold (sequential·turn sh) (between []) before ≡ done (between rows) → Begins·row sh raw w (names rows)
+  on·page : (before after : List Line) (l : Line) {ns : List (List ℕ)} → sh .format .interleave ≡ true → lines raw ≡ before ++ (l ∷ after)
+      → length before < sh .taxa → map (λ (k : Line). label (k .first)) before ≡ map some ns → Begins·row sh raw (l .first) ns
+
+-- The rows of the matrix with these words are not as many as they are to be: one begins, at this word, behind the last; or a page begins with it
+-- that has too few lines.
+pub data Rows·miscounted (sh : Shape) (raw : List Numbered) : Numbered → Type 0 where
+  too·many : (before after : List Numbered) {w : Numbered} {rows : List Taxon} → sh .format .interleave ≡ false → words raw ≡ before ++ (w ∷ after)
+      → fold (sequential·turn sh) (between []) before ≡ done (between rows) → length rows ≡ sh .taxa → Rows·miscounted sh raw w
+  short·page : (before after : List Line) (l : Line) (whole : ℕ) → sh .format .interleave ≡ true → lines raw ≡ before ++ (l ∷ after)
+      → length before ≡ whole * sh .taxa → suc (length after) < sh .taxa → Rows·miscounted sh raw (l .first)
+
+-- At the end they are not, or, of pages, have not all their cells.
+pub data Rows·missing (sh : Shape) (raw : List Numbered) : Type 0 where
+  too·few : {rows : List Taxon} → sh .format .interleave ≡ false → fold (sequential·turn sh) (between []) (words raw) ≡ done (between rows) → ¬ (length rows ≡ sh .taxa) → Rows·missing sh raw
+  pages·short : {p : Page} → sh .format .interleave ≡ true → pages sh first·page (lines raw) ≡ done p → eqb (length (p .below)) (sh .taxa) && all·long (sh .characters) (p .below) ≡ false → Rows·missing sh raw
+
+-- The declared names are not as many as NTAX, which is given, says; or their count has more than 64 bits.
+abbrev pub Names·miscounted : ℕ → List (List ℕ) → Type 0
+Names·miscounted ntax ns = (¬ (ntax ≡ 0) × ¬ (length ns ≡ ntax)) ⊎ (largest < length ns)
+
+-- What TYPESET is judged by in this state.
+abbrev pub typeset·in : State → Numbered → Typeset
+typeset·in s w = record { characters = characters·in (s .matrix); head = w .index }
+
 -- Which token a number may stand at.
 pub data May·stand·at (text : List ℕ) : Refusal → Numbered → Type 0 where
   -- 6: the first token that is no newline, where it is not #NEXUS
@@ -154,43 +230,48 @@ pub data May·stand·at (text : List ℕ) : Refusal → Numbered → Type 0 wher
   words·after·end : {w : Numbered} (f : First·word text ends w) → outside? (f .comes .state .phase) ≡ false → empty? (words (f .behind)) ≡ false → May·stand·at text Refusal.WordsAfterEnd w
   -- 11: the first word of a command outside a block that is not BEGIN and a name
   not·begin : {w : Numbered} (f : First·word text any w) → outside? (f .comes .state .phase) ≡ true → ((b : Numbered) → words (f .behind) ≡ b ∷ [] → is (bytes "BEGIN") w ≡ false) → May·stand·at text Refusal.NotBegin w
-  -- 12: the name of any block
-  wrong·block : {w : Numbered} → Block·name text any w → May·stand·at text Refusal.Block w
+  -- 12: the name of a block that may not begin there
+  wrong·block : {w : Numbered} (n : Block·name text any w) → Misplaced (n .comes .state) w → May·stand·at text Refusal.Block w
   -- 13: the first word of a command in a block
   wrong·command : {w : Numbered} (f : First·word text any w) → outside? (f .comes .state .phase) ≡ false → May·stand·at text Refusal.Command w
-  -- 14: the word DIMENSIONS (of TAXA) or MATRIX; the name of a block that must hold something when it ends; #NEXUS, where no command is refused
-  -- and there is no matrix
-  no·taxa·count : {w : Numbered} → First·word text (is (bytes "DIMENSIONS")) w → May·stand·at text Refusal.Absent w
-  not·ready : {w : Numbered} → First·word text (is (bytes "MATRIX")) w → May·stand·at text Refusal.Absent w
-  not·filled : {w : Numbered} → Ended·name text filled·block w → May·stand·at text Refusal.Absent w
+  -- 14: the word DIMENSIONS (of TAXA) without NTAX; the word MATRIX, before which something lacks; the name of a block that holds nothing when it
+  -- ends; #NEXUS, where no command is refused and there is no matrix
+  no·taxa·count : {w : Numbered} {b : ℕ} {x : Dimensions} (f : First·word text (is (bytes "DIMENSIONS")) w) → f .comes .state .phase ≡ in·taxa b 0 none → dimensions (words (f .behind)) ≡ done x → x .taxa ≡ 0 → May·stand·at text Refusal.Absent w
+  not·ready : {w : Numbered} {b : ℕ} {d : Data} (f : First·word text (is (bytes "MATRIX")) w) → f .comes .state .phase ≡ in·data b d → Not·ready d → May·stand·at text Refusal.Absent w
+  not·filled : {w : Numbered} (e : Ended·name text filled·block w) → unfilled (e .first .comes .state .phase) ≡ true → May·stand·at text Refusal.Absent w
   no·matrix : {w : Numbered} (e : Comes·to·end text) → e .state .matrix ≡ none → Header text w → is (bytes "#NEXUS") w ≡ true → May·stand·at text Refusal.Absent w
-  -- 15: the word DIMENSIONS (of TAXA) or one behind it
-  taxa·dimension : {w : Numbered} → First·word text (is (bytes "DIMENSIONS")) w → May·stand·at text Refusal.Dimension w
+  -- 15: the word DIMENSIONS (of TAXA) with NCHAR or NEWTAXA; a word behind DIMENSIONS
+  taxa·dimension : {w : Numbered} {b : ℕ} {x : Dimensions} (f : First·word text (is (bytes "DIMENSIONS")) w) → f .comes .state .phase ≡ in·taxa b 0 none → dimensions (words (f .behind)) ≡ done x → not (eqb (x .characters) 0) || x .«new_taxa» ≡ true → May·stand·at text Refusal.Dimension w
   dimension : {w : Numbered} → Later·word text (is (bytes "DIMENSIONS")) w → May·stand·at text Refusal.Dimension w
-  -- 16: the name of a TAXA block that ends; the word MATRIX, CHARLABELS or TYPESET; a word of a matrix
-  taxa·count : {w : Numbered} → Ended·name text (is (bytes "TAXA")) w → May·stand·at text Refusal.Count w
-  matrix·count : {w : Numbered} → First·word text (is (bytes "MATRIX")) w → May·stand·at text Refusal.Count w
-  row·count : {w : Numbered} → Later·word text (is (bytes "MATRIX")) w → May·stand·at text Refusal.Count w
-  label·count : {w : Numbered} → First·word text (is (bytes "CHARLABELS")) w → May·stand·at text Refusal.Count w
-  type·count : {w : Numbered} → First·word text (is (bytes "TYPESET")) w → May·stand·at text Refusal.Count w
+  -- 16: the name of a TAXA block that ends, whose names are not as many as its NTAX says
+  taxa·count : {w : Numbered} {count : ℕ} {ns : List (List ℕ)} (e : Ended·name text (is (bytes "TAXA")) w) → e .first .comes .state .phase ≡ in·taxa (w .index) count (some ns) → ¬ (length ns ≡ count) → May·stand·at text Refusal.Count w
+  -- the word MATRIX, where the declared names are not as many as NTAX says, or the rows not as many as they are to be at the end; a word of a
+  -- matrix at which they become too many, or its last page too short
+  names·count : {w : Numbered} {b : ℕ} {d : Data} {x : Dimensions} {ns : List (List ℕ)} (f : First·word text (is (bytes "MATRIX")) w) → f .comes .state .phase ≡ in·data b d → d .dimensions ≡ some x → d .taxa ≡ some ns → Names·miscounted (x .taxa) ns → May·stand·at text Refusal.Count w
+  matrix·count : {w : Numbered} {sh : Shape} (f : First·word text (is (bytes "MATRIX")) w) → Shaped·by (f .comes .state) w sh → Rows·missing sh (f .behind) → May·stand·at text Refusal.Count w
+  row·count : {w : Numbered} {sh : Shape} (l : Later·word text (is (bytes "MATRIX")) w) → Shaped·by (l .comes .state) (l .first) sh → Rows·miscounted sh (l .behind) w → May·stand·at text Refusal.Count w
+  -- the word CHARLABELS, whose words are not as many as the matrix has characters; the word TYPESET of a VECTOR with types for more or fewer
+  label·count : {w h : Numbered} {sh : Shape} (f : First·word text (is (bytes "CHARLABELS")) w) (m : First·word text (is (bytes "MATRIX")) h) → Shaped·by (m .comes .state) h sh → ¬ (length (words (f .behind)) ≡ sh .characters) → May·stand·at text Refusal.Count w
+  type·count : {w : Numbered} {ts : Types} {bad : Option ℕ} (f : First·word text (is (bytes "TYPESET")) w) → fold (typeset·turn (typeset·in (f .comes .state) w)) star (words (f .behind)) ≡ done (types ts bad) → ¬ (length ts ≡ characters·in (f .comes .state .matrix)) → May·stand·at text Refusal.Count w
   -- 17: a word that is no name, in a command with names
   not·name : {w : Numbered} → Later·word text name·word w → label w ≡ none → May·stand·at text Refusal.NotName w
-  -- 18: a word that is a name, in TAXLABELS or MATRIX
-  taxon·twice : {w : Numbered} → Later·word text taxon·word w → given (label w) ≡ true → May·stand·at text Refusal.TaxonTwice w
+  -- 18: a word of TAXLABELS whose name is like that of a word before it; a word at which a row begins whose name is like that of a row before it
+  name·twice : {w : Numbered} {ns : List (List ℕ)} (l : Later·word text (is (bytes "TAXLABELS")) w) (before after : List Numbered) → words (l .behind) ≡ before ++ (w ∷ after) → unique·names before ≡ done ns → Like·one ns w → May·stand·at text Refusal.TaxonTwice w
+  row·twice : {w : Numbered} {sh : Shape} {ns : List (List ℕ)} (l : Later·word text (is (bytes "MATRIX")) w) → Shaped·by (l .comes .state) (l .first) sh → Begins·row sh (l .behind) w ns → Like·one ns w → May·stand·at text Refusal.TaxonTwice w
   -- 19: an option of DIMENSIONS or of FORMAT that takes a value
   no·count : {w : Numbered} → Later·word text (is (bytes "DIMENSIONS")) w → count·word w ≡ true → May·stand·at text Refusal.NoValue w
   no·value : {w : Numbered} → Later·word text (is (bytes "FORMAT")) w → valued·key (key w) ≡ true → May·stand·at text Refusal.NoValue w
-  -- 20: a word behind FORMAT; 21: the word FORMAT
+  -- 20: a word behind FORMAT; 21: the word FORMAT, whose options give symbols that cannot stand together
   format·option : {w : Numbered} → Later·word text (is (bytes "FORMAT")) w → May·stand·at text Refusal.FormatOption w
-  wrong·symbols : {w : Numbered} → First·word text (is (bytes "FORMAT")) w → May·stand·at text Refusal.Symbols w
+  wrong·symbols : {w : Numbered} {o : Options} (f : First·word text (is (bytes "FORMAT")) w) → then (fold format·turn (option no·options) (words (f .behind))) format·end ≡ done o → good·symbols o (format·of o) ≡ false → May·stand·at text Refusal.Symbols w
   -- 22: a word of a matrix that is no cells by the block's format
   cell·symbol : {w : Numbered} (l : Later·word text (is (bytes "MATRIX")) w) → symbols (format·in (l .comes .state .phase)) w ≡ refused Refusal.CellSymbol (w .index) → May·stand·at text Refusal.CellSymbol w
   -- 23: a mark that opens a set, or a word of cells that are not all states
   open·set : {w : Numbered} → Later·word text (is (bytes "MATRIX")) w → set·mark w ≡ true → May·stand·at text Refusal.StateSet w
   not·states : {w : Numbered} {cells : List Cell} (l : Later·word text (is (bytes "MATRIX")) w) → symbols (format·in (l .comes .state .phase)) w ≡ done cells → only·states cells ≡ none → May·stand·at text Refusal.StateSet w
-  -- 24: a word of a matrix; 25: the word MATRIX
+  -- 24: a word of a matrix; 25: the word MATRIX, where no row has a declared name
   wrong·row : {w : Numbered} → Later·word text (is (bytes "MATRIX")) w → May·stand·at text Refusal.Row w
-  no·row : {w : Numbered} → First·word text (is (bytes "MATRIX")) w → May·stand·at text Refusal.TaxonAbsent w
+  no·row : {w : Numbered} {sh : Shape} {taken : List Taxon} {ns : List (List ℕ)} {n : List ℕ} (f : First·word text (is (bytes "MATRIX")) w) (by : Shaped·by (f .comes .state) w sh) → rows sh (f .behind) ≡ done taken → by .block·data .taxa ≡ some ns → List·Memᴰ n ns → ((t : Taxon) → List·Memᴰ t taken → alike n (t .name) ≡ false) → May·stand·at text Refusal.TaxonAbsent w
   -- 26: the first word of a label command, or one behind it
   no·entry : {w : Numbered} → First·word text label·word w → May·stand·at text Refusal.LabelEntry w
   label·entry : {w : Numbered} → Later·word text label·word w → May·stand·at text Refusal.LabelEntry w
