@@ -71,9 +71,10 @@ fn functions_without_a_contract() {
     let listed = printed
         .lines()
         .skip_while(|line| *line != "without ensures:");
-    let listed: Vec<&str> = listed.skip(1).take_while(|line| !line.is_empty()).collect();
-    assert_eq!(listed[..2], ["  matrix: fills_row", "  nexus: main"]);
-    assert!(listed.len() == 3 && listed[2].starts_with("  cases: "));
+    let listed = listed.skip(1).take_while(|line| !line.is_empty());
+    let (cases, others): (Vec<&str>, Vec<&str>) =
+        listed.partition(|line| line.starts_with("  cases: "));
+    assert_eq!((cases.len(), &others[..]), (1, &["  nexus: main"][..]));
 }
 
 /// What is counted, and words that may stand between it and its number.
