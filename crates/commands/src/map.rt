@@ -5,6 +5,8 @@ ghost use Rattle.commands.specs.WorkMap.{labels·place, map·fits, order
 ghost use lib.Dec.{leb};
 ghost use mathlib.Core.Bool.{_&&_};
 ghost use mathlib.Core.Path.{_≡_};
+use block::CharacterNumber;
+use block::TaxonNumber;
 
 // Where the order of the taxa begins.
 pub fn order_place(count: usize, lines: usize, taxa: usize) -> usize
@@ -23,27 +25,45 @@ pub fn labels_place(count: usize, lines: usize, taxa: usize) -> usize
 }
 
 // Where the types begin.
-pub fn types_place(count: usize, lines: usize, taxa: usize, characters: usize) -> usize
-    requires { ⌜ (count ≤ 1048576) × (lines ≤ 1048576) × (taxa ≤ 1048576) × (characters ≤ 1048576) ⌝ }
-    ensures { λ r. ⌜ r ≡ types·place count lines taxa characters ⌝ }
+pub fn types_place(
+    count: usize,
+    lines: usize,
+    taxa: TaxonNumber,
+    characters: CharacterNumber,
+) -> usize
+    requires { ⌜ (count ≤ 1048576) × (lines ≤ 1048576) × (taxa .0 ≤ 1048576) × (characters .0 ≤ 1048576) ⌝ }
+    ensures { λ r. ⌜ r ≡ types·place count lines (taxa .0) (characters .0) ⌝ }
 {
-    count + lines + 2 * taxa + 2 * characters
+    count + lines + 2 * taxa.0 + 2 * characters.0
 }
 
 // Does the map fit, where no count is above the longest text?
-fn few_fit(size: usize, count: usize, lines: usize, taxa: usize, characters: usize) -> bool
-    requires { ⌜ (count ≤ 1048576) × (lines ≤ 1048576) × (taxa ≤ 1048576) × (characters ≤ 1048576) ⌝ }
-    ensures { λ r. ⌜ r ≡ (leb (count + lines + taxa + count) size && leb (count + lines + 2 * taxa + 3 * characters) size) ⌝ }
+fn few_fit(
+    size: usize,
+    count: usize,
+    lines: usize,
+    taxa: TaxonNumber,
+    characters: CharacterNumber,
+) -> bool
+    requires { ⌜ (count ≤ 1048576) × (lines ≤ 1048576) × (taxa .0 ≤ 1048576) × (characters .0 ≤ 1048576) ⌝ }
+    ensures { λ r. ⌜ r ≡ (leb (count + lines + taxa .0 + count) size && leb (count + lines + 2 * taxa .0 + 3 * characters .0) size) ⌝ }
 {
-    (count + lines + taxa + count <= size) & (count + lines + 2 * taxa + 3 * characters <= size)
+    (count + lines + taxa.0 + count <= size)
+        & (count + lines + 2 * taxa.0 + 3 * characters.0 <= size)
 }
 
 // Does the map fit in work memory of so many numbers? No count is above the longest text.
-pub fn map_fits(size: usize, count: usize, lines: usize, taxa: u64, characters: u64) -> bool
-    ensures { λ r. ⌜ r ≡ map·fits size count lines taxa characters ⌝ }
+pub fn map_fits(
+    size: usize,
+    count: usize,
+    lines: usize,
+    taxa: TaxonNumber,
+    characters: CharacterNumber,
+) -> bool
+    ensures { λ r. ⌜ r ≡ map·fits size count lines (taxa .0) (characters .0) ⌝ }
 {
-    if (count <= 1048576) & (lines <= 1048576) & (taxa <= 1048576) & (characters <= 1048576) {
-        return few_fit(size, count, lines, taxa as usize, characters as usize);
+    if (count <= 1048576) & (lines <= 1048576) & (taxa.0 <= 1048576) & (characters.0 <= 1048576) {
+        return few_fit(size, count, lines, taxa, characters);
     }
     false
 }

@@ -18,7 +18,9 @@ use super::matrix::Chunked;
 use super::matrix::Rows;
 use super::matrix::at_most;
 use super::matrix::known_row;
+use block::CharacterNumber;
 use block::Judged;
+use block::TaxonNumber;
 use block::alike;
 use block::named;
 use block::newline;
@@ -33,7 +35,7 @@ use slots::name_table;
 pub struct Pages {
     pub first: bool,
     pub row: usize,
-    pub earlier: u64,
+    pub earlier: usize,
     pub width: usize,
 }
 
@@ -71,10 +73,10 @@ fn line_end(text: &[u8], work: &[u32], i: usize, to: usize) -> usize
 }
 
 // Are there fewer lines from an index on than this?
-fn few_lines(text: &[u8], work: &[u32], i: usize, to: usize, taxa: u64) -> bool
-    ensures { λ r. ⌜ r ≡ ltb (length (lines·from false (range (now (text .entry)) (now (work .entry)) i to))) taxa ⌝ }
+fn few_lines(text: &[u8], work: &[u32], i: usize, to: usize, taxa: TaxonNumber) -> bool
+    ensures { λ r. ⌜ r ≡ ltb (length (lines·from false (range (now (text .entry)) (now (work .entry)) i to))) (taxa .0) ⌝ }
 {
-    let mut left = taxa;
+    let mut left = taxa.0;
     let mut j = next_line(text, work, i, to);
     while j < to {
         if left == 0 {
@@ -87,8 +89,15 @@ fn few_lines(text: &[u8], work: &[u32], i: usize, to: usize, taxa: u64) -> bool
 }
 
 // Is the page too short, at its first line?
-fn short_page(text: &[u8], work: &[u32], page: Pages, i: usize, to: usize, taxa: u64) -> bool
-    ensures { λ r. ⌜ r ≡ page·short (now (text .entry)) (now (work .entry)) taxa page i to ⌝ }
+fn short_page(
+    text: &[u8],
+    work: &[u32],
+    page: Pages,
+    i: usize,
+    to: usize,
+    taxa: TaxonNumber,
+) -> bool
+    ensures { λ r. ⌜ r ≡ page·short (now (text .entry)) (now (work .entry)) (taxa .0) page i to ⌝ }
 {
     if page.row == 0 {
         return few_lines(text, work, i, to, taxa);
@@ -160,20 +169,28 @@ fn line_name(
 }
 
 // A page with a line of so many cells; a whole page is turned.
-fn line_grown(page: Pages, taxa: u64, characters: u64, i: usize, cells: usize) -> Lined
-    requires { ⌜ (page .earlier ≤ characters) × (page .row ≤ 1048576) ⌝ }
-    ensures { λ r. ⌜ lined·of r ≡ line·grown taxa characters page i cells ⌝ }
+fn line_grown(
+    page: Pages,
+    taxa: TaxonNumber,
+    characters: CharacterNumber,
+    i: usize,
+    cells: usize,
+) -> Lined
+    requires { ⌜ (page .earlier ≤ characters .0) × (page .row ≤ 1048576) ⌝ }
+    ensures { λ r. ⌜ lined·of r ≡ line·grown (taxa .0) (characters .0) page i cells ⌝ }
 {
-    let n = cells as u64;
-    if (cells == 0) | (page.width != 0) & (page.width != cells) | (characters - page.earlier < n) {
+    if (cells == 0)
+        | (page.width != 0) & (page.width != cells)
+        | (characters.0 - page.earlier < cells)
+    {
         return Lined::Refused(Refusal::Row, i);
     }
     let row = page.row + 1;
-    if row as u64 == taxa {
+    if row == taxa.0 {
         return Lined::Page(Pages {
             first: false,
             row: 0,
-            earlier: page.earlier + n,
+            earlier: page.earlier + cells,
             width: 0,
         });
     }
@@ -194,13 +211,13 @@ fn line_turn(
     page: Pages,
     i: usize,
     to: usize,
-    taxa: u64,
-    characters: u64,
+    taxa: TaxonNumber,
+    characters: CharacterNumber,
     codes: &[u8; 256],
     table: Table,
 ) -> Lined
-    requires { ⌜ Line·room (now text) (now work) at rows to characters page i table ⌝ }
-    ensures { λ r. ⌜ lined·of r ≡ line·shape (now (text .entry)) (now (work .entry)) (now (codes .entry)) at rows taxa characters page i to ⌝ }
+    requires { ⌜ Line·room (now text) (now work) at rows to (characters .0) page i table ⌝ }
+    ensures { λ r. ⌜ lined·of r ≡ line·shape (now (text .entry)) (now (work .entry)) (now (codes .entry)) at rows (taxa .0) (characters .0) page i to ⌝ }
 {
     if short_page(text, work, page, i, to, taxa) {
         return Lined::Refused(Refusal::Count, i);
@@ -215,16 +232,22 @@ fn line_turn(
 }
 
 // The end of an interleaved matrix: pages must be whole, and its rows as long as they are to be.
-fn interleaved_end(page: Pages, taxa: u64, characters: u64, head: usize, rows: usize) -> Rows
-    ensures { λ r. ⌜ r ≡ pages·end taxa characters head rows page ⌝ }
+fn interleaved_end(
+    page: Pages,
+    taxa: TaxonNumber,
+    characters: CharacterNumber,
+    head: usize,
+    rows: usize,
+) -> Rows
+    ensures { λ r. ⌜ r ≡ pages·end (taxa .0) (characters .0) head rows page ⌝ }
 {
     if page.first {
-        if taxa == 0 {
+        if taxa.0 == 0 {
             return Rows::Done(rows);
         }
         return Rows::Refused(Refusal::Count, head);
     }
-    if (page.row == 0) & (page.earlier == characters) {
+    if (page.row == 0) & (page.earlier == characters.0) {
         return Rows::Done(rows);
     }
     Rows::Refused(Refusal::Count, head)
@@ -238,14 +261,14 @@ fn interleaved_rows(
     at: usize,
     from: usize,
     to: usize,
-    taxa: u64,
-    characters: u64,
+    taxa: TaxonNumber,
+    characters: CharacterNumber,
     head: usize,
     codes: &[u8; 256],
     table: Table,
 ) -> Rows
     requires { ⌜ Rows·room (now text) (now work) at to × Table·fits (at + to) (length (now work)) table ⌝ }
-    ensures { λ r. ⌜ Pages·read (now (text .entry)) (now (codes .entry)) (now (work .entry)) (now (work .exit)) at from to taxa characters head r ⌝ }
+    ensures { λ r. ⌜ Pages·read (now (text .entry)) (now (codes .entry)) (now (work .entry)) (now (work .exit)) at from to (taxa .0) (characters .0) head r ⌝ }
 {
     let mut page = Pages {
         first: true,
@@ -291,15 +314,15 @@ pub fn interleaved(
     at: usize,
     from: usize,
     to: usize,
-    taxa: u64,
-    characters: u64,
+    taxa: TaxonNumber,
+    characters: CharacterNumber,
     head: usize,
     codes: &[u8; 256],
 ) -> Rows
     requires { ⌜ Rows·room (now text) (now work) at to ⌝ }
-    ensures { λ r. ⌜ Pages·read (now (text .entry)) (now (codes .entry)) (now (work .entry)) (now (work .exit)) at from to taxa characters head r ⌝ }
+    ensures { λ r. ⌜ Pages·read (now (text .entry)) (now (codes .entry)) (now (work .entry)) (now (work .exit)) at from to (taxa .0) (characters .0) head r ⌝ }
 {
-    let table = name_table(work, at + to, at_most(taxa, to));
+    let table = name_table(work, at + to, at_most(taxa.0, to));
     interleaved_rows(
         text,
         work,

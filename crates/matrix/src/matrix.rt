@@ -19,7 +19,9 @@ use super::index::row_found;
 use super::passing::pass_words;
 use super::sets::set_closes;
 use block::Bracket;
+use block::CharacterNumber;
 use block::Index;
+use block::TaxonNumber;
 use block::named;
 use block::newline;
 use lexer::Refusal;
@@ -93,13 +95,13 @@ fn row_begins(
     at: usize,
     rows: usize,
     i: usize,
-    taxa: u64,
+    taxa: TaxonNumber,
     table: Table,
 ) -> Turned
     requires { ⌜ Rows·tabled (now text) (now work) at rows table ⌝ }
-    ensures { λ r. ⌜ r ≡ begun·shape taxa (names·stored (now (text .entry)) (now (work .entry)) (stored (now (work .entry)) at rows)) (word·of (now (text .entry)) (now (work .entry)) i) ⌝ }
+    ensures { λ r. ⌜ r ≡ begun·shape (taxa .0) (names·stored (now (text .entry)) (now (work .entry)) (stored (now (work .entry)) at rows)) (word·of (now (text .entry)) (now (work .entry)) i) ⌝ }
 {
-    if rows as u64 == taxa {
+    if rows == taxa.0 {
         return Turned::Refused(Refusal::Count, i);
     }
     if !named(text, work, i) {
@@ -134,12 +136,12 @@ fn row_grown(chunked: Chunked, characters: u64, s: usize, i: usize) -> Turned
 }
 
 // At the end of a sequential matrix all rows must be there and whole.
-fn sequential_end(line: Sequence, taxa: u64, head: usize, rows: usize) -> Rows
-    ensures { λ r. ⌜ r ≡ end·shape taxa head rows line ⌝ }
+fn sequential_end(line: Sequence, taxa: TaxonNumber, head: usize, rows: usize) -> Rows
+    ensures { λ r. ⌜ r ≡ end·shape (taxa .0) head rows line ⌝ }
 {
     match line {
         Sequence::Between => {
-            if rows as u64 == taxa {
+            if rows == taxa.0 {
                 return Rows::Done(rows);
             }
             Rows::Refused(Refusal::Count, head)
@@ -201,30 +203,32 @@ fn sequential_turn(
     rows: usize,
     i: usize,
     to: usize,
-    taxa: u64,
-    characters: u64,
+    taxa: TaxonNumber,
+    characters: CharacterNumber,
     codes: &[u8; 256],
     line: Sequence,
     table: Table,
 ) -> Turn
     requires { ⌜ Rows·tabled (now text) (now work) at rows table × (cells·of·row line ≤ 2 ^ 41) × (i < to) ⌝ }
-    ensures { λ r. ⌜ Turns (now (text .entry)) (now (work .entry)) (now (codes .entry)) to taxa characters (names·stored (now (text .entry)) (now (work .entry)) (stored (now (work .entry)) at rows)) line i (r .turned) (r .next) ⌝ }
+    ensures { λ r. ⌜ Turns (now (text .entry)) (now (work .entry)) (now (codes .entry)) to (taxa .0) (characters .0) (names·stored (now (text .entry)) (now (work .entry)) (stored (now (work .entry)) at rows)) line i (r .turned) (r .next) ⌝ }
 {
     match line {
         Sequence::Between => Turn {
             turned: row_begins(text, work, at, rows, i, taxa, table),
             next: i + 1,
         },
-        Sequence::Inside(s, row) => row_turn(text, work, i, to, characters, codes, s, row),
+        Sequence::Inside(s, row) => {
+            row_turn(text, work, i, to, characters.0 as u64, codes, s, row)
+        }
     }
 }
 
 // A number, or another that is less.
-pub fn at_most(n: u64, most: usize) -> usize
+pub fn at_most(n: usize, most: usize) -> usize
     ensures { λ r. ⌜ r ≤ most ⌝ }
 {
-    if n < most as u64 {
-        return n as usize;
+    if n < most {
+        return n;
     }
     most
 }
@@ -237,14 +241,14 @@ fn sequential_rows(
     at: usize,
     from: usize,
     to: usize,
-    taxa: u64,
-    characters: u64,
+    taxa: TaxonNumber,
+    characters: CharacterNumber,
     head: usize,
     codes: &[u8; 256],
     table: Table,
 ) -> Rows
     requires { ⌜ Rows·room (now text) (now work) at to × Table·fits (at + to) (length (now work)) table ⌝ }
-    ensures { λ r. ⌜ Rows·read (now (text .entry)) (now (codes .entry)) (now (work .entry)) (now (work .exit)) at from to taxa characters head r ⌝ }
+    ensures { λ r. ⌜ Rows·read (now (text .entry)) (now (codes .entry)) (now (work .entry)) (now (work .exit)) at from to (taxa .0) (characters .0) head r ⌝ }
 {
     let mut rows = 0;
     let mut line = Sequence::Between;
@@ -293,15 +297,15 @@ pub fn sequential(
     at: usize,
     from: usize,
     to: usize,
-    taxa: u64,
-    characters: u64,
+    taxa: TaxonNumber,
+    characters: CharacterNumber,
     head: usize,
     codes: &[u8; 256],
 ) -> Rows
     requires { ⌜ Rows·room (now text) (now work) at to ⌝ }
-    ensures { λ r. ⌜ Rows·read (now (text .entry)) (now (codes .entry)) (now (work .entry)) (now (work .exit)) at from to taxa characters head r ⌝ }
+    ensures { λ r. ⌜ Rows·read (now (text .entry)) (now (codes .entry)) (now (work .entry)) (now (work .exit)) at from to (taxa .0) (characters .0) head r ⌝ }
 {
-    let table = name_table(work, at + to, at_most(taxa, to));
+    let table = name_table(work, at + to, at_most(taxa.0, to));
     sequential_rows(
         text,
         work,

@@ -5,6 +5,8 @@ use Rattle.block.specs.Blocks as B
 use Rattle.block.specs.Outcome.{Outcome, done, need, refused, then}
 use Rattle.block.specs.Reading.{Reading}
 use Rattle.block.specs.Sequential.{Shape}
+use Rattle.block.specs.declared.data.CharacterNumber.{CharacterNumber}
+use Rattle.block.specs.declared.data.TaxonNumber.{TaxonNumber}
 use Rattle.block.specs.declared.dimension.Dimensions.{Dimensions}
 use Rattle.commands.specs.MatrixHeld.{format·held, held}
 use Rattle.commands.specs.StateHeld.{Reader, data·of, matrix·of, names·in, sizes·of, state·of, stepped}
@@ -215,25 +217,25 @@ module _ (text before after : List ℕ) (count head to : ℕ) (s : State) (b : �
         let same : refused n head ≡ B.matrix·shape (data·of (held text before count) text (take count before) (s .«data»)) dims head = rw e at (told (held text before count) head) in
         record { size = refl; kept = refl; step = answered (rw (given, ← same)); placed = λ c p. tt }
 
-    module _ (taxa characters : ℕ) (counts : r ≡ MatrixShape.Counts taxa characters) where
+    module _ (taxa : TaxonNumber) (characters : CharacterNumber) (counts : r ≡ MatrixShape.Counts taxa characters) where
       abbrev whole : Shape
-      whole = record { taxa = taxa; characters = characters; format = format·held text (take count before) (s .«data» .style); head = head }
+      whole = record { taxa = taxa .0; characters = characters .0; format = format·held text (take count before) (s .«data» .style); head = head }
 
       shaped : done whole ≡ B.matrix·shape (data·of (held text before count) text (take count before) (s .«data»)) dims head
       unfolding shape·of
       shaped = rw counts at (told (held text before count) head)
 
-      shape-agrees : B.agrees (names·in text (take count before) (s .«data» .names)) taxa ≡ true
+      shape-agrees : B.agrees (names·in text (take count before) (s .«data» .names)) (taxa .0) ≡ true
       unfolding data·of
       shape-agrees = matrix-shaped _ dims head whole (sym shaped) .agreed
 
-      shape-some : 1 ≤ taxa
-      shape-some = not-zero taxa (matrix-shaped _ dims head whole (sym shaped) .some·taxa)
+      shape-some : 1 ≤ taxa .0
+      shape-some = not-zero (taxa .0) (matrix-shaped _ dims head whole (sym shaped) .some·taxa)
 
-      same-step : reading·step text before count s b head to taxa characters ≡ matrix·step text before count s b head to
+      same-step : reading·step text before count s b head to (taxa .0) (characters .0) ≡ matrix·step text before count s b head to
       unfolding reading·step matrix·step B.matrix B.matrix·reading B.matrix·shape need then data·of sizes·of word·of
       same-step = rw (given, ← shaped)
 
-      pub matrix-shaped-made : (x : Stepped) → Matrix·stored text before after count s b head to taxa characters x → s .phase ≡ Phase.Data b
+      pub matrix-shaped-made : (x : Stepped) → Matrix·stored text before after count s b head to (taxa .0) (characters .0) x → s .phase ≡ Phase.Data b
           → Made text before after count head to s x (matrix·step text before count s b head to)
       matrix-shaped-made x stored e = subst (Made text before after count head to s x) same-step (stored e shape-agrees shape-some)

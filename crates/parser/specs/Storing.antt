@@ -43,7 +43,7 @@ use mathlib.Core.Path.{_≡_}
 
 -- What the code's answer about the shape means, for a format and the index of MATRIX.
 unfoldable pub shape·of : Format → ℕ → MatrixShape → Outcome Shape
-shape·of f head (MatrixShape.Counts taxa characters) = done (record { taxa = taxa; characters = characters; format = f; head = head })
+shape·of f head (MatrixShape.Counts taxa characters) = done (record { taxa = taxa .0; characters = characters .0; format = f; head = head })
 shape·of f head (MatrixShape.Refused n) = refused n head
 
 -- The words of declared names, and of label commands, are among so many tokens.

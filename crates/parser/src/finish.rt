@@ -15,8 +15,10 @@ ghost use mathlib.Core.List.{List};
 ghost use mathlib.Core.Option.{Option·getD};
 ghost use mathlib.Core.Path.{_≡_};
 use assumptions::TypeWord;
+use block::CharacterNumber;
 use block::CharacterOrdering;
 use block::Options;
+use block::TaxonNumber;
 use commands::Held;
 use commands::Matrix;
 use commands::Parsed;
@@ -74,7 +76,12 @@ fn any_ordered(work: &[u32], count: usize, h: Held) -> bool
     let default = h.default;
     let ordered = default_ordered(default);
     if h.typed {
-        let at = types_place(count, h.lines, h.taxa, h.characters);
+        let at = types_place(
+            count,
+            h.lines,
+            TaxonNumber(h.taxa),
+            CharacterNumber(h.characters),
+        );
         return has_ordered(work, at, h.characters, ordered);
     }
     ordered & (0 < h.characters)
@@ -89,8 +96,8 @@ fn finish_matrix(work: &[u32], count: usize, h: Held, header: usize) -> Parsed
         work.len(),
         count,
         h.lines,
-        h.taxa as u64,
-        h.characters as u64,
+        TaxonNumber(h.taxa),
+        CharacterNumber(h.characters),
     ) {
         return Parsed::Refused(Refusal::WorkMemoryShort, 0);
     }

@@ -15,9 +15,11 @@ ghost use mathlib.Core.Bool.{true};
 ghost use mathlib.Core.List.{List};
 ghost use mathlib.Core.Path.{_≡_};
 use assumptions::TypeWord;
+use block::CharacterNumber;
 use block::Dimensions;
 use block::Format;
 use block::Judged;
+use block::TaxonNumber;
 use block::count_words;
 use commands::Data;
 use commands::Held;
@@ -43,7 +45,7 @@ use matrix::rows_of;
 
 // What the matrix is to be: how many taxa and characters; or a refusal of the command.
 pub enum MatrixShape {
-    Counts(u64, u64),
+    Counts(TaxonNumber, CharacterNumber),
     Refused(Refusal),
 }
 
@@ -87,7 +89,10 @@ fn matrix_shape(text: &[u8], starts: &[u32], d: Data, dims: Dimensions) -> Matri
     if dims.new_taxa & (dims.taxa == 0) {
         return MatrixShape::Refused(Refusal::Absent);
     }
-    MatrixShape::Counts(taxa, dims.characters)
+    MatrixShape::Counts(
+        TaxonNumber(taxa as usize),
+        CharacterNumber(dims.characters as usize),
+    )
 }
 
 // Are the words of the declared names among so many tokens?
@@ -191,23 +196,23 @@ fn order_labels(
     d: Data,
     head: usize,
     lines: usize,
-    taxa: u64,
-    characters: u64,
+    taxa: TaxonNumber,
+    characters: CharacterNumber,
     symbols: usize,
 ) -> Judged
-    requires { ⌜ (map·fits (length (now work)) count lines taxa characters ≡ true) × (names·within count (d .names) ≡ true) × (commands·within count (d .labels) ≡ true) × (symbols < 128) ⌝ }
-    ensures { λ r. ⌜ Labels·made (now (text .entry)) (now (work .entry)) (now (work .exit)) count lines taxa characters symbols head d r ⌝ }
+    requires { ⌜ (map·fits (length (now work)) count lines (taxa .0) (characters .0) ≡ true) × (names·within count (d .names) ≡ true) × (commands·within count (d .labels) ≡ true) × (symbols < 128) ⌝ }
+    ensures { λ r. ⌜ Labels·made (now (text .entry)) (now (work .entry)) (now (work .exit)) count lines (taxa .0) (characters .0) symbols head d r ⌝ }
 {
     let names = d.names;
     let labels = d.labels;
-    let rows = taxa as usize;
+    let rows = taxa.0;
     match taxa_order(text, work, count, names, lines, rows, head) {
         Judged::Good => apply_labels(
             text,
             work,
             labels,
             symbols,
-            characters as usize,
+            characters.0,
             labels_place(count, lines, rows),
         ),
         Judged::Refused(n, i) => Judged::Refused(n, i),
@@ -222,11 +227,11 @@ fn matrix_reading(
     d: Data,
     head: usize,
     to: usize,
-    taxa: u64,
-    characters: u64,
+    taxa: TaxonNumber,
+    characters: CharacterNumber,
 ) -> Rows
     requires { ⌜ (head < to) × (count ≤ length (now work)) × Rows·room (now text) (now work) count to × (symbols·few (now text) (take count (now work)) (d .style) ≡ true) × (names·within count (d .names) ≡ true) × (commands·within count (d .labels) ≡ true) ⌝ }
-    ensures { λ r. ⌜ Reading·made (now (text .entry)) (now (work .entry)) (now (work .exit)) count head to taxa characters d r ⌝ }
+    ensures { λ r. ⌜ Reading·made (now (text .entry)) (now (work .entry)) (now (work .exit)) count head to (taxa .0) (characters .0) d r ⌝ }
 {
     let style = d.style;
     let format = format_of(text, &work[..count], style);
@@ -252,11 +257,11 @@ fn with_matrix(
     head: usize,
     to: usize,
     lines: usize,
-    taxa: usize,
-    characters: usize,
+    taxa: TaxonNumber,
+    characters: CharacterNumber,
 ) -> Data
-    ensures step { λ r. ⌜ ((m : Reader) (text work : List ℕ) → data·of m text work r ≡ with·matrix (data·of m text work d) (m .reading (held·of d head to lines taxa characters))) ⌝ }
-    ensures placed { λ r. ⌜ ((text front : List ℕ) (size : ℕ) → Data·placed text front size d → map·fits size (length front) lines taxa characters ≡ true → Data·placed text front size r) ⌝ }
+    ensures step { λ r. ⌜ ((m : Reader) (text work : List ℕ) → data·of m text work r ≡ with·matrix (data·of m text work d) (m .reading (held·of d head to lines (taxa .0) (characters .0)))) ⌝ }
+    ensures placed { λ r. ⌜ ((text front : List ℕ) (size : ℕ) → Data·placed text front size d → map·fits size (length front) lines (taxa .0) (characters .0) ≡ true → Data·placed text front size r) ⌝ }
 {
     let names = d.names;
     let style = d.style;
@@ -273,8 +278,8 @@ fn with_matrix(
             head,
             to,
             lines,
-            taxa,
-            characters,
+            taxa: taxa.0,
+            characters: characters.0,
             default: TypeWord::None,
             typed: false,
         }),
@@ -290,11 +295,11 @@ fn matrix_stored(
     b: usize,
     head: usize,
     to: usize,
-    taxa: u64,
-    characters: u64,
+    taxa: TaxonNumber,
+    characters: CharacterNumber,
 ) -> Stepped
     requires { ⌜ (count ≤ length (now work)) × (head < to) × (to ≤ count) ⌝ }
-    ensures { λ r. ⌜ Matrix·stored (now (text .entry)) (now (work .entry)) (now (work .exit)) count s b head to taxa characters r ⌝ }
+    ensures { λ r. ⌜ Matrix·stored (now (text .entry)) (now (work .entry)) (now (work .exit)) count s b head to (taxa .0) (characters .0) r ⌝ }
 {
     let d = s.data;
     let held = s.matrix;
@@ -307,7 +312,7 @@ fn matrix_stored(
         Rows::Done(lines) => Stepped::State(in_data(
             s,
             b,
-            with_matrix(d, head, to, lines, taxa as usize, characters as usize),
+            with_matrix(d, head, to, lines, taxa, characters),
         )),
         Rows::Refused(n, i) => Stepped::Refused(n, i),
     }

@@ -23,7 +23,9 @@ use assumptions::OptionsAnswer;
 use assumptions::TypeWord;
 use assumptions::options;
 use assumptions::parse_typeset;
+use block::CharacterNumber;
 use block::Judged;
+use block::TaxonNumber;
 use block::is;
 use commands::Held;
 use commands::Matrix;
@@ -58,11 +60,10 @@ fn types_room(matrix: Matrix, size: usize, count: usize) -> Room
         Matrix::None => Room::At(count, 0),
         Matrix::Read(h) => {
             let typed = h.typed;
-            if map_fits(size, count, h.lines, h.taxa as u64, h.characters as u64) & !typed {
-                return Room::At(
-                    types_place(count, h.lines, h.taxa, h.characters),
-                    h.characters,
-                );
+            let taxa = TaxonNumber(h.taxa);
+            let characters = CharacterNumber(h.characters);
+            if map_fits(size, count, h.lines, taxa, characters) & !typed {
+                return Room::At(types_place(count, h.lines, taxa, characters), h.characters);
             }
             Room::Short
         }

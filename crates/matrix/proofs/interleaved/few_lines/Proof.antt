@@ -7,10 +7,10 @@ use borrow.Author.Needs.{needs}
 use native.Mathlib.Omega.{arith}
 
 abbrev Inv-loop : tie.InvT-loop
-Inv-loop text work i to taxa left₀ j₀ left j = Counting text work i to taxa left j
+Inv-loop text work i to left₀ j₀ left j = Counting text work i to left₀ left j
 
 abbrev μ-loop : tie.MeasureT-loop
-μ-loop text work i to taxa left₀ j₀ left j = to - j
+μ-loop text work i to left₀ j₀ left j = to - j
 
 next-line-requires : tie.Need-next-line-requires Inv-loop μ-loop
 next-line-requires c κs = search needs

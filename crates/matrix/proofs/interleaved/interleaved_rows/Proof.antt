@@ -10,7 +10,7 @@ use lib.ListN.{length}
 use native.Mathlib.Omega.{arith}
 
 abbrev Inv-loop : tie.InvT-loop
-Inv-loop text work₀ at from to taxa characters head codes table page₀ rows₀ i₀ work page rows i = Paging text codes work₀ at from to taxa characters head table work rows page i
+Inv-loop text work₀ at from to taxa characters head codes table page₀ rows₀ i₀ work page rows i = Paging text codes work₀ at from to (taxa .0) (characters .0) head table work rows page i
 
 abbrev μ-loop : tie.MeasureT-loop
 μ-loop text work₀ at from to taxa characters head codes table page₀ rows₀ i₀ work page rows i = to - i
@@ -22,7 +22,7 @@ space c = paging-space (c .before .before .before .before .before .before .pre .
 judging : (c : tie.After-line-turn Inv-loop μ-loop)
     → let l = c .before .before .before in
     let a = l .before .before .before .before .before .args in
-    Judging (now (a .text)) (now (a .codes)) (now (a .work)) (a .at) (a .from) (a .to) (a .taxa) (a .characters) (a .head) (a .table) (l .loop .work) (l .loop .rows) (l .loop .page) (l .loop .i) (c .line-turn .result)
+    Judging (now (a .text)) (now (a .codes)) (now (a .work)) (a .at) (a .from) (a .to) (a .taxa .0) (a .characters .0) (a .head) (a .table) (l .loop .work) (l .loop .rows) (l .loop .page) (l .loop .i) (c .line-turn .result)
 judging c =
     let l = c .before .before in
     record {

@@ -11,7 +11,7 @@ enum-told c = search needs
 
 returns : tie.Need-returns
 unfolding open·shape end·shape pick
-returns c = rw (c .before .enum-told .given .1, eq-eqb _ _ (c .if1 .taken))
+returns c = rw (c .before .before .enum-told .given .1, eq-eqb _ _ (c .if1 .taken))
 
 enum-known-line : tie.Need-enum-known-line
 enum-known-line c = search needs
@@ -24,7 +24,7 @@ enum-known-row c = search needs
 
 returns-2 : tie.Need-returns-2
 unfolding open·shape end·shape pick
-returns-2 c = rw (c .before .enum-told .given .1, ne-eqb _ _ (c .if1 .left))
+returns-2 c = rw (c .before .before .enum-told .given .1, ne-eqb _ _ (c .if1 .left))
 
 returns-3 : tie.Need-returns-3
 unfolding open·shape end·shape pick

@@ -12,7 +12,7 @@ use mathlib.Core.Path.{sym, _∙_}
 use native.Mathlib.Omega.{arith}
 
 abbrev Inv-loop : tie.InvT-loop
-Inv-loop text work₀ at from to taxa characters head codes table rows₀ line₀ i₀ work rows line i = Sequencing text codes work₀ at from to taxa characters head table work rows line i
+Inv-loop text work₀ at from to taxa characters head codes table rows₀ line₀ i₀ work rows line i = Sequencing text codes work₀ at from to (taxa .0) (characters .0) head table work rows line i
 
 abbrev μ-loop : tie.MeasureT-loop
 μ-loop text work₀ at from to taxa characters head codes table rows₀ line₀ i₀ work rows line i = to - i
@@ -24,7 +24,7 @@ space c = sequencing-room (c .before .before .before .before .pre .0) (c .before
 judged : (c : tie.After-sequential-turn Inv-loop μ-loop)
     → let l = c .before .before .before .before .before .before in
     let a = l .before .before .before .args in
-    Judged·last (now (a .text)) (now (a .codes)) (now (a .work)) (a .at) (a .from) (a .to) (a .taxa) (a .characters) (a .head) (a .table) (l .loop .work) (l .loop .rows) (c .sequential-turn .result .turned) (c .sequential-turn .result .next)
+    Judged·last (now (a .text)) (now (a .codes)) (now (a .work)) (a .at) (a .from) (a .to) (a .taxa .0) (a .characters .0) (a .head) (a .table) (l .loop .work) (l .loop .rows) (c .sequential-turn .result .turned) (c .sequential-turn .result .next)
 judged c =
     let t = c .before .before .before .before .before in
     let j = c .before .before in
