@@ -13,8 +13,10 @@ use super::characters::put_characters;
 use super::names::put_number;
 use super::taxa::count_taxa;
 use super::taxa::put_taxa;
+use block::CharacterNumber;
 use block::DataType;
 use block::Format;
+use block::TaxonNumber;
 use block::codes;
 use commands::Held;
 use emit::put;
@@ -41,13 +43,19 @@ fn put_symbols(buffer: &mut [u8], n: usize, format: Format) -> usize
 }
 
 // Puts the first four lines.
-fn put_head(buffer: &mut [u8], n: usize, format: Format, taxa: usize, characters: usize) -> usize
-    ensures { λ r. ⌜ Puts (now (buffer .entry)) n (head·piece (meant format) taxa characters) (now (buffer .exit)) r ⌝ }
+fn put_head(
+    buffer: &mut [u8],
+    n: usize,
+    format: Format,
+    taxa: TaxonNumber,
+    characters: CharacterNumber,
+) -> usize
+    ensures { λ r. ⌜ Puts (now (buffer .entry)) n (head·piece (meant format) (taxa .0) (characters .0)) (now (buffer .exit)) r ⌝ }
 {
     let data_type = format.data_type;
     let m = put_type(buffer, n, data_type);
-    let m = put_number(buffer, m, b"taxa=", taxa);
-    let m = put_number(buffer, m, b"characters=", characters);
+    let m = put_number(buffer, m, b"taxa=", taxa.0);
+    let m = put_number(buffer, m, b"characters=", characters.0);
     let m = put_all(buffer, m, b"symbols=");
     let m = put_symbols(buffer, m, format);
     put(buffer, m, b'\n')
@@ -69,8 +77,8 @@ pub fn put_record(
     let format = format_of(text, &work[..count], style);
     let table = codes(format);
     let interleave = format.interleave;
-    let taxa = count_taxa(text, &work[..count], held, interleave);
-    let m = put_head(buffer, n, format, taxa, held.characters);
+    let taxa = TaxonNumber(count_taxa(text, &work[..count], held, interleave));
+    let m = put_head(buffer, n, format, taxa, CharacterNumber(held.characters));
     let m = put_taxa(text, work, count, held, interleave, &table, buffer, m);
     put_characters(text, work, count, held, buffer, m)
 }

@@ -47,7 +47,7 @@ returns c =
     let t = m .before .before .before .before .before in
     let d = t .before .before .before .before .before in
     puts-as (puts-then (d .put-type .ensures) (puts-then (t .put-number .ensures) (puts-then (m .put-number2 .ensures) (puts-then (a .put-all .ensures) (puts-then (s .put-symbols .ensures) (p .put .ensures))))))
-    (head-lines (meant (d .before .before .before .args .format)) (d .before .before .before .args .taxa) (d .before .before .before .args .characters))
+    (head-lines (meant (d .before .before .before .args .format)) (d .before .before .before .args .taxa .0) (d .before .before .before .args .characters .0))
 
 pub put-head-spec : {M : Type 1} → statement M
 put-head-spec =
