@@ -102,12 +102,12 @@ puts-run buffer n (b ∷ l) =
     let next : n + 1 + length l ≡ n + suc (length l) = omega arith in
     rw (next, add-one n) at (puts-then (byte-written buffer n b) (puts-run (set buffer n b) (n + 1) l))
 
--- A piece that has room stands there whole.
-puts-sets : (buffer : List ℕ) (at : ℕ) (l : List ℕ) → puts buffer at l ≡ sets buffer at l
+pub puts-sets : (buffer : List ℕ) (at : ℕ) (l : List ℕ) → puts buffer at l ≡ sets buffer at l
 unfolding puts
 puts-sets buffer at [] = refl
 puts-sets buffer at (b ∷ l) = puts-sets (set buffer at b) (suc at) l
 
+-- A piece that has room stands there whole.
 pub puts-whole : (before after : List ℕ) (piece : List ℕ → List ℕ) (n : ℕ) → Puts before 0 piece after n → length (piece []) ≤ length before
     → length before < 2 ^ 63 → (after ≡ piece [] ++ drop (length (piece [])) before) × (n ≡ length (piece []))
 unfolding puts last·place

@@ -4,8 +4,8 @@
 ghost use Prim.Native.Nat.{_+_, _-_, _/_, _≤_, min};
 ghost use Rattle.emit.specs.Puts.{Puts, last·place};
 ghost use Rattle.record.specs.Decimal.{digit, decimal};
+ghost use lib.Dec.{leb};
 ghost use lib.ListN.{length, set};
-ghost use mathlib.Core.Bool.{true};
 ghost use mathlib.Core.List.{_∷_, _++_};
 ghost use mathlib.Core.Path.{_≡_};
 
@@ -33,14 +33,14 @@ pub fn further(n: usize, count: usize) -> usize
     18446744073709551615
 }
 
-// Is there room for so many bytes from a place on?
-pub fn has_room(length: usize, n: usize, count: usize) -> bool
-    ensures { λ r. ⌜ (r ≡ true → n + count ≤ length) ⌝ }
+// Is there room for so many bytes from a place on, in a buffer of this size?
+pub fn has_room(size: usize, n: usize, count: usize) -> bool
+    ensures { λ r. ⌜ r ≡ leb (n + count) size ⌝ }
 {
-    if length < n {
+    if size < n {
         return false;
     }
-    count <= length - n
+    count <= size - n
 }
 
 // Puts bytes that all have room.

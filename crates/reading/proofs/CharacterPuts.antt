@@ -2,22 +2,22 @@
 use Prim.Native.Nat.{ℕ, suc, _+_, _-_, _/_, _%_, _≤_, min}
 use Rattle.assumptions.specs.TypesHeld.{type·of}
 use Rattle.block.specs.declared.model.CharacterOrdering.{CharacterOrdering}
-use Rattle.emit.proofs.PutLaws.{puts-as, puts-past}
+use Rattle.emit.proofs.PutLaws.{puts-out}
 use Rattle.emit.specs.Puts.{Puts, last·place}
 use Rattle.labels.specs.LabelSlots.{label·slot, states·slot}
 use Rattle.lexer.proofs.Basics.{and-left, and-right}
 use Rattle.lexer.specs.Base.{bytes, pick}
 use Rattle.reading.proofs.FewNames.{few·names}
-use Rattle.reading.specs.CharactersHeld.{bare·piece, plain·bytes, slot·character, slot·label, slot·states, slot·type, states·piece}
+use Rattle.reading.specs.CharactersHeld.{bare·piece, plain·character, slot·character, slot·label, slot·states, slot·type, states·piece}
 use Rattle.reading.specs.Pieces.{name·piece}
 use Rattle.record.specs.Decimal.{decimal, decimal·from, digit}
 use Rattle.record.specs.Spell.{escaped, line, order·word, spell·character, spell·states}
-use borrow.Author.Tests.{eqb-true, leb-true}
-use lib.Dec.{eqb, leb}
+use borrow.Author.Tests.{eqb-true}
+use lib.Dec.{eqb}
 use lib.ListN.{getD, length, length-append}
 use mathlib.Core.Bool.{Bool, false, true, _&&_}
-use mathlib.Core.List.{List, [], _∷_, _++_, append-assoc}
-use mathlib.Core.Path.{_≡_, refl, _∙_}
+use mathlib.Core.List.{List, [], _∷_, _++_}
+use mathlib.Core.Path.{_≡_, refl, sym, ap, _∙_}
 use native.Mathlib.Omega.{arith}
 
 module _ (text front : List ℕ) where
@@ -59,14 +59,13 @@ module _ (text front : List ℕ) where
   unfolding line states·piece spell·character slot·character
   character-lines k l s o behind = refl
 
-  -- The same of one that has neither a label nor state labels.
-  pub character-plain : (k l s : ℕ) (o : CharacterOrdering) → eqb l 0 && eqb s 0 ≡ true → (behind : List ℕ)
-      → bytes "character=" ++ (decimal k ++ bare·piece o behind) ≡ spell·character k (slot·character text front l s o) behind
-  unfolding bare·piece slot·label label·slot slot·states states·slot escaped
-  character-plain k l s o none behind =
+  -- One that has neither a label nor state labels.
+  pub character-plain : (l s : ℕ) (o : CharacterOrdering) → eqb l 0 && eqb s 0 ≡ true → plain·character o ≡ slot·character text front l s o
+  unfolding plain·character slot·character slot·label label·slot slot·states states·slot
+  character-plain l s o none =
       let no-label = eqb-true l 0 (and-left (eqb l 0) (eqb s 0) none) in
       let no-states = eqb-true s 0 (and-right (eqb l 0) (eqb s 0) none) in
-      rw (no-label, no-states) (character-lines k 0 0 o behind)
+      rw (no-label, no-states) refl
 
 -- The line of a type.
 pub order-unordered : (o : CharacterOrdering) (behind : List ℕ) → o ≡ CharacterOrdering.Unordered → bytes "order=UNORD\n" ++ behind ≡ line "order=" (order·word o) behind
@@ -77,53 +76,64 @@ pub order-ordered : (o : CharacterOrdering) (behind : List ℕ) → o ≡ Charac
 unfolding bytes line order·word
 order-ordered o behind e = rw e
 
--- The constant pieces behind the number of a character that has neither a label nor state labels.
-pub bare-unordered : (o : CharacterOrdering) (behind : List ℕ) → o ≡ CharacterOrdering.Unordered → bytes "\nlabel=\norder=UNORD\nstates=0\n" ++ behind ≡ bare·piece o behind
+-- A character that has neither a label nor state labels: what stands behind its number, by its type; all of it; and how many bytes it has.
+pub bare-unordered : (o : CharacterOrdering) (behind : List ℕ) → o ≡ CharacterOrdering.Unordered → bytes "\nlabel=\norder=" ++ (bytes "UN" ++ (bytes "ORD\nstates=0\n" ++ behind)) ≡ bare·piece o behind
 unfolding bytes line order·word bare·piece states·piece decimal decimal·from digit spell·states
 bare-unordered o behind e = rw e
 
-pub bare-ordered : (o : CharacterOrdering) (behind : List ℕ) → o ≡ CharacterOrdering.Ordered → bytes "\nlabel=\norder=ORD\nstates=0\n" ++ behind ≡ bare·piece o behind
+pub bare-ordered : (o : CharacterOrdering) (behind : List ℕ) → o ≡ CharacterOrdering.Ordered → bytes "\nlabel=\norder=" ++ (bytes "ORD\nstates=0\n" ++ behind) ≡ bare·piece o behind
 unfolding bytes line order·word bare·piece states·piece decimal decimal·from digit spell·states
 bare-ordered o behind e = rw e
 
--- All bytes of such a character: how many they are, and what stands behind them.
-bare-length : (o : CharacterOrdering) (k : ℕ) → length (bare·piece o []) ≡ k → (number : ℕ) → length (plain·bytes number o) ≡ length (decimal number) + (10 + k)
-unfolding plain·bytes bytes
-bare-length o k e number = omega (arith, e, length-append (decimal number) (bare·piece o []))
+pub plain-spelled : (number : ℕ) (o : CharacterOrdering) (behind : List ℕ) → bytes "character=" ++ (decimal number ++ bare·piece o behind) ≡ spell·character number (plain·character o) behind
+unfolding line bare·piece states·piece spell·character plain·character escaped
+plain-spelled number o behind = refl
 
-pub plain-unordered : (number : ℕ) (o : CharacterOrdering) → o ≡ CharacterOrdering.Unordered → length (plain·bytes number o) ≡ length (decimal number) + 39
-unfolding bytes line order·word bare·piece states·piece decimal decimal·from digit spell·states
-plain-unordered number o e = bare-length o 29 (rw e) number
+bare-long : (o : CharacterOrdering) (size : ℕ) (behind : List ℕ) → length (bare·piece o behind) ≡ size + length behind → (number : ℕ)
+    → length (spell·character number (plain·character o) behind) ≡ length (decimal number) + (10 + size) + length behind
+unfolding bytes
+bare-long o size behind e number = sym (ap length (plain-spelled number o behind)) ∙ omega (arith, e, length-append (decimal number) (bare·piece o behind))
 
-pub plain-ordered : (number : ℕ) (o : CharacterOrdering) → o ≡ CharacterOrdering.Ordered → length (plain·bytes number o) ≡ length (decimal number) + 37
-unfolding bytes line order·word bare·piece states·piece decimal decimal·from digit spell·states
-plain-ordered number o e = bare-length o 27 (rw e) number
+pub plain-unordered : (number : ℕ) (o : CharacterOrdering) → o ≡ CharacterOrdering.Unordered → (behind : List ℕ)
+    → length (spell·character number (plain·character o) behind) ≡ length (decimal number) + 39 + length behind
+unfolding bytes
+plain-unordered number o e behind = bare-long o 29 behind (sym (ap length (bare-unordered o behind e)) ∙ omega arith) number
 
-bare-behind : (o : CharacterOrdering) (behind : List ℕ) → bare·piece o [] ++ behind ≡ bare·piece o behind
-unfolding bytes line order·word bare·piece states·piece decimal decimal·from digit spell·states
-bare-behind CharacterOrdering.Ordered behind = refl
-bare-behind CharacterOrdering.Unordered behind = refl
+pub plain-ordered : (number : ℕ) (o : CharacterOrdering) → o ≡ CharacterOrdering.Ordered → (behind : List ℕ)
+    → length (spell·character number (plain·character o) behind) ≡ length (decimal number) + 37 + length behind
+unfolding bytes
+plain-ordered number o e behind = bare-long o 27 behind (sym (ap length (bare-ordered o behind e)) ∙ omega arith) number
 
-pub plain-behind : (number : ℕ) (o : CharacterOrdering) (behind : List ℕ) → plain·bytes number o ++ behind ≡ bytes "character=" ++ (decimal number ++ bare·piece o behind)
-unfolding plain·bytes
-plain-behind number o behind = simp append-assoc (rw (bare-behind o behind))
+-- Two that have as many digits are as long.
+pub plain-long : (number like : ℕ) (o : CharacterOrdering) (behind : List ℕ) → length (decimal number) ≡ length (decimal like)
+    → length (spell·character number (plain·character o) behind) ≡ length (spell·character like (plain·character o) []) + length behind
+plain-long number like CharacterOrdering.Ordered behind e =
+    omega (arith, e, plain-ordered number CharacterOrdering.Ordered refl behind, plain-ordered like CharacterOrdering.Ordered refl [])
+plain-long number like CharacterOrdering.Unordered behind e =
+    omega (arith, e, plain-unordered number CharacterOrdering.Unordered refl behind, plain-unordered like CharacterOrdering.Unordered refl [])
+
+-- A piece behind the buffer's end is only counted.
+pub counted-past : (buffer : List ℕ) (n next size : ℕ) (p : List ℕ → List ℕ) → length buffer ≤ n → ((behind : List ℕ) → length (p behind) ≡ size + length behind)
+    → (next ≡ min last·place (n + size)) × (n ≤ next) → Puts buffer n p buffer next
+unfolding last·place
+counted-past buffer n next size p h long e =
+    record {
+      written = λ behind. puts-out buffer n (p behind) h ∙ sym (puts-out buffer next behind (omega arith));
+      reached = λ behind. omega (arith, long behind, e .0);
+      kept = refl;
+    }
 
 -- Such a character, by the test for it: it was put whole, or nothing of it has room.
-module _ (text front : List ℕ) (k l s : ℕ) (o : CharacterOrdering) where
-  plain-lines : (test : Bool) → (eqb l 0 && eqb s 0) && test ≡ true → (behind : List ℕ)
-      → bytes "character=" ++ (decimal k ++ bare·piece o behind) ≡ spell·character k (slot·character text front l s o) behind
-  plain-lines test both = character-plain text front k l s o (and-left (eqb l 0 && eqb s 0) test both)
+module _ (text front : List ℕ) (k l s : ℕ) (o : CharacterOrdering) (test : Bool) (both : (eqb l 0 && eqb s 0) && test ≡ true) where
+  this : plain·character o ≡ slot·character text front l s o
+  this = character-plain text front l s o (and-left (eqb l 0 && eqb s 0) test both)
 
-  pub plain-put : (test : Bool) {a b : List ℕ} {n m : ℕ} → (eqb l 0 && eqb s 0) && test ≡ true
-      → Puts a n (λ behind. bytes "character=" ++ (decimal k ++ bare·piece o behind)) b m → Puts a n (spell·character k (slot·character text front l s o)) b m
-  plain-put test both p = puts-as p (plain-lines test both)
+  pub plain-put : {a b : List ℕ} {n m : ℕ} → Puts a n (spell·character k (plain·character o)) b m → Puts a n (spell·character k (slot·character text front l s o)) b m
+  plain-put p = rw this at p
 
-  pub plain-past : (buffer : List ℕ) (n next : ℕ) → (eqb l 0 && eqb s 0) && leb (length buffer) n ≡ true
-      → (next ≡ min last·place (n + length (plain·bytes k o))) × (n ≤ next) → Puts buffer n (spell·character k (slot·character text front l s o)) buffer next
-  plain-past buffer n next both e =
-      let test = leb (length buffer) n in
-      let h = leb-true (length buffer) n (and-right (eqb l 0 && eqb s 0) test both) in
-      puts-as (puts-past buffer n (plain·bytes k o) next h e) (λ behind. plain-behind k o behind ∙ plain-lines test both behind)
+  pub plain-past : (buffer : List ℕ) (n next size : ℕ) → length buffer ≤ n → size ≡ length (spell·character k (plain·character o) [])
+      → (next ≡ min last·place (n + size)) × (n ≤ next) → Puts buffer n (spell·character k (slot·character text front l s o)) buffer next
+  plain-past buffer n next size h e p = plain-put (counted-past buffer n next size (spell·character k (plain·character o)) h (λ behind. rw e (plain-long k k o behind refl)) p)
 
 -- The type at a place: there is no set, it gives none, or one of two.
 module _ (work : List ℕ) (o : CharacterOrdering) (typed : Bool) (t : ℕ) where

@@ -11,7 +11,6 @@ mod LinesWalk
 mod MarkLaws
 mod NamePuts
 mod PageCells
-mod PlainHundreds
 mod PutWalks
 mod PutsOver
 mod RecordPieces
@@ -22,13 +21,13 @@ mod RowPieces
 mod RowSteps
 mod RowWalks
 mod RunPieces
-mod RunWalk
 mod SetMarks
 mod SetPieces
 mod ShortLaws
 mod TaxaCounts
 mod TaxonPieces
+mod TenPlain
+mod TenWalk
 mod ToldRows
-mod TypedLines
 mod WholePuts
 mod WordCells

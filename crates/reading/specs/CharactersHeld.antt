@@ -5,12 +5,12 @@ use Rattle.block.specs.Blocks.{retyped, unordered}
 use Rattle.block.specs.Reading.{Character}
 use Rattle.block.specs.declared.model.CharacterOrdering.{CharacterOrdering}
 use Rattle.labels.specs.LabelSlots.{label·slot, labels·of, states·slot}
-use Rattle.lexer.specs.Base.{bytes, pick}
+use Rattle.lexer.specs.Base.{pick}
 use Rattle.record.specs.Decimal.{decimal}
 use Rattle.record.specs.Spell.{line, order·word, spell·states}
 use lib.ListN.{getD, length}
 use mathlib.Core.Bool.{Bool}
-use mathlib.Core.List.{List, [], _∷_, _++_}
+use mathlib.Core.List.{List, [], _∷_}
 use mathlib.Core.Option.{none, some, Option·getD}
 
 -- The label and the state labels that two numbers stand for, empty if none were given.
@@ -28,9 +28,9 @@ states·piece states behind = line "states=" (decimal (length states)) (spell·s
 unfoldable pub bare·piece : CharacterOrdering → List ℕ → List ℕ
 bare·piece o behind = 10 ∷ line "label=" [] (line "order=" (order·word o) (states·piece [] behind))
 
--- All bytes of such a character.
-unfoldable pub plain·bytes : ℕ → CharacterOrdering → List ℕ
-plain·bytes number o = bytes "character=" ++ (decimal number ++ bare·piece o [])
+-- Such a character, of this type.
+unfoldable pub plain·character : CharacterOrdering → Character
+plain·character o = record { label = []; states = []; ordering = o }
 
 -- The type at a place of work memory, if a set was read and gave one; else this one.
 unfoldable pub slot·type : List ℕ → CharacterOrdering → Bool → ℕ → CharacterOrdering

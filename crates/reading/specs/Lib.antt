@@ -1,6 +1,6 @@
 -- Pieces of a record, as they are put from work memory.
 pub mod CharactersHeld
-pub mod PlainLines
+pub mod TenPlain
 pub mod Pieces
 pub mod CodedCells
 pub mod ShortCells

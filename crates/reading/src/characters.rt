@@ -15,11 +15,10 @@ ghost use mathlib.Core.Path.{_≡_};
 use super::label_lines::put_label;
 use super::label_lines::put_state_labels;
 use super::names::put_number;
-use super::plain::hundred_plain;
 use super::plain::plain_size;
-use super::plain::put_hundred;
 use super::plain::put_plain;
-use super::plain::room_or_none;
+use super::plain::put_ten;
+use super::plain::ten_plain;
 use assumptions::TypeWord;
 use block::CharacterOrdering;
 use commands::Held;
@@ -92,7 +91,8 @@ fn type_at(work: &[u32], t: usize, typed: bool, o: CharacterOrdering) -> Charact
     CharacterOrdering::Ordered
 }
 
-// Puts the characters: their labels stand from a place of work memory on, behind them their state labels, behind these their types.
+// Puts the characters: their labels stand from a place of work memory on, behind them their state labels, behind these their types. Where ten can be put
+// at once, and there is room for them or for nothing, they are.
 fn put_each(
     text: &[u8],
     work: &[u32],
@@ -109,14 +109,15 @@ fn put_each(
     let mut m = n;
     let mut k = 0;
     while k < characters {
-        if hundred_plain(work, at, characters, k) & room_or_none(buffer.len(), m, 4800) {
-            m = put_hundred(work, at + 2 * characters + k, typed, o, buffer, m, k + 1);
-            k += 100;
+        let ordering = type_at(work, at + 2 * characters + k, typed, o);
+        let room = (buffer.len() <= m) | has_room(buffer.len(), m, 640);
+        if ten_plain(work, at, characters, typed, k) & room {
+            m = put_ten(buffer, m, k + 1, ordering);
+            k += 10;
             continue;
         }
         let label = start_of(work, at + k);
         let states = start_of(work, at + characters + k);
-        let ordering = type_at(work, at + 2 * characters + k, typed, o);
         m = put_character(text, &work[..at], buffer, m, k + 1, label, states, ordering);
         k += 1;
     }

@@ -3,9 +3,11 @@ use Rattle.emit.proofs.PutLaws.{puts-as, puts-then}
 use Rattle.lexer.proofs.Basics.{and-right}
 use Rattle.lexer.specs.Base.{bytes}
 use Rattle.reading.proofs.CharacterPuts.{character-lines, plain-past, plain-put}
+use Rattle.reading.proofs.PutWalks.{room-and}
 use Rattle.reading.proofs.characters.put_character.Statement.{statement}
 use Rattle.reading.proofs.characters.put_character.Tie as tie
 use borrow.Author.Needs.{needs}
+use borrow.Author.Tests.{leb-true}
 use lib.Dec.{eqb}
 use mathlib.Core.Bool.{_&&_}
 
@@ -16,7 +18,11 @@ further-requires : tie.Need-further-requires
 further-requires c κs = search needs
 
 returns : tie.Need-returns
-returns c = plain-past _ _ _ _ _ _ _ _ _ (c .before .before .if1 .taken) (rw (c .before .plain-size .ensures) at (c .further .ensures))
+returns c =
+    let test = c .before .before in
+    let a = test .before .before .before .before .args in
+    let past = leb-true _ _ (and-right (eqb (a .label) 0 && eqb (a .states) 0) _ (test .if1 .taken)) in
+    plain-past _ _ _ _ _ _ _ (test .if1 .taken) _ _ _ _ past (c .before .plain-size .ensures .0) (c .further .ensures)
 
 has-room-requires : tie.Need-has-room-requires
 has-room-requires c κs = search needs
@@ -24,7 +30,7 @@ has-room-requires c κs = search needs
 put-plain-requires : tie.Need-put-plain-requires
 put-plain-requires c κs =
     let a = c .before .before .before .before .before .before .before .args in
-    c .before .before .has-room .ensures (and-right (eqb (a .label) 0 && eqb (a .states) 0) (c .before .before .has-room .result) (c .before .if2 .taken))
+    room-and (eqb (a .label) 0 && eqb (a .states) 0) _ _ _ (c .before .before .has-room .ensures) (c .before .if2 .taken)
 
 same-length : tie.Need-same-length
 same-length c = search needs

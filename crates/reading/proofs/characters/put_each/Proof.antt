@@ -1,14 +1,16 @@
--- The function `put_each` meets its contract: a turn puts a hundred characters or one. The measure is how many are left. Assumes nothing.
+-- The function `put_each` meets its contract: a turn puts ten characters or one. The measure is how many are left. Assumes nothing.
 use Prim.Native.Nat.{_+_, _*_, _-_}
-use Rattle.lexer.proofs.Basics.{and-left, and-right}
+use Rattle.lexer.proofs.Basics.{and-right}
 use Rattle.reading.proofs.CharacterWalk.{Spelling, spelling-end, spelling-start, spelling-turn}
-use Rattle.reading.proofs.RunWalk.{spelling-run}
+use Rattle.reading.proofs.PutWalks.{room-or}
+use Rattle.reading.proofs.TenPlain.{ten-told}
+use Rattle.reading.proofs.TenWalk.{spelling-ten}
 use Rattle.reading.proofs.characters.put_each.Statement.{statement}
 use Rattle.reading.proofs.characters.put_each.Tie as tie
 use Rattle.reading.specs.CharactersHeld.{characters·from}
 use Rattle.record.specs.Spell.{spell·characters}
 use borrow.Author.Needs.{needs}
-use lib.ListN.{take}
+use lib.ListN.{length, take}
 use lib.Seq.{length-take-le}
 use mathlib.Core.Path.{sym}
 use native.Mathlib.Omega.{arith}
@@ -23,54 +25,56 @@ abbrev μ-loop : tie.MeasureT-loop
 loop-holds : tie.Need-loop-holds Inv-loop μ-loop
 loop-holds c = spelling-start _ _ _ _ _ _ _ _ _
 
-hundred-plain-requires : tie.Need-hundred-plain-requires Inv-loop μ-loop
-hundred-plain-requires c κs = (c .before .before .before .before .before .pre, c .before .loop .inv .below)
+mul-type-at : tie.Need-mul-type-at Inv-loop μ-loop
+mul-type-at c = search needs
 
-room-or-none-requires : tie.Need-room-or-none-requires Inv-loop μ-loop
-room-or-none-requires c κs = search needs
+add-type-at : tie.Need-add-type-at Inv-loop μ-loop
+add-type-at c = search needs
 
-mul-put-hundred : tie.Need-mul-put-hundred Inv-loop μ-loop
-mul-put-hundred c = search needs
+add-type-at-2 : tie.Need-add-type-at-2 Inv-loop μ-loop
+add-type-at-2 c = search needs
 
-add-put-hundred : tie.Need-add-put-hundred Inv-loop μ-loop
-add-put-hundred c = search needs
+type-at-requires : tie.Need-type-at-requires Inv-loop μ-loop
+type-at-requires c κs = search needs
 
-add-put-hundred-2 : tie.Need-add-put-hundred-2 Inv-loop μ-loop
-add-put-hundred-2 c = search needs
+has-room-requires : tie.Need-has-room-requires Inv-loop μ-loop
+has-room-requires c κs = search needs
 
-add-put-hundred-3 : tie.Need-add-put-hundred-3 Inv-loop μ-loop
-add-put-hundred-3 c = search needs
+ten-plain-requires : tie.Need-ten-plain-requires Inv-loop μ-loop
+ten-plain-requires c κs =
+    let l = c .before .before .before in
+    (l .before .before .before .before .pre, l .loop .inv .below)
 
-put-hundred-requires : tie.Need-put-hundred-requires Inv-loop μ-loop
-put-hundred-requires c κs =
-    let room = c .before .before .room-or-none in
-    let plain = c .before .before .before .hundred-plain in
-    let t = plain .ensures (and-left (plain .result) (room .result) (c .before .if1 .taken)) in
-    let s = c .before .before .before .before .before .before .before .before .before in (
-      omega (arith, t .within, s .pre),
-      room .ensures (and-right (plain .result) (room .result) (c .before .if1 .taken)),
-      omega arith,
-      omega (arith, t .few),
-      t .round,
-    )
+add-put-ten : tie.Need-add-put-ten Inv-loop μ-loop
+add-put-ten c = search needs
+
+put-ten-requires : tie.Need-put-ten-requires Inv-loop μ-loop
+put-ten-requires c κs =
+    let test = c .before in
+    let t = ten-told _ _ _ _ _ _ _ (test .before .ten-plain .ensures) (test .if1 .taken) in
+    let room = test .before .before in
+    let l = room .before .before .before .loop in
+    let either = and-right (test .before .ten-plain .result) _ (test .if1 .taken) in
+    (room-or (room .has-room .result) (l .m) (l .m + 640) (length (l .buffer)) (room .has-room .ensures) either, omega arith, t .round)
 
 add-k : tie.Need-add-k Inv-loop μ-loop
 add-k c =
-    let room = c .before .before .before .before .before in
-    let t = room .before .hundred-plain .ensures (and-left (room .before .hundred-plain .result) (room .room-or-none .result) (c .before .before .before .before .if1 .taken)) in
+    let test = c .before .before .before .before in
+    let t = ten-told _ _ _ _ _ _ _ (test .before .ten-plain .ensures) (test .if1 .taken) in
     omega (arith, t .within)
 
 loop-less : tie.Need-loop-less Inv-loop μ-loop
 loop-less c =
-    let room = c .before .before .before .before .before in
-    let t = room .before .hundred-plain .ensures (and-left (room .before .hundred-plain .result) (room .room-or-none .result) (c .before .before .before .before .if1 .taken)) in
+    let test = c .before .before .before .before in
+    let t = ten-told _ _ _ _ _ _ _ (test .before .ten-plain .ensures) (test .if1 .taken) in
     omega (arith, t .within)
 
 loop-again : tie.Need-loop-again Inv-loop μ-loop
 loop-again c =
-    let room = c .before .before .before .before .before in
-    let t = room .before .hundred-plain .ensures (and-left (room .before .hundred-plain .result) (room .room-or-none .result) (c .before .before .before .before .if1 .taken)) in
-    spelling-run _ _ _ _ _ _ _ _ _ _ 100 (room .before .before .before .loop .inv) t (c .before .before .put-hundred .ensures)
+    let test = c .before .before .before .before in
+    let t = ten-told _ _ _ _ _ _ _ (test .before .ten-plain .ensures) (test .if1 .taken) in
+    let type = test .before .before .before in
+    spelling-ten _ _ _ _ _ _ _ _ _ _ (type .before .before .loop .inv) t (type .type-at .ensures) (c .before .before .put-ten .ensures)
 
 add-start-of : tie.Need-add-start-of Inv-loop μ-loop
 add-start-of c = search needs
@@ -87,21 +91,10 @@ add-start-of-3 c = search needs
 start-of-requires-2 : tie.Need-start-of-requires-2 Inv-loop μ-loop
 start-of-requires-2 c κs = search needs
 
-mul-type-at : tie.Need-mul-type-at Inv-loop μ-loop
-mul-type-at c = search needs
-
-add-type-at : tie.Need-add-type-at Inv-loop μ-loop
-add-type-at c = search needs
-
-add-type-at-2 : tie.Need-add-type-at-2 Inv-loop μ-loop
-add-type-at-2 c = search needs
-
-type-at-requires : tie.Need-type-at-requires Inv-loop μ-loop
-type-at-requires c κs = search needs
-
 slice-aggregate-put-character : tie.Need-slice-aggregate-put-character Inv-loop μ-loop
 slice-aggregate-put-character c =
-    let s = c .before .before .before .before .before .before .before .before .before .before .before .before in
+    let l = c .before .before .before .before .before .before .before .before in
+    let s = l .before .before .before .before in
     sym (length-take-le _ (s .args .work .now) (omega (arith, s .pre)))
 
 add-put-character : tie.Need-add-put-character Inv-loop μ-loop
@@ -118,9 +111,10 @@ loop-less-2 c = search needs
 
 loop-again-2 : tie.Need-loop-again-2 Inv-loop μ-loop
 loop-again-2 c =
-    let t = c .before .before .before .before .before in
-    let l = t .before .before .before .before .before .before in
-    spelling-turn _ _ _ _ _ _ _ _ _ _ _ _ _ (l .before .loop .inv) _ _ _ _ _ (l .loop-test .taken) (t .before .before .start-of .ensures) (t .before .start-of2 .ensures) (t .type-at .ensures) (c .before .before .put-character .ensures)
+    let p = c .before .before in
+    let states = p .before .before .before in
+    let type = states .before .before .before .before .before in
+    spelling-turn _ _ _ _ _ _ _ _ _ _ _ _ _ (type .before .before .loop .inv) _ _ _ _ _ (type .before .loop-test .taken) (states .before .start-of .ensures) (states .start-of2 .ensures) (type .type-at .ensures) (p .put-character .ensures)
 
 same-length : tie.Need-same-length Inv-loop μ-loop
 same-length c = search needs
@@ -135,13 +129,14 @@ put-each-spec =
     Inv-loop
     μ-loop
     loop-holds
-    hundred-plain-requires
-    room-or-none-requires
-    mul-put-hundred
-    add-put-hundred
-    add-put-hundred-2
-    add-put-hundred-3
-    put-hundred-requires
+    mul-type-at
+    add-type-at
+    add-type-at-2
+    type-at-requires
+    has-room-requires
+    ten-plain-requires
+    add-put-ten
+    put-ten-requires
     add-k
     loop-less
     loop-again
@@ -150,10 +145,6 @@ put-each-spec =
     add-start-of-2
     add-start-of-3
     start-of-requires-2
-    mul-type-at
-    add-type-at
-    add-type-at-2
-    type-at-requires
     slice-aggregate-put-character
     add-put-character
     put-character-requires

@@ -1,6 +1,7 @@
 -- The function `put_plain` meets its contract: three pieces, one behind another. Assumes nothing.
-use Rattle.emit.proofs.PutLaws.{puts-then}
+use Rattle.emit.proofs.PutLaws.{puts-as, puts-then}
 use Rattle.lexer.specs.Base.{bytes}
+use Rattle.reading.proofs.CharacterPuts.{plain-spelled}
 use Rattle.reading.proofs.plain.put_plain.Statement.{statement}
 use Rattle.reading.proofs.plain.put_plain.Tie as tie
 use borrow.Author.Needs.{needs}
@@ -24,7 +25,9 @@ returns : tie.Need-returns
 unfolding bytes
 returns c =
     let number = c .before .before .before .before .before .before in
-    puts-then (number .before .before .before .before .put-whole .ensures .0) (puts-then (number .put-digits .ensures .0) (c .before .before .put-bare .ensures))
+    puts-as
+    (puts-then (number .before .before .before .before .put-whole .ensures .0) (puts-then (number .put-digits .ensures .0) (c .before .before .put-bare .ensures .0)))
+    (plain-spelled _ _)
 
 pub put-plain-spec : {M : Type 1} → statement M
 put-plain-spec =
