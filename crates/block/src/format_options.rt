@@ -158,11 +158,11 @@ fn once(seen: bool, i: usize, next: Formatting) -> Formatted
 }
 
 // An option, by which one it is.
-fn key_option(o: Options, i: usize, key: Key) -> Formatted
-    ensures { λ r. ⌜ ((text work : List ℕ) → formatted·of text work r ≡ key·option (options·of text work o) (word·of text work i) key) ⌝ }
+fn key_option(o: Options, i: usize, which: Key) -> Formatted
+    ensures { λ r. ⌜ ((text work : List ℕ) → formatted·of text work r ≡ key·option (options·of text work o) (word·of text work i) which) ⌝ }
 {
     let mut p = o;
-    match key {
+    match which {
         Key::DataType => once(
             o.data_type != 0,
             i,
@@ -198,9 +198,9 @@ fn format_option(text: &[u8], work: &[u32], o: Options, i: usize) -> Formatted
     key_option(o, i, key(text, work, i))
 }
 
-// The value of DATATYPE. A wrong one is refused at the option, the others at the value.
-fn type_value(text: &[u8], work: &[u32], o: Options, option: usize, i: usize) -> Formatted
-    ensures { λ r. ⌜ formatted·of (now (text .entry)) (now (work .entry)) r ≡ format·value (options·of (now (text .entry)) (now (work .entry)) o) Valued.DataType option (word·of (now (text .entry)) (now (work .entry)) i) ⌝ }
+// The value of DATATYPE, which the option of the index `asked` asks for. A wrong one is refused at the option, the others at the value.
+fn type_value(text: &[u8], work: &[u32], o: Options, asked: usize, i: usize) -> Formatted
+    ensures { λ r. ⌜ formatted·of (now (text .entry)) (now (work .entry)) r ≡ format·value (options·of (now (text .entry)) (now (work .entry)) o) Valued.DataType asked (word·of (now (text .entry)) (now (work .entry)) i) ⌝ }
 {
     let mut p = o;
     if is(text, work, i, b"STANDARD") {
@@ -211,7 +211,7 @@ fn type_value(text: &[u8], work: &[u32], o: Options, option: usize, i: usize) ->
         p.data_type = Options::DNA;
         return Formatted::On(Formatting::Option(p));
     }
-    Formatted::Refused(Refusal::FormatOption, option)
+    Formatted::Refused(Refusal::FormatOption, asked)
 }
 
 // Is the word a text in double quotes?
@@ -225,8 +225,8 @@ fn is_string(text: &[u8], work: &[u32], i: usize) -> bool
 }
 
 // The value of SYMBOLS, which stands in double quotes.
-fn symbols_value(text: &[u8], work: &[u32], o: Options, option: usize, i: usize) -> Formatted
-    ensures { λ r. ⌜ formatted·of (now (text .entry)) (now (work .entry)) r ≡ format·value (options·of (now (text .entry)) (now (work .entry)) o) Valued.Symbols option (word·of (now (text .entry)) (now (work .entry)) i) ⌝ }
+fn symbols_value(text: &[u8], work: &[u32], o: Options, asked: usize, i: usize) -> Formatted
+    ensures { λ r. ⌜ formatted·of (now (text .entry)) (now (work .entry)) r ≡ format·value (options·of (now (text .entry)) (now (work .entry)) o) Valued.Symbols asked (word·of (now (text .entry)) (now (work .entry)) i) ⌝ }
 {
     if is_string(text, work, i) {
         let mut p = o;
@@ -238,15 +238,8 @@ fn symbols_value(text: &[u8], work: &[u32], o: Options, option: usize, i: usize)
 }
 
 // The value of GAP, or of MISSING: one valid symbol.
-fn sign_value(
-    text: &[u8],
-    work: &[u32],
-    o: Options,
-    gap: bool,
-    option: usize,
-    i: usize,
-) -> Formatted
-    ensures { λ r. ⌜ formatted·of (now (text .entry)) (now (work .entry)) r ≡ format·value (options·of (now (text .entry)) (now (work .entry)) o) (pick gap Valued.Gap Valued.Missing) option (word·of (now (text .entry)) (now (work .entry)) i) ⌝ }
+fn sign_value(text: &[u8], work: &[u32], o: Options, gap: bool, asked: usize, i: usize) -> Formatted
+    ensures { λ r. ⌜ formatted·of (now (text .entry)) (now (work .entry)) r ≡ format·value (options·of (now (text .entry)) (now (work .entry)) o) (pick gap Valued.Gap Valued.Missing) asked (word·of (now (text .entry)) (now (work .entry)) i) ⌝ }
 {
     let b = single_symbol(text, work, i);
     if b == 0 {
@@ -262,8 +255,8 @@ fn sign_value(
 }
 
 // The value of INTERLEAVE.
-fn interleave_value(text: &[u8], work: &[u32], o: Options, option: usize, i: usize) -> Formatted
-    ensures { λ r. ⌜ formatted·of (now (text .entry)) (now (work .entry)) r ≡ format·value (options·of (now (text .entry)) (now (work .entry)) o) Valued.Interleave option (word·of (now (text .entry)) (now (work .entry)) i) ⌝ }
+fn interleave_value(text: &[u8], work: &[u32], o: Options, asked: usize, i: usize) -> Formatted
+    ensures { λ r. ⌜ formatted·of (now (text .entry)) (now (work .entry)) r ≡ format·value (options·of (now (text .entry)) (now (work .entry)) o) Valued.Interleave asked (word·of (now (text .entry)) (now (work .entry)) i) ⌝ }
 {
     let mut p = o;
     if is(text, work, i, b"YES") {
@@ -282,18 +275,18 @@ fn format_value(
     text: &[u8],
     work: &[u32],
     o: Options,
-    key: Valued,
-    option: usize,
+    which: Valued,
+    asked: usize,
     i: usize,
 ) -> Formatted
-    ensures { λ r. ⌜ formatted·of (now (text .entry)) (now (work .entry)) r ≡ format·value (options·of (now (text .entry)) (now (work .entry)) o) key option (word·of (now (text .entry)) (now (work .entry)) i) ⌝ }
+    ensures { λ r. ⌜ formatted·of (now (text .entry)) (now (work .entry)) r ≡ format·value (options·of (now (text .entry)) (now (work .entry)) o) which asked (word·of (now (text .entry)) (now (work .entry)) i) ⌝ }
 {
-    match key {
-        Valued::DataType => type_value(text, work, o, option, i),
-        Valued::Interleave => interleave_value(text, work, o, option, i),
-        Valued::Symbols => symbols_value(text, work, o, option, i),
-        Valued::Missing => sign_value(text, work, o, false, option, i),
-        Valued::Gap => sign_value(text, work, o, true, option, i),
+    match which {
+        Valued::DataType => type_value(text, work, o, asked, i),
+        Valued::Interleave => interleave_value(text, work, o, asked, i),
+        Valued::Symbols => symbols_value(text, work, o, asked, i),
+        Valued::Missing => sign_value(text, work, o, false, asked, i),
+        Valued::Gap => sign_value(text, work, o, true, asked, i),
     }
 }
 

@@ -15,10 +15,10 @@ use lexer::punct_at;
 use lexer::start_of;
 
 // Is the word this keyword?
-pub fn is(text: &[u8], work: &[u32], i: usize, key: &[u8]) -> bool
-    ensures { λ r. ⌜ r ≡ is (now (key .entry)) (word·of (now (text .entry)) (now (work .entry)) i) ⌝ }
+pub fn is(text: &[u8], work: &[u32], i: usize, keyword: &[u8]) -> bool
+    ensures { λ r. ⌜ r ≡ is (now (keyword .entry)) (word·of (now (text .entry)) (now (work .entry)) i) ⌝ }
 {
-    is_at(text, start_of(work, i), key)
+    is_at(text, start_of(work, i), keyword)
 }
 
 // Is it this punctuation mark?

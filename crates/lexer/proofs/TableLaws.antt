@@ -24,11 +24,6 @@ module _ {X : Type 0} (f : ℕ → X) where
   pub tabulated-at : (n k : ℕ) (d : X) → k < n → getD (tabulated f 0 n) k d ≡ f k
   tabulated-at n k d h = tabulated-from 0 n k d h ∙ ap f (zero-add k)
 
-  pub tabulated-length : (i n : ℕ) → length (tabulated f i n) ≡ n
-  unfolding tabulated
-  tabulated-length i zero = refl
-  tabulated-length i (suc n) = ap suc (tabulated-length (suc i) n)
-
   -- The values of a rule at the numbers below 256, as a chart of sixteen rows.
   row : ℕ → List X
   row i = tabulated f (i * 16) 16

@@ -1,16 +1,16 @@
 -- Words that are told by their bytes at once, and bytes that are a token by themselves: what the definitions make of them. Assumes nothing.
 use Prim.Native.Nat.{ℕ, zero, suc, _+_, _-_, _≤_, _<_}
-use Rattle.lexer.proofs.Basics.{all-under, and-left, by-test, implied, not-both, or-second, under-at, and-right}
+use Rattle.lexer.proofs.Basics.{agree, agree-true, all-under, and-false, and-left, and-right, by-test, implied, not-both, or-second, under-at}
 use Rattle.lexer.proofs.ClassLaws.{plain-is-other}
 use Rattle.lexer.proofs.LabelLaws.{label-given}
 use Rattle.lexer.proofs.ListLaws.{drop-next}
 use Rattle.lexer.proofs.PlainRuns.{plain-tail, running}
-use Rattle.lexer.proofs.TableLaws.{tabulated-at, tabulated-length}
+use Rattle.lexer.proofs.TableLaws.{tabulated-at}
 use Rattle.lexer.specs.Base.{pick, among, bytes, given}
 use Rattle.lexer.specs.ByteBlocks.{plain?, plain·end}
 use Rattle.lexer.specs.Classes.{class, next1, symbol, symbol·of, marks, rank, newline?, return?, blank?, single?, double?, open?, other?, part?, space?, blank}
 use Rattle.lexer.specs.Lexing.{first·token, token·at, word·at}
-use Rattle.lexer.specs.PlainWords.{Plain·word, alone?, ends?, word·byte, word·bytes, word·token}
+use Rattle.lexer.specs.PlainWords.{Plain·word, alone?, ends?, told·end, word·byte, word·bytes, word·stop, word·token}
 use Rattle.lexer.specs.Scanning.{goes·on, step·of, token·step, word·end, worded}
 use Rattle.lexer.specs.Tokens.{token, kind·of, text·of, tail, next, text·step}
 use Rattle.lexer.specs.Words.{label, word?, quoted?}
@@ -18,8 +18,8 @@ use Rattle.lexer.specs.declared.Class.{Class}
 use Rattle.lexer.specs.declared.Mode.{Mode}
 use Rattle.lexer.specs.declared.Scan.{Scan}
 use Rattle.lexer.specs.declared.Step.{Step}
-use borrow.Author.Tests.{eqb-true, eqb-false, ltb-true, ltb-false, ne-eqb}
-use lib.Dec.{eqb, ltb}
+use borrow.Author.Tests.{eqb-true, eqb-false, le-ltb, lt-ltb, ltb-true, ltb-false, ne-eqb}
+use lib.Dec.{eqb, leb, ltb}
 use lib.ListN.{length, getD, take, drop, length-drop, List·getD-eq-default}
 use lib.Seq.{getD-drop}
 use mathlib.Core.Bool.{Bool, true, false, _&&_, _||_, not, false≢true}
@@ -113,7 +113,7 @@ alone-first b r i t = by-test (eqb b 10) (λ e. line (eqb-true b 10 e)) (λ f. l
     line : b ≡ 10 → step·of (symbol b r) i r ≡ Step.Token (suc i)
     line e = rw e refl
 
-pub alone-step : (text : List ℕ) (i : ℕ) → i < length text → alone? (getD text i 0) ≡ true → token·step i (drop i text) ≡ Step.Token (i + 1)
+alone-step : (text : List ℕ) (i : ℕ) → i < length text → alone? (getD text i 0) ≡ true → token·step i (drop i text) ≡ Step.Token (i + 1)
 alone-step text i h t = rw (drop-next text i h) (alone-first (getD text i 0) (drop (i + 1) text) i t ∙ ap Step.Token (sym (add-one i)))
 
 pub blank-step : (text : List ℕ) (i : ℕ) → i < length text → getD text i 0 ≡ 32 → token·step i (drop i text) ≡ Step.Skip (i + 1)
@@ -203,42 +203,76 @@ word-told text start end some within each ends =
       stepped = run-step (end - start) (drop start text) start (omega arith) long plain last ∙ ap Step.Token there;
     }
 
--- Where the plain bytes from a place on end.
-pub run-told : (text : List ℕ) (start end : ℕ) → end ≡ plain·end start (drop start text) → start < end → end < length text → ends? (getD text end 0) ≡ true → Plain·word text start end
-run-told text start end e some within ends =
-    let k = running (drop start text) start in
-    word-told text start end some within (λ n h. rw (← getD-drop start text n 0) (k .each n (rw (← e) h))) ends
+-- Where the code tells that a word ends, one does: there the plain bytes from a place on end.
+module _ (text : List ℕ) (start end : ℕ) where
+  abbrev ended : Bool
+  ended = ltb (plain·end start (drop start text)) (length text) && ends? (getD text (plain·end start (drop start text)) 0)
 
--- The table of how bytes stand to a word: what its entries say; past its end there is 0.
-module _ (table : List ℕ) (same : table ≡ word·bytes) (b entry : ℕ) (here : entry ≡ getD table b 0) where
-  stands : 0 < entry → word·byte b ≡ entry
-  stands some = by-test (ltb b 256) (λ t. sym (tabulated-at word·byte 256 b 0 (ltb-true b 256 t)) ∙ e) (λ f. past (ltb-false b 256 f))
-    where
-      e : getD word·bytes b 0 ≡ entry
-      e = ap (λ t. getD t b 0) (sym same) ∙ sym here
+  run-told : end ≡ plain·end start (drop start text) → start < end → ended ≡ true → Plain·word text start end
+  run-told e some t =
+      let k = running (drop start text) start in
+      let last : ltb end (length text) && ends? (getD text end 0) ≡ true = rw e t in
+      word-told text start end some (ltb-true end (length text) (and-left (ltb end (length text)) (ends? (getD text end 0)) last)) (λ n h. rw (← getD-drop start text n 0) (k .each n (rw (← e) h))) (and-right (ltb end (length text)) (ends? (getD text end 0)) last)
 
-      past : 256 ≤ b → word·byte b ≡ entry
-      past h =
-          let long : length word·bytes ≤ b = rw (tabulated-length word·byte 0 256) h in
-          let none : 0 ≡ entry = sym (List·getD-eq-default word·bytes 0 long) ∙ e in
-          absurd (omega arith)
+  pub stop-told : end ≡ word·stop text start → start < end → Plain·word text start end
+  unfolding word·stop pick
+  stop-told e some = by-test ended (λ t. run-told (e ∙ rw t refl) some t) (λ f. let none : end ≡ start = e ∙ rw f refl in absurd (omega arith))
 
-  -- By the four kinds of bytes.
-  by-kind : {A : Type 0} → 0 < entry → (plain? b ≡ true → entry ≡ 1 → A) → (alone? b ≡ true → entry ≡ 3 → A) → (ends? b ≡ true → entry ≡ 2 → A) → A
-  unfolding word·byte pick
-  by-kind some plain alone ends =
-      by-test (plain? b) (λ t. plain t (sym (rw t at (stands some)))) (λ f.
-      by-test (alone? b) (λ t. alone t (sym (rw (f, t) at (stands some)))) (λ g.
-      by-test (ends? b) (λ t. ends t (sym (rw (f, g, t) at (stands some)))) (λ h. let none : 0 ≡ entry = rw (f, g, h) at (stands some) in absurd (omega arith))))
+  -- By what the code asks.
+  module _ (e : end ≡ plain·end start (drop start text)) where
+    pub stop-here : end < length text → ends? (getD text end 0) ≡ true → end ≡ word·stop text start
+    unfolding word·stop pick
+    stop-here h t = rw (← e, lt-ltb end (length text) h, t) refl
 
-  pub stands-on : entry ≡ 1 → plain? b ≡ true
-  stands-on e = by-kind (omega arith) (λ t _. t) (λ _ o. absurd (omega arith)) (λ _ o. absurd (omega arith))
+    pub stop-past : length text ≤ end → start ≡ word·stop text start
+    unfolding word·stop pick
+    stop-past h = rw (← e, le-ltb end (length text) h) refl
 
-  pub stands-end : 2 ≤ entry → ends? b ≡ true
-  stands-end h = by-kind (omega arith) (λ _ o. absurd (omega arith)) (λ t _. alone-ends b t) (λ t _. t)
+    pub stop-other : ends? (getD text end 0) ≡ false → start ≡ word·stop text start
+    unfolding word·stop pick
+    stop-other f = rw (← e, f, and-false (ltb end (length text))) refl
 
-  pub stands-alone : entry ≡ 3 → alone? b ≡ true
-  stands-alone e = by-kind (omega arith) (λ _ o. absurd (omega arith)) (λ t _. t) (λ _ o. absurd (omega arith))
+-- The same of a token: a byte that is one by itself, or such a word.
+module _ (text : List ℕ) (i : ℕ) where
+  pub told-alone : alone? (getD text i 0) ≡ true → i + 1 ≡ told·end text i
+  unfolding told·end pick
+  told-alone t = rw t refl
+
+  pub told-word : alone? (getD text i 0) ≡ false → word·stop text i ≡ told·end text i
+  unfolding told·end pick
+  told-word f = rw f refl
+
+  pub told-step : (end : ℕ) → end ≡ told·end text i → i < length text → i < end → token·step i (drop i text) ≡ Step.Token end
+  told-step end e h some =
+      by-test (alone? (getD text i 0)) (λ t. alone-step text i h t ∙ ap Step.Token (told-alone t ∙ sym e)) (λ f. stop-told text i end (e ∙ sym (told-word f)) some .stepped)
+
+-- The table of how bytes stand to a word: what its entries say, by a computed test of all of them.
+standing : ℕ → Bool
+standing b = agree (plain? b) (eqb (word·byte b) 1) && agree (ends? b) (leb 2 (word·byte b)) && agree (alone? b) (eqb (word·byte b) 3)
+
+standing-all : all-under standing 256 ≡ true
+unfolding all-under standing agree plain? ends? alone? word·byte pick
+standing-all = refl
+
+module _ (table : List ℕ) (same : table ≡ word·bytes) (b entry : ℕ) (here : entry ≡ getD table b 0) (small : b < 256) where
+  stands : word·byte b ≡ entry
+  stands = sym (tabulated-at word·byte 256 b 0 small) ∙ ap (λ t. getD t b 0) (sym same) ∙ sym here
+
+  each : (agree (plain? b) (eqb entry 1) ≡ true) × (agree (ends? b) (leb 2 entry) ≡ true) × (agree (alone? b) (eqb entry 3) ≡ true)
+  unfolding standing
+  each =
+      let all = rw stands at (under-at standing 256 b standing-all small) in
+      let front = and-left (agree (plain? b) (eqb entry 1) && agree (ends? b) (leb 2 entry)) (agree (alone? b) (eqb entry 3)) all in
+      (and-left (agree (plain? b) (eqb entry 1)) (agree (ends? b) (leb 2 entry)) front, and-right (agree (plain? b) (eqb entry 1)) (agree (ends? b) (leb 2 entry)) front, and-right (agree (plain? b) (eqb entry 1) && agree (ends? b) (leb 2 entry)) (agree (alone? b) (eqb entry 3)) all)
+
+  pub stands-on : plain? b ≡ eqb entry 1
+  stands-on = agree-true (plain? b) (eqb entry 1) (each .0)
+
+  pub stands-end : ends? b ≡ leb 2 entry
+  stands-end = agree-true (ends? b) (leb 2 entry) (each .1)
+
+  pub stands-alone : alone? b ≡ eqb entry 3
+  stands-alone = agree-true (alone? b) (eqb entry 3) (each .2)
 
 -- Plain bytes from a place up to another.
 pub record Plain·to (text : List ℕ) (start i : ℕ) : Type 0 where

@@ -1,12 +1,12 @@
 -- Words that are told by their bytes at once: plain bytes, and behind them one that ends a word whatever comes next.
 use Prim.Native.Nat.{ℕ, zero, suc, _+_, _-_, _≤_, _<_}
-use lib.Dec.{eqb}
+use lib.Dec.{eqb, ltb}
 use lib.ListN.{length, getD, set, take, drop}
-use mathlib.Core.Bool.{Bool, true, _||_}
+use mathlib.Core.Bool.{Bool, true, _&&_, _||_}
 use mathlib.Core.List.{List}
 use mathlib.Core.Path.{_≡_}
 use Rattle.lexer.specs.Base.{pick, byte}
-use Rattle.lexer.specs.ByteBlocks.{plain?}
+use Rattle.lexer.specs.ByteBlocks.{plain?, plain·end}
 use Rattle.lexer.specs.Lexing.{token·at}
 use Rattle.lexer.specs.Scanning.{token·step}
 use Rattle.lexer.specs.Tables.{tabulated}
@@ -44,6 +44,16 @@ word·token text = record { kind = Kind.Word; text = text }
 -- The bytes of a text from a place up to an end.
 abbrev pub part : List ℕ → ℕ → ℕ → List ℕ
 part text from end = take (end - from) (drop from text)
+
+-- Where the word at a place ends, if it is of plain bytes alone and the byte behind them is one of those that end most words; else the place itself.
+unfoldable pub word·stop : List ℕ → ℕ → ℕ
+word·stop text start =
+    let end = plain·end start (drop start text) in
+    pick (ltb end (length text) && ends? (getD text end 0)) end start
+
+-- Where the token at a place ends, if it is a byte that is one by itself or such a word; else the place itself.
+unfoldable pub told·end : List ℕ → ℕ → ℕ
+told·end text i = pick (alone? (getD text i 0)) (i + 1) (word·stop text i)
 
 -- The token at a place is a word, the bytes up to an end, all of them plain; a step over it ends there.
 pub record Plain·word (text : List ℕ) (start end : ℕ) : Type 0 where

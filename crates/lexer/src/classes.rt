@@ -64,8 +64,8 @@ fn fill(table: &mut [u8; 256], from: usize, end: usize, value: u8)
     }
 }
 
-// How each byte stands to a word: 1 goes on with it (letters, digits, `-`, `.`, `?` and `_`), 2 ends it whatever comes next (LF, CR, a blank, brackets of
-// sets, `,`, `;` and `=`), 0 is for all others.
+// How each byte stands to a word: 1 goes on with it (letters, digits, `-`, `.`, `?` and `_`), 2 ends it whatever comes next (CR and a blank), 3 ends it and
+// is a token by itself, whatever comes next (LF, brackets of sets, `,`, `;` and `=`), 0 is for all others.
 pub fn word_bytes() -> [u8; 256]
     ensures { λ r. ⌜ r ≡ word·bytes ⌝ }
 {

@@ -44,16 +44,16 @@ fn ended(text: &[u8], c: Cursor) -> bool
     }
 }
 
-// Is what is left of the text this key, ASCII case ignored?
-fn text_is(text: &[u8], c: Cursor, key: &[u8]) -> bool
-    ensures { λ r. ⌜ r ≡ alike (now (key .entry)) (left (now (text .entry)) c) ⌝ }
+// Is what is left of the text this keyword, ASCII case ignored?
+fn text_is(text: &[u8], c: Cursor, keyword: &[u8]) -> bool
+    ensures { λ r. ⌜ r ≡ alike (now (keyword .entry)) (left (now (text .entry)) c) ⌝ }
 {
     let mut d = c;
     let mut i = 0;
-    while i < key.len() {
+    while i < keyword.len() {
         match next_byte(text, d) {
             Item::Byte(b, e) => {
-                let k = key[i];
+                let k = keyword[i];
                 if lower(k) != lower(b) {
                     return false;
                 }
@@ -69,14 +69,14 @@ fn text_is(text: &[u8], c: Cursor, key: &[u8]) -> bool
 }
 
 // Is the token this keyword? It is none unless its first byte agrees.
-pub fn is_at(text: &[u8], start: usize, key: &[u8]) -> bool
-    ensures { λ r. ⌜ r ≡ is (now (key .entry)) (word·at (now (text .entry)) start) ⌝ }
+pub fn is_at(text: &[u8], start: usize, keyword: &[u8]) -> bool
+    ensures { λ r. ⌜ r ≡ is (now (keyword .entry)) (word·at (now (text .entry)) start) ⌝ }
 {
-    if lower(byte_or_zero(key, 0)) != lower(byte_or_zero(text, start)) {
+    if lower(byte_or_zero(keyword, 0)) != lower(byte_or_zero(text, start)) {
         return false;
     }
     match kind_at(text, start) {
-        Kind::Word => text_is(text, text_start(text, start), key),
+        Kind::Word => text_is(text, text_start(text, start), keyword),
         _ => false,
     }
 }

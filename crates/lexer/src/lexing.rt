@@ -3,10 +3,9 @@
 ghost use Prim.Native.Nat.{ℕ, _<_, _≤_, _+_};
 ghost use Rattle.lexer.specs.Lexing.{lexed};
 ghost use Rattle.lexer.specs.Places.{first·byte};
-ghost use Rattle.lexer.specs.PlainWords.{word·bytes};
+ghost use Rattle.lexer.specs.PlainWords.{told·end, word·bytes};
 ghost use Rattle.lexer.specs.Scanning.{comment·end, quote·end, string·end, word·end, skipped, quoted, worded, token·step};
 ghost use Rattle.lexer.specs.Stored.{Stored, walked};
-ghost use Rattle.lexer.specs.declared.Step.{Step};
 ghost use lib.ListN.{length, drop};
 ghost use mathlib.Core.Bool.{false};
 ghost use mathlib.Core.Path.{_≡_};
@@ -87,10 +86,10 @@ fn symbol_step(text: &[u8], i: usize) -> Step
     }
 }
 
-// Where the token at i ends, if it is told by its bytes at once, by the table; else i itself.
+// Where the token at i ends, if it is a byte that is one by itself or a word of plain bytes, told by the table; else i itself.
 fn told_end(text: &[u8], i: usize, table: &[u8; 256]) -> usize
     requires { ⌜ (i < length (now text)) × (now table ≡ word·bytes) ⌝ }
-    ensures { λ r. ⌜ (i < r → token·step i (drop i (now (text .entry))) ≡ Step.Token r) ⌝ }
+    ensures { λ r. ⌜ r ≡ told·end (now (text .entry)) i ⌝ }
 {
     if entry_of(table, text[i]) == 3 {
         return i + 1;

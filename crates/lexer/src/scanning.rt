@@ -3,7 +3,7 @@
 ghost use Prim.Native.Nat.{_<_, _≤_, _+_};
 ghost use Rattle.lexer.specs.Base.{pick};
 ghost use Rattle.lexer.specs.ByteBlocks.{all·first, blocks·end, comment·blocks, count·in, plain?, plain·end};
-ghost use Rattle.lexer.specs.PlainWords.{Plain·word, alone?, ends?, word·bytes};
+ghost use Rattle.lexer.specs.PlainWords.{alone?, ends?, word·bytes, word·stop};
 ghost use Rattle.lexer.specs.Scanning.{comment·end, quote·end, string·end, word·end};
 ghost use lib.Dec.{eqb};
 ghost use lib.ListN.{length, drop};
@@ -201,7 +201,7 @@ pub fn word_end(text: &[u8], from: usize) -> Scan
     Scan::At(i)
 }
 
-// Is the byte a token by itself, whatever comes next? Not all that are are told.
+// Is the byte LF, a bracket of a set, `,`, `;` or `=`? Each of these is a token by itself, whatever comes next; some others are so too.
 fn stands_alone(b: u8) -> bool
     ensures { λ r. ⌜ r ≡ alone? b ⌝ }
 {
@@ -209,16 +209,16 @@ fn stands_alone(b: u8) -> bool
     (b == 10) | (b == 44) | (b == 59) | (b == 61) | bracket
 }
 
-// Does the byte end a word, whatever comes next? Not all that do are told.
+// Is the byte one of these, CR or a blank? Each of them ends a word, whatever comes next; some others do so too.
 pub fn ends_word(b: u8) -> bool
     ensures { λ r. ⌜ r ≡ ends? b ⌝ }
 {
     (b == 32) | (b == 13) | stands_alone(b)
 }
 
-// Where the word at a place ends, if it is of plain bytes alone and what ends it is told by one byte; else the place itself.
+// Where the word at a place ends, if it is of plain bytes alone and `ends_word` holds of the byte behind them; else the place itself.
 pub fn word_stop(text: &[u8], start: usize) -> usize
-    ensures { λ r. ⌜ (start < r → Plain·word (now (text .entry)) start r) ⌝ }
+    ensures { λ r. ⌜ r ≡ word·stop (now (text .entry)) start ⌝ }
 {
     let end = plain_end(text, start);
     if end < text.len() {
@@ -232,7 +232,7 @@ pub fn word_stop(text: &[u8], start: usize) -> usize
 // The same by a table of how each byte stands to a word, which is less work where words are short.
 pub fn word_stop_by(text: &[u8], start: usize, table: &[u8; 256]) -> usize
     requires { ⌜ now table ≡ word·bytes ⌝ }
-    ensures { λ r. ⌜ (start < r → Plain·word (now (text .entry)) start r) ⌝ }
+    ensures { λ r. ⌜ r ≡ word·stop (now (text .entry)) start ⌝ }
 {
     let mut i = start;
     while i < text.len() {

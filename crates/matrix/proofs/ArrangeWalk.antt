@@ -10,7 +10,7 @@ use Rattle.block.specs.Reading.{Taxon}
 use Rattle.block.specs.Sequential.{names}
 use Rattle.block.specs.Sound.{names·differ}
 use Rattle.block.specs.declared.Judged.{Judged}
-use Rattle.lexer.proofs.Basics.{by-test}
+use Rattle.lexer.proofs.Basics.{and-left, and-right, by-test}
 use Rattle.lexer.proofs.RangeLaws.{word-kept, range-kept}
 use Rattle.lexer.specs.Base.{pick, alike}
 use Rattle.lexer.specs.Stored.{word·of, range}
@@ -21,7 +21,7 @@ use Rattle.matrix.proofs.PlaceWalk.{row-placed}
 use Rattle.matrix.proofs.StoredRows.{stored-kept, cleared-front, names-kept}
 use Rattle.matrix.specs.Lines.{name·at, names·stored, stored}
 use Rattle.matrix.specs.OrderHeld.{Arranged, place·from, place·of, cells·at, ordered, all·below}
-use Rattle.matrix.specs.RowIndex.{Indexed, Rows·put, row·alike}
+use Rattle.matrix.specs.RowIndex.{Indexed, Rows·put, row·alike, row·named}
 use Rattle.slots.specs.Filling.{Cleared, Table·fits}
 use Rattle.slots.specs.declared.Table.{Table}
 use borrow.Author.Tests.{ltb-true, ltb-false}
@@ -33,6 +33,11 @@ use mathlib.Core.List.{List, [], _∷_, _++_, map-append, append-nil, append-ass
 use mathlib.Core.Option.{Option, none, some}
 use mathlib.Core.Path.{_≡_, refl, sym, ap, _∙_}
 use native.Mathlib.Omega.{arith}
+
+-- What is known of a row that has the name of a word.
+pub named-told : (text work : List ℕ) (at rows i k : ℕ) → row·named text work at rows i k ≡ true → (k < rows) × (row·alike text work at i k ≡ true)
+unfolding row·named
+named-told text work at rows i k t = (ltb-true k rows (and-left (ltb k rows) (row·alike text work at i k) t), and-right (ltb k rows) (row·alike text work at i k) t)
 
 -- The row of a name is the one at its place among the names.
 placed-row : (n : List ℕ) (rows : List Taxon) (k j : ℕ) → place·from n k (names rows) ≡ some j

@@ -6,14 +6,19 @@ use Rattle.matrix.specs.OrderHeld.{all·below}
 use Rattle.slots.specs.Entering.{Entered}
 use Rattle.slots.specs.Filling.{Table·sound}
 use Rattle.slots.specs.declared.Table.{Table}
+use lib.Dec.{ltb}
 use lib.ListN.{length, getD, take}
-use mathlib.Core.Bool.{Bool, true}
+use mathlib.Core.Bool.{Bool, true, _&&_}
 use mathlib.Core.List.{List, [], _∷_, _++_}
 use mathlib.Core.Path.{_≡_}
 
 -- Has the stored row of a number the name of a word?
 unfoldable pub row·alike : List ℕ → List ℕ → ℕ → ℕ → ℕ → Bool
 row·alike text work at i k = alike (name·at text work i) (name·at text work (getD work (at + k) 0))
+
+-- Is there a row of a number among so many, and has it the name of a word?
+unfoldable pub row·named : List ℕ → List ℕ → ℕ → ℕ → ℕ → ℕ → Bool
+row·named text work at rows i k = ltb k rows && row·alike text work at i k
 
 -- The table has each of so many stored rows: its number, with 1 added, is entered for its name.
 pub record Indexed (text work : List ℕ) (at rows : ℕ) (t : Table) : Type 0 where

@@ -1,5 +1,5 @@
 -- A sequential matrix as the code judges it: by the shape of its rows, and by the names of those that are stored.
-use Prim.Native.Nat.{ℕ, _+_, _^_, _≤_, _<_}
+use Prim.Native.Nat.{ℕ, _+_, _-_, _^_, _≤_, _<_}
 use Rattle.block.specs.Codes.{Coded}
 use Rattle.block.specs.Commands.{newline, words}
 use Rattle.block.specs.Format.{Format}
@@ -20,9 +20,9 @@ use Rattle.matrix.specs.declared.matrix.Chunk.{Chunk}
 use Rattle.matrix.specs.declared.matrix.Rows.{Rows}
 use Rattle.matrix.specs.declared.matrix.Sequence.{Sequence}
 use Rattle.matrix.specs.declared.matrix.Turned.{Turned}
-use lib.Dec.{ltb, eqb}
-use lib.ListN.{length, take}
-use mathlib.Core.Bool.{false}
+use lib.Dec.{eqb, leb, ltb}
+use lib.ListN.{length, getD, take}
+use mathlib.Core.Bool.{Bool, false, _||_}
 use mathlib.Core.List.{List}
 use mathlib.Core.Option.{Option, none, some}
 use mathlib.Core.Path.{_≡_}
@@ -59,6 +59,14 @@ pub data Turns (text work codes : List ℕ) (to taxa characters : ℕ) (names : 
   last : {line : Sequence} {i j : ℕ} {r : Turned} → j ≡ i + 1 → r ≡ turn·shape codes taxa characters names line (word·of text work i) → Turns text work codes to taxa characters names line i r j
   on : {line : Sequence} {i : ℕ} (next : Sequence) (k : ℕ) {r : Turned} {j : ℕ} → k ≡ i + 1 → turn·shape codes taxa characters names line (word·of text work i) ≡ Turned.On next
       → k < to → newline (word·of text work k) ≡ false → Turns text work codes to taxa characters names next k r j → Turns text work codes to taxa characters names line i r j
+
+-- May the word of an index fill a row of so many cells? It may, if no fewer bytes lie between its start and that of the next word than cells are lacking,
+-- or if the next word begins in front of it.
+unfoldable pub fills·row : (work : List ℕ) (i characters n : ℕ) → Bool
+fills·row work i characters n =
+    let start = getD work i 0 in
+    let next = getD work (i + 1) 0 in
+    ltb next start || leb characters (n + (next - start))
 
 -- A row of so many cells behind one word, or behind the three of a whole set; or the row itself.
 pub data Told·cells (text work codes : List ℕ) (to n i : ℕ) : ℕ → ℕ → Type 0 where

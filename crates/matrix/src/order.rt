@@ -1,13 +1,12 @@
 // Rows in declared order, after mod.rs.
 
-ghost use Prim.Native.Nat.{ℕ, _+_, _≤_, _<_};
+ghost use Prim.Native.Nat.{ℕ, _+_, _≤_};
 ghost use Rattle.block.specs.Cells.{index·of};
 ghost use Rattle.matrix.specs.Lines.{name·at, names·stored, stored};
 ghost use Rattle.matrix.specs.OrderHeld.{Arranged, Index·below, Order·tried, all·below, place·of};
-ghost use Rattle.matrix.specs.RowIndex.{Indexed, row·alike};
+ghost use Rattle.matrix.specs.RowIndex.{Indexed, row·named};
 ghost use Rattle.slots.specs.Filling.{Table·fits};
 ghost use lib.ListN.{getD, length};
-ghost use mathlib.Core.Bool.{true};
 ghost use mathlib.Core.Path.{_≡_};
 use super::index::index_rows;
 use super::index::row_found;
@@ -104,7 +103,7 @@ fn arrange_tabled(
 // Is there a row of a number, counted from 0 on, and has it the name of a word?
 fn row_named(text: &[u8], work: &[u32], at: usize, rows: usize, i: usize, k: usize) -> bool
     requires { ⌜ at + rows ≤ length (now work) ⌝ }
-    ensures { λ r. ⌜ (r ≡ true → (k < rows) × (row·alike (now (text .entry)) (now (work .entry)) at i k ≡ true)) ⌝ }
+    ensures { λ r. ⌜ r ≡ row·named (now (text .entry)) (now (work .entry)) at rows i k ⌝ }
 {
     if rows <= k {
         return false;

@@ -2,7 +2,7 @@
 
 ghost use Prim.Native.Nat.{_^_, _≤_, _<_};
 ghost use Rattle.lexer.specs.PlainWords.{word·bytes};
-ghost use Rattle.matrix.specs.SequentialShape.{Cells·passed, Told·cells};
+ghost use Rattle.matrix.specs.SequentialShape.{Cells·passed, Told·cells, fills·row};
 ghost use mathlib.Core.Path.{_≡_};
 use super::cells::all_cells;
 use super::matrix::Passed;
@@ -76,20 +76,18 @@ fn pass_told(
     }
 }
 
-// May the word of an index fill a row of so many cells? It has no more bytes than lie in front of the next token.
+// May the word of an index fill a row of so many cells? It has at most as many cells as bytes lie between its start and that of the next word: it may, if
+// these are no fewer than the cells that are lacking. Where the next word begins in front of it, nothing is known, and it may.
 fn fills_row(work: &[u32], i: usize, characters: u64, n: usize) -> bool
-    requires { ⌜ i < 18446744073709551615 ⌝ }
+    requires { ⌜ (i < 18446744073709551615) × (n ≤ 2 ^ 41) ⌝ }
+    ensures { λ r. ⌜ r ≡ fills·row (now (work .entry)) i characters n ⌝ }
 {
     let start = start_of(work, i);
     let next = start_of(work, i + 1);
-    let cells = n as u64;
     if next < start {
         return true;
     }
-    if characters < cells {
-        return true;
-    }
-    characters - cells <= (next - start) as u64
+    characters <= (n + (next - start)) as u64
 }
 
 // The same as `pass_told`, but for a word that may be the last of its row, which need not be looked at twice.

@@ -151,7 +151,8 @@ fn place_behind(n: usize, cells: usize) -> usize
     n + 2 * cells
 }
 
-// Writes cells of one byte each, each with a blank before it, from a place of a text on and no further than an end, and answers where they end.
+// Writes the cells of the bytes of a text from a place on, each as a blank and one byte, up to an end or to the first byte that has no cell of one byte,
+// and answers that place of the text. There is room for all of them.
 fn write_short(
     text: &[u8],
     from: usize,
@@ -197,9 +198,9 @@ fn row_behind(row: Putting, at: usize, cells: usize) -> Putting
     }
 }
 
-// Puts cells of one byte each behind the cells of a row, from a place of a text on, as far as they go. What lies behind the buffer's end is only
-
-// counted; where some have room and others not, none is put.
+// Puts the cells of the bytes of a text from a place on behind those of a row, up to an end or to the first byte that has no cell of one byte. Behind the
+// buffer's end they are only counted. None is put where the row has no cell yet, since the first has no blank before it, or where the buffer ends before
+// all bytes up to the end would have room.
 fn put_short(
     text: &[u8],
     from: usize,
@@ -257,7 +258,8 @@ fn put_rest(
     last
 }
 
-// The same, with those of one byte each first, which mostly are all.
+// Puts the cells of a text from a place up to an end behind those of a row: first those of one byte each, up to a byte that has no such cell, then the
+// rest. Mostly there is no rest.
 fn put_run(
     text: &[u8],
     from: usize,

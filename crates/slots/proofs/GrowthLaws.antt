@@ -1,10 +1,14 @@
 -- A trie that grows by the letters of a name, node by node. Assumes nothing.
 use Prim.Native.Nat.{ℕ, _+_, _≤_, _<_}
+use Rattle.lexer.proofs.Basics.{and-left, and-right}
 use Rattle.lexer.specs.declared.Cursor.{Cursor}
-use Rattle.slots.specs.Trie.{Path, stands, down, Grown, Letter·told, Letters·room, Letters·put, letters·left, with·node}
+use Rattle.slots.specs.Trie.{Path, stands, down, Grown, Letter·told, Letters·room, Letters·put, letters·left, node·room, with·node}
 use Rattle.slots.specs.declared.trie.Letter.{Letter}
+use borrow.Author.Tests.{leb-true}
+use lib.Dec.{leb}
 use lib.ListN.{length, getD, take, set, length-set}
 use lib.Seq.{getD-set-same, getD-set-other, take-set-le}
+use mathlib.Core.Bool.{true}
 use mathlib.Core.List.{List, [], _∷_}
 use mathlib.Core.Path.{_≡_, refl, ap, _∙_}
 use native.Mathlib.Omega.{arith}
@@ -18,6 +22,12 @@ grown-then g h =
       more = omega (arith, g .more, h .more);
       stays = λ q l m s. let first = g .stays q l m s in h .stays q l (omega (arith, g .more)) (rw first s) ∙ first;
     }
+
+-- What is known where there is room for a node.
+pub room-told : (memory top : ℕ) → node·room memory top ≡ true → (top + 3 ≤ memory) × (top ≤ 4294967292)
+unfolding node·room
+room-told memory top t =
+    (leb-true (top + 3) memory (and-right (leb top 4294967292) (leb (top + 3) memory) t), leb-true top 4294967292 (and-left (leb top 4294967292) (leb (top + 3) memory) t))
 
 -- A node more.
 module _ (work : List ℕ) (link top x : ℕ) where

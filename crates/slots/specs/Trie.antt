@@ -10,8 +10,9 @@ use Rattle.slots.specs.declared.Entry.{Entry}
 use Rattle.slots.specs.declared.trie.Branch.{Branch}
 use Rattle.slots.specs.declared.trie.Letter.{Letter}
 use Rattle.slots.specs.declared.trie.Reach.{Reach}
-use lib.Dec.{eqb}
+use lib.Dec.{eqb, leb}
 use lib.ListN.{length, getD, take, set}
+use mathlib.Core.Bool.{Bool, _&&_}
 use mathlib.Core.List.{List, [], _∷_}
 use mathlib.Core.Path.{_≡_}
 
@@ -23,6 +24,10 @@ letters (b ∷ r) = (lower b + 1) ∷ letters r
 -- The letters that are left of a token's name behind a cursor.
 unfoldable pub letters·left : List ℕ → Cursor → List ℕ
 letters·left text c = letters (spaced (left text c))
+
+-- Has work memory of so many numbers room for a node at this place, and is the place behind it below 2^32, so that a number holds it?
+unfoldable pub node·room : ℕ → ℕ → Bool
+node·room memory top = leb top 4294967292 && leb (top + 3) memory
 
 -- A link leads to a node of this letter, further on and below the place of the next one.
 pub record Node (work : List ℕ) (top link x : ℕ) : Type 0 where

@@ -1,6 +1,6 @@
 // The slots of a table: where a search begins, the next free one, and a number put there.
 
-ghost use Prim.Native.Nat.{_^_, _≤_, _<_};
+ghost use Prim.Native.Nat.{_^_, _≤_, _<_, min};
 ghost use Rattle.lexer.specs.Stored.{word·of};
 ghost use Rattle.lexer.specs.Words.{spaced};
 ghost use Rattle.slots.specs.Entering.{Name·entered, window·end};
@@ -13,20 +13,20 @@ use super::hashes::hash_at;
 use super::trie::put_path;
 use lexer::start_of;
 
-// A table for so many names, from an index of work memory on, as far as there is room: four slots for each, and some behind them.
-fn table_for(base: usize, count: usize, length: usize) -> Table
-    requires { ⌜ (base ≤ length) × (length ≤ 2 ^ 62) × (count ≤ 1048576) ⌝ }
-    ensures { λ r. ⌜ Table·fits base length r ⌝ }
+// A table for so many names, from an index of work memory on, as far as work memory, of so many numbers, has room: four slots for each, and some behind them.
+fn table_for(base: usize, count: usize, memory: usize) -> Table
+    requires { ⌜ (base ≤ memory) × (memory ≤ 2 ^ 62) × (count ≤ 1048576) ⌝ }
+    ensures { λ r. ⌜ Table·fits base memory r ⌝ }
 {
     let size = count * 4 + 1;
     let end = base + size + 64;
-    if end <= length {
+    if end <= memory {
         return Table { base, size, end };
     }
     Table {
         base,
         size,
-        end: length,
+        end: memory,
     }
 }
 
@@ -97,7 +97,7 @@ pub fn fill_slot(work: &mut [u32], from: usize, end: usize, value: u32)
 
 // The lesser of two numbers.
 pub fn lesser(a: usize, b: usize) -> usize
-    ensures { λ r. ⌜ (r ≤ a) × (r ≤ b) ⌝ }
+    ensures { λ r. ⌜ r ≡ min a b ⌝ }
 {
     if a < b {
         return a;

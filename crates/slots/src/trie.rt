@@ -6,10 +6,10 @@ ghost use Rattle.lexer.specs.Base.{lower, pick};
 ghost use Rattle.lexer.specs.Lexing.{token·at};
 ghost use Rattle.lexer.specs.Stored.{word·of};
 ghost use Rattle.lexer.specs.Words.{spaced};
-ghost use Rattle.slots.specs.Trie.{Branched, Letter·told, Letters·put, Letters·room, Path·put, Reached, Told, entry·of, letters, letters·left, with·node};
+ghost use Rattle.slots.specs.Trie.{Branched, Letter·told, Letters·put, Letters·room, Path·put, Reached, Told, entry·of, letters, letters·left, node·room, with·node};
 ghost use lib.Dec.{eqb, leb, ltb};
 ghost use lib.ListN.{length, getD};
-ghost use mathlib.Core.Bool.{_&&_, true};
+ghost use mathlib.Core.Bool.{_&&_};
 ghost use mathlib.Core.Path.{_≡_};
 use super::Entry;
 use super::hashes::blank_for;
@@ -153,14 +153,14 @@ pub fn name_entry(text: &[u8], work: &[u32], i: usize, head: usize) -> Entry
     }
 }
 
-// Is there room for a node at this place, and for its place in a number?
-fn node_room(length: usize, top: usize) -> bool
-    ensures { λ r. ⌜ (r ≡ true → (top + 3 ≤ length) × (top ≤ 4294967292)) ⌝ }
+// Has work memory of so many numbers room for a node at this place, and is the place behind it below 2^32, so that a number holds it?
+fn node_room(memory: usize, top: usize) -> bool
+    ensures { λ r. ⌜ r ≡ node·room memory top ⌝ }
 {
     if 4294967292 < top {
         return false;
     }
-    top + 3 <= length
+    top + 3 <= memory
 }
 
 // A node of a letter is put where a link leads to now.

@@ -1,6 +1,7 @@
 -- The function `labels_alike` meets its contract: two words that are told by their bytes are compared so, any others by cursors. Assumes nothing.
 use Rattle.lexer.proofs.NextBytes.{front-left}
 use Rattle.lexer.proofs.RunsAlike.{words-as-long, words-differ}
+use Rattle.lexer.proofs.WordsTold.{stop-told}
 use Rattle.lexer.proofs.label.labels_alike.Statement.{statement}
 use Rattle.lexer.proofs.label.labels_alike.Tie as tie
 use borrow.Author.Needs.{needs}
@@ -24,17 +25,17 @@ sub-runs-alike c = search needs
 
 runs-alike-requires : tie.Need-runs-alike-requires
 runs-alike-requires c κs =
-    let first = c .before .before .before .before .word-stop .ensures (c .before .before .before .if1 .taken) .within in
-    let second = c .before .before .word-stop2 .ensures (c .before .if2 .taken) .within in
+    let first = stop-told _ _ _ (c .before .before .before .before .word-stop .ensures) (c .before .before .before .if1 .taken) .within in
+    let second = stop-told _ _ _ (c .before .before .word-stop2 .ensures) (c .before .if2 .taken) .within in
     (omega arith, omega arith)
 
 returns : tie.Need-returns
 returns c =
     let k = c .before in
-    c .runs-alike .ensures ∙ words-as-long _ _ _ _ _ (k .before .before .before .before .word-stop .ensures (k .before .before .before .if1 .taken)) (k .before .before .word-stop2 .ensures (k .before .if2 .taken)) (k .if3 .taken)
+    c .runs-alike .ensures ∙ words-as-long _ _ _ _ _ (stop-told _ _ _ (k .before .before .before .before .word-stop .ensures) (k .before .before .before .if1 .taken)) (stop-told _ _ _ (k .before .before .word-stop2 .ensures) (k .before .if2 .taken)) (k .if3 .taken)
 
 returns-2 : tie.Need-returns-2
-returns-2 c = words-differ _ _ _ _ _ (c .before .before .before .before .word-stop .ensures (c .before .before .before .if1 .taken)) (c .before .before .word-stop2 .ensures (c .before .if2 .taken)) (c .if3 .left)
+returns-2 c = words-differ _ _ _ _ _ (stop-told _ _ _ (c .before .before .before .before .word-stop .ensures) (c .before .before .before .if1 .taken)) (stop-told _ _ _ (c .before .before .word-stop2 .ensures) (c .before .if2 .taken)) (c .if3 .left)
 
 text-start-requires : tie.Need-text-start-requires
 text-start-requires c κs = search needs

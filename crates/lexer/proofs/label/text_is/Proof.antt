@@ -1,5 +1,5 @@
--- The function `text_is` meets its contract. A turn passes one byte of the key and one of the text that are alike, and keeps whether all are. The
--- measure is what is left of the key. Assumes nothing.
+-- The function `text_is` meets its contract. A turn passes one byte of the keyword and one of the text that are alike, and keeps whether all are. The
+-- measure is what is left of the keyword. Assumes nothing.
 use Prim.Native.Nat.{_-_}
 use Rattle.lexer.proofs.NextBytes.{yielded}
 use Rattle.lexer.proofs.TextWalks.{Matching, matching-turn, matching-over, matching-short, matching-end}
@@ -11,10 +11,10 @@ use mathlib.Core.Path.{refl, sym, _∙_}
 use native.Mathlib.Omega.{arith}
 
 abbrev Inv-loop : tie.InvT-loop
-Inv-loop text key d₀ i₀ d i = Matching text key d₀ d i
+Inv-loop text keyword d₀ i₀ d i = Matching text keyword d₀ d i
 
 abbrev μ-loop : tie.MeasureT-loop
-μ-loop text key d₀ i₀ d i = length key - i
+μ-loop text keyword d₀ i₀ d i = length keyword - i
 
 loop-holds : tie.Need-loop-holds Inv-loop μ-loop
 loop-holds c = record { short = omega arith; rest = refl }

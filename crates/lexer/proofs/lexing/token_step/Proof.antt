@@ -1,5 +1,5 @@
 -- The function `token_step` meets its contract: a blank, a token that is told at once, or what the symbol says. Assumes nothing.
-use Rattle.lexer.proofs.WordsTold.{blank-step}
+use Rattle.lexer.proofs.WordsTold.{blank-step, told-step}
 use Rattle.lexer.proofs.lexing.token_step.Statement.{statement}
 use Rattle.lexer.proofs.lexing.token_step.Tie as tie
 use borrow.Author.Needs.{needs}
@@ -18,7 +18,7 @@ told-end-requires : tie.Need-told-end-requires
 told-end-requires c κs = search needs
 
 returns-2 : tie.Need-returns-2
-returns-2 c = sym (c .before .told-end .ensures (c .if2 .taken))
+returns-2 c = sym (told-step _ _ _ (c .before .told-end .ensures) (search needs) (c .if2 .taken))
 
 symbol-step-requires : tie.Need-symbol-step-requires
 symbol-step-requires c κs = search needs

@@ -1,5 +1,6 @@
 -- The function `symbols` meets its contract: a word's text is judged, at once where its bytes tell it, and that of the mark `+`. Assumes nothing.
 use Rattle.lexer.proofs.KindTags.{tags-other}
+use Rattle.lexer.proofs.WordsTold.{stop-told}
 use Rattle.lexer.specs.Words.{word?}
 use Rattle.matrix.proofs.CellWalk.{symbols-none, symbols-plus, symbols-told, symbols-word}
 use Rattle.matrix.proofs.cells.symbols.Statement.{statement}
@@ -17,12 +18,12 @@ word-stop-requires c κs = search needs
 run-cells-requires : tie.Need-run-cells-requires
 run-cells-requires c κs =
     let h = c .if1 .taken in
-    let within = c .before .word-stop .ensures h .within in
+    let within = stop-told _ _ _ (c .before .word-stop .ensures) h .within in
     (omega arith, omega arith, omega arith)
 
 returns : tie.Need-returns
 returns c =
-    c .run-cells .ensures ∙ symbols-told _ _ _ _ _ (c .before .before .before .start-of .ensures) _ (c .before .before .word-stop .ensures (c .before .if1 .taken))
+    c .run-cells .ensures ∙ symbols-told _ _ _ _ _ (c .before .before .before .start-of .ensures) _ (stop-told _ _ _ (c .before .before .word-stop .ensures) (c .before .if1 .taken))
 
 kind-at-requires : tie.Need-kind-at-requires
 kind-at-requires c κs = search needs

@@ -1,4 +1,5 @@
 -- The function `plain_chunk` meets its contract: a word that is told by its bytes; else test by test. Assumes nothing.
+use Rattle.lexer.proofs.WordsTold.{stop-told}
 use Rattle.lexer.specs.Base.{pick}
 use Rattle.lexer.specs.Stored.{word·of}
 use Rattle.matrix.proofs.SetTurns.{word-shape}
@@ -18,11 +19,11 @@ word-stop-requires c κs = search needs
 
 told-chunk-requires : tie.Need-told-chunk-requires
 told-chunk-requires c κs =
-    let within = c .before .word-stop .ensures (c .if1 .taken) .within in
+    let within = stop-told _ _ _ (c .before .word-stop .ensures) (c .if1 .taken) .within in
     (omega arith, within, c .before .before .before .before .before .pre)
 
 returns : tie.Need-returns
-returns c = c .told-chunk .ensures ∙ word-shape _ _ _ _ _ _ (c .before .before .before .start-of .ensures) (c .before .before .word-stop .ensures (c .before .if1 .taken)) _
+returns c = c .told-chunk .ensures ∙ word-shape _ _ _ _ _ _ (c .before .before .before .start-of .ensures) (stop-told _ _ _ (c .before .before .word-stop .ensures) (c .before .if1 .taken)) _
 
 punct-requires : tie.Need-punct-requires
 punct-requires c κs = search needs

@@ -2,7 +2,7 @@
 -- Assumes nothing.
 use Prim.Native.Nat.{ℕ, _+_, _-_}
 use Rattle.block.specs.Judged.{judged}
-use Rattle.matrix.proofs.ArrangeWalk.{Arranging, arranging-start, arranging-room, word-here, row-place, arranging-newline, arranging-turn, arranging-end}
+use Rattle.matrix.proofs.ArrangeWalk.{Arranging, arranging-start, arranging-room, word-here, row-place, arranging-newline, arranging-turn, arranging-end, named-told}
 use Rattle.matrix.proofs.order.in_order.Statement.{statement}
 use Rattle.matrix.proofs.order.in_order.Tie as tie
 use borrow.Author.Needs.{needs}
@@ -65,7 +65,8 @@ add-place c =
 cast-work : tie.Need-cast-work Inv-loop μ-loop
 cast-work c =
     let s = c .before .before .before .before .before .before .before .before .before .before in
-    omega (arith, c .before .row-named .ensures (not-false _ (c .if2 .left)) .0, s .pre .3)
+    let named = named-told _ _ _ _ _ _ (sym (c .before .row-named .ensures) ∙ not-false _ (c .if2 .left)) in
+    omega (arith, named .0, s .pre .3)
 
 mul-work : tie.Need-mul-work Inv-loop μ-loop
 mul-work c =
@@ -83,7 +84,8 @@ slice-write-work c =
 add-k : tie.Need-add-k Inv-loop μ-loop
 add-k c =
     let s = c .before .before .before .before .before .before .before .before .before .before in
-    omega (arith, c .before .row-named .ensures (not-false _ (c .if2 .left)) .0, s .pre .3)
+    let named = named-told _ _ _ _ _ _ (sym (c .before .row-named .ensures) ∙ not-false _ (c .if2 .left)) in
+    omega (arith, named .0, s .pre .3)
 
 add-i-2 : tie.Need-add-i-2 Inv-loop μ-loop
 add-i-2 c = search needs
@@ -96,7 +98,7 @@ loop-again-2 c =
     let n = c .before .before .before in
     let l = n .before .before .before in
     let s = l .before .before .before .before in
-    let named = c .before .row-named .ensures (not-false _ (c .if2 .left)) in
+    let named = named-told _ _ _ _ _ _ (sym (c .before .row-named .ensures) ∙ not-false _ (c .if2 .left)) in
     let at = s .args .at in
     let k = l .before .loop .k in
     let next : at + (k + 1) ≡ at + k + 1 = omega arith in

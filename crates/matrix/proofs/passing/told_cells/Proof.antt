@@ -1,4 +1,5 @@
 -- The function `told_cells` meets its contract: a word, a whole set, or nothing. Assumes nothing.
+use Rattle.lexer.proofs.WordsTold.{stop-told}
 use Rattle.matrix.proofs.SetLaws.{closes-told}
 use Rattle.matrix.proofs.SetTurns.{word-cells-told}
 use Rattle.matrix.proofs.passing.told_cells.Statement.{statement}
@@ -15,7 +16,7 @@ word-stop-by-requires c κs = search needs
 
 all-cells-requires : tie.Need-all-cells-requires
 all-cells-requires c κs =
-    let within = c .before .word-stop-by .ensures (c .if1 .taken) .within in
+    let within = stop-told _ _ _ (c .before .word-stop-by .ensures) (c .if1 .taken) .within in
     (omega arith, omega arith)
 
 sub-t12 : tie.Need-sub-t12
@@ -24,14 +25,14 @@ sub-t12 c = search needs
 add-t13 : tie.Need-add-t13
 add-t13 c =
     let a = c .before .before .before .before .before .before .before in
-    let within = c .before .before .before .word-stop-by .ensures (c .before .before .if1 .taken) .within in
+    let within = stop-told _ _ _ (c .before .before .before .word-stop-by .ensures) (c .before .before .if1 .taken) .within in
     omega (arith, a .pre, a .good)
 
 add-t14 : tie.Need-add-t14
 add-t14 c = search needs
 
 returns : tie.Need-returns
-returns c = word-cells-told _ _ _ _ _ _ (c .before .before .before .before .start-of .ensures) (c .before .before .before .word-stop-by .ensures (c .before .before .if1 .taken)) _ _ (rw (c .if2 .taken) at (c .before .all-cells .ensures))
+returns c = word-cells-told _ _ _ _ _ _ (c .before .before .before .before .start-of .ensures) (stop-told _ _ _ (c .before .before .before .word-stop-by .ensures) (c .before .before .if1 .taken)) _ _ (rw (c .if2 .taken) at (c .before .all-cells .ensures))
 
 returns-2 : tie.Need-returns-2
 returns-2 c = nothing·told

@@ -1,5 +1,6 @@
 -- The function `put_told` meets its contract: a turn puts a word or a whole set, or ends. The measure is what is left of the tokens. Assumes nothing.
 use Prim.Native.Nat.{ℕ, _-_, _<_}
+use Rattle.lexer.proofs.WordsTold.{stop-told}
 use Rattle.matrix.proofs.SetLaws.{closes-told}
 use Rattle.reading.proofs.ToldRows.{told-kept, told-set, told-word}
 use Rattle.reading.proofs.cells.put_told.Statement.{statement}
@@ -46,7 +47,7 @@ returns c = c .before .before .before .before .before .before .before .before .l
 
 put-run-requires : tie.Need-put-run-requires Inv-loop μ-loop
 put-run-requires c κs =
-    let within = c .before .before .before .before .word-stop-by .ensures (c .before .before .before .if2 .taken) .within in
+    let within = stop-told _ _ _ (c .before .before .before .before .word-stop-by .ensures) (c .before .before .before .if2 .taken) .within in
     (omega arith, omega arith)
 
 add-i : tie.Need-add-i Inv-loop μ-loop
@@ -69,7 +70,7 @@ loop-again c =
     let t = c .before .before .before .before .before .before .before .before .before .before in
     let l = t .before .before .loop in
     let g = going (l .i) (t .before .before .before .before .before .before .before .args .to) (l .last .left) (t .if1 .taken) in
-    told-word (l .inv) (g .0) _ _ (w .before .before .start-of .ensures) (w .word-stop-by .ensures (c .before .before .before .before .before .before .if2 .taken)) (c .before .before .before .before .if3 .left) (c .before .before .put-run .ensures)
+    told-word (l .inv) (g .0) _ _ (w .before .before .start-of .ensures) (stop-told _ _ _ (w .word-stop-by .ensures) (c .before .before .before .before .before .before .if2 .taken)) (c .before .before .before .before .if3 .left) (c .before .before .put-run .ensures)
 
 set-closes-requires : tie.Need-set-closes-requires Inv-loop μ-loop
 set-closes-requires c κs =

@@ -1,4 +1,5 @@
 -- The function `put_word` meets its contract. Assumes nothing.
+use Rattle.lexer.proofs.WordsTold.{stop-told}
 use Rattle.reading.proofs.RowPieces.{row-none}
 use Rattle.reading.proofs.WordCells.{plain-put, word-none, word-some}
 use Rattle.reading.proofs.cells.put_word.Statement.{statement}
@@ -17,7 +18,7 @@ word-stop-requires c κs = search needs
 put-run-requires : tie.Need-put-run-requires
 put-run-requires c κs =
     let h = c .before .if1 .taken in
-    let within = c .before .before .word-stop .ensures h .within in
+    let within = stop-told _ _ _ (c .before .before .word-stop .ensures) h .within in
     (omega arith, omega arith)
 
 same-length : tie.Need-same-length
@@ -26,7 +27,7 @@ same-length c = search needs
 returns : tie.Need-returns
 returns c =
     let w = c .before .before .before .before .before in
-    plain-put _ _ _ _ (w .before .start-of .ensures) _ _ (w .word-stop .ensures (c .before .before .before .before .if1 .taken)) (c .before .before .put-run .ensures)
+    plain-put _ _ _ _ (w .before .start-of .ensures) _ _ (stop-told _ _ _ (w .word-stop .ensures) (c .before .before .before .before .if1 .taken)) (c .before .before .put-run .ensures)
 
 has-cells-requires : tie.Need-has-cells-requires
 has-cells-requires c κs = search needs

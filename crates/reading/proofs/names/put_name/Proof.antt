@@ -1,6 +1,7 @@
 -- The function `put_name` meets its contract: a name that is told by its bytes is measured by their count or put byte by byte, any other by its text.
 -- Assumes nothing.
 use Rattle.emit.proofs.PutLaws.{puts-as}
+use Rattle.lexer.proofs.WordsTold.{stop-told}
 use Rattle.reading.proofs.NamePuts.{name-past, plain-name, text-name}
 use Rattle.reading.proofs.names.put_name.Statement.{statement}
 use Rattle.reading.proofs.names.put_name.Tie as tie
@@ -20,17 +21,17 @@ further-requires c κs = search needs
 
 returns : tie.Need-returns
 returns c =
-    let word = c .before .before .before .word-stop .ensures (c .before .before .if1 .taken) in
+    let word = stop-told _ _ _ (c .before .before .before .word-stop .ensures) (c .before .before .if1 .taken) in
     puts-as (name-past _ _ _ _ _ _ word (c .before .if2 .taken) (c .further .ensures)) (λ behind. plain-name _ _ _ _ _ behind (c .before .before .before .before .start-of .ensures) word)
 
 put-bytes-requires : tie.Need-put-bytes-requires
-put-bytes-requires c κs = c .before .before .before .word-stop .ensures (c .before .before .if1 .taken) .within
+put-bytes-requires c κs = stop-told _ _ _ (c .before .before .before .word-stop .ensures) (c .before .before .if1 .taken) .within
 
 same-length : tie.Need-same-length
 same-length c = search needs
 
 returns-2 : tie.Need-returns-2
-returns-2 c = puts-as (c .before .before .put-bytes .ensures) (λ behind. plain-name _ _ _ _ _ behind (c .before .before .before .before .before .before .before .start-of .ensures) (c .before .before .before .before .before .before .word-stop .ensures (c .before .before .before .before .before .if1 .taken)))
+returns-2 c = puts-as (c .before .before .put-bytes .ensures) (λ behind. plain-name _ _ _ _ _ behind (c .before .before .before .before .before .before .before .start-of .ensures) (stop-told _ _ _ (c .before .before .before .before .before .before .word-stop .ensures) (c .before .before .before .before .before .if1 .taken)))
 
 text-start-requires : tie.Need-text-start-requires
 text-start-requires c κs = search needs

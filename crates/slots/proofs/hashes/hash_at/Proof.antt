@@ -1,4 +1,5 @@
 -- The function `hash_at` meets its contract: a name that is told by its bytes has their number, any other that of its text. Assumes nothing.
+use Rattle.lexer.proofs.WordsTold.{stop-told}
 use Rattle.lexer.specs.Tokens.{Token}
 use Rattle.lexer.specs.Words.{spaced}
 use Rattle.slots.proofs.hashes.hash_at.Statement.{statement}
@@ -13,11 +14,11 @@ word-stop-requires c κs = search needs
 
 hash-run-requires : tie.Need-hash-run-requires
 hash-run-requires c κs =
-    let within = c .before .word-stop .ensures (c .if1 .taken) .within in
+    let within = stop-told _ _ _ (c .before .word-stop .ensures) (c .if1 .taken) .within in
     (omega arith, omega arith)
 
 returns : tie.Need-returns
-returns c = c .hash-run .ensures ∙ ap (λ (t : Token). hash (spaced (t .text))) (sym (c .before .before .word-stop .ensures (c .before .if1 .taken) .told))
+returns c = c .hash-run .ensures ∙ ap (λ (t : Token). hash (spaced (t .text))) (sym (stop-told _ _ _ (c .before .before .word-stop .ensures) (c .before .if1 .taken) .told))
 
 hash-text-requires : tie.Need-hash-text-requires
 hash-text-requires c κs = search needs

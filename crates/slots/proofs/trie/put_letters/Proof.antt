@@ -1,13 +1,13 @@
 -- The function `put_letters` meets its contract: a turn puts a node for one letter. The measure is what is left of the text. Assumes nothing.
 use Prim.Native.Nat.{_-_}
-use Rattle.slots.proofs.GrowthLaws.{Growing, growing-start, growing-end, growing-lost, put-size, growing-last, growing-more}
+use Rattle.slots.proofs.GrowthLaws.{Growing, growing-start, growing-end, growing-lost, put-size, growing-last, growing-more, room-told}
 use Rattle.slots.proofs.trie.put_letters.Statement.{statement}
 use Rattle.slots.proofs.trie.put_letters.Tie as tie
 use Rattle.slots.specs.Trie.{letters·left}
 use borrow.Author.Needs.{needs}
 use borrow.Author.Tests.{not-false}
 use lib.ListN.{length, length-set}
-use mathlib.Core.Path.{_∙_}
+use mathlib.Core.Path.{sym, _∙_}
 use native.Mathlib.Omega.{arith}
 
 abbrev Inv-loop : tie.InvT-loop
@@ -40,19 +40,19 @@ letter-at-requires c κs = search needs
 put-node-requires : tie.Need-put-node-requires Inv-loop μ-loop
 put-node-requires c κs =
     let t = c .before .before in
-    let room = t .before .node-room .ensures (not-false _ (t .if1 .left)) in
+    let room = room-told _ _ (sym (t .before .node-room .ensures) ∙ not-false _ (t .if1 .left)) in
     (t .before .before .loop .inv .below, room .0, room .1, c .before .letter-at .ensures .few)
 
 add-link : tie.Need-add-link Inv-loop μ-loop
 add-link c =
     let t = c .before .before .before .before .before in
-    let room = t .before .node-room .ensures (not-false _ (t .if1 .left)) in
+    let room = room-told _ _ (sym (t .before .node-room .ensures) ∙ not-false _ (t .if1 .left)) in
     omega (arith, room .1)
 
 add-top : tie.Need-add-top Inv-loop μ-loop
 add-top c =
     let t = c .before .before .before .before .before in
-    let room = t .before .node-room .ensures (not-false _ (t .if1 .left)) in
+    let room = room-told _ _ (sym (t .before .node-room .ensures) ∙ not-false _ (t .if1 .left)) in
     omega (arith, room .1)
 
 mul-work-2 : tie.Need-mul-work-2 Inv-loop μ-loop
@@ -60,7 +60,7 @@ mul-work-2 c =
     let n = c .before .before .before .before in
     let t = n .before .before .before in
     let l = t .before .before in
-    let room = t .before .node-room .ensures (not-false _ (t .if1 .left)) in
+    let room = room-told _ _ (sym (t .before .node-room .ensures) ∙ not-false _ (t .if1 .left)) in
     let size = put-size _ _ _ _ _ (l .loop .inv) (n .before .before .letter-at .ensures) (room .0) (n .put-node .ensures) in
     omega (arith, size, room .0, l .loop .inv .size, l .before .before .before .pre .0 .space)
 
@@ -69,14 +69,14 @@ slice-write-work-2 c =
     let n = c .before .before .before .before in
     let t = n .before .before .before in
     let l = t .before .before in
-    let room = t .before .node-room .ensures (not-false _ (t .if1 .left)) in
+    let room = room-told _ _ (sym (t .before .node-room .ensures) ∙ not-false _ (t .if1 .left)) in
     let size = put-size _ _ _ _ _ (l .loop .inv) (n .before .before .letter-at .ensures) (room .0) (n .put-node .ensures) in
     omega (arith, size, room .0, l .loop .inv .size, l .before .before .before .pre .0 .space)
 
 cast-work : tie.Need-cast-work Inv-loop μ-loop
 cast-work c =
     let t = c .before .before .before .before .before .before .before in
-    let room = t .before .node-room .ensures (not-false _ (t .if1 .left)) in
+    let room = room-told _ _ (sym (t .before .node-room .ensures) ∙ not-false _ (t .if1 .left)) in
     omega (arith, room .1)
 
 mul-work-3 : tie.Need-mul-work-3 Inv-loop μ-loop
@@ -84,7 +84,7 @@ mul-work-3 c =
     let n = c .before .before .before .before in
     let t = n .before .before .before in
     let l = t .before .before in
-    let room = t .before .node-room .ensures (not-false _ (t .if1 .left)) in
+    let room = room-told _ _ (sym (t .before .node-room .ensures) ∙ not-false _ (t .if1 .left)) in
     let size = put-size _ _ _ _ _ (l .loop .inv) (n .before .before .letter-at .ensures) (room .0) (n .put-node .ensures) in
     omega (arith, size, room .0, l .loop .inv .size, l .before .before .before .pre .0 .space)
 
@@ -93,7 +93,7 @@ slice-write-work-3 c =
     let n = c .before .before .before .before in
     let t = n .before .before .before in
     let l = t .before .before in
-    let room = t .before .node-room .ensures (not-false _ (t .if1 .left)) in
+    let room = room-told _ _ (sym (t .before .node-room .ensures) ∙ not-false _ (t .if1 .left)) in
     let size = put-size _ _ _ _ _ (l .loop .inv) (n .before .before .letter-at .ensures) (room .0) (n .put-node .ensures) in
     simp length-set (omega (arith, size, room .0, l .loop .inv .size, l .before .before .before .pre .0 .space))
 
@@ -102,7 +102,7 @@ same-length-2 c =
     let n = c .before .before .before .before in
     let t = n .before .before .before in
     let l = t .before .before in
-    let room = t .before .node-room .ensures (not-false _ (t .if1 .left)) in
+    let room = room-told _ _ (sym (t .before .node-room .ensures) ∙ not-false _ (t .if1 .left)) in
     let size = put-size _ _ _ _ _ (l .loop .inv) (n .before .before .letter-at .ensures) (room .0) (n .put-node .ensures) in
     simp length-set (size ∙ l .loop .inv .size)
 
@@ -111,7 +111,7 @@ returns-2 c =
     let n = c .before .before .before .before in
     let t = n .before .before .before in
     let l = t .before .before in
-    let room = t .before .node-room .ensures (not-false _ (t .if1 .left)) in
+    let room = room-told _ _ (sym (t .before .node-room .ensures) ∙ not-false _ (t .if1 .left)) in
     let size = put-size _ _ _ _ _ (l .loop .inv) (n .before .before .letter-at .ensures) (room .0) (n .put-node .ensures) in
     growing-end _ _ _ _ _ (growing-last _ _ _ _ _ (l .loop .inv) (n .before .before .letter-at .ensures) (room .0) (n .put-node .ensures) (c .if2 .taken)) (l .before .before .before .pre .1) (omega (arith, size, room .0, l .loop .inv .size, l .before .before .before .pre .0 .space)) (omega (arith, size, room .0, l .loop .inv .size, l .before .before .before .pre .0 .space))
 
@@ -124,7 +124,7 @@ loop-again : tie.Need-loop-again Inv-loop μ-loop
 loop-again c =
     let n = c .before .before .before .before .before in
     let t = n .before .before .before in
-    let room = t .before .node-room .ensures (not-false _ (t .if1 .left)) in
+    let room = room-told _ _ (sym (t .before .node-room .ensures) ∙ not-false _ (t .if1 .left)) in
     growing-more _ _ _ _ _ (t .before .before .loop .inv) (n .before .before .letter-at .ensures) (room .0) (n .put-node .ensures) (c .before .if2 .left)
 
 pub put-letters-spec : {M : Type 1} → statement M
