@@ -96,7 +96,7 @@ pub fn fill_slot(work: &mut [u32], from: usize, end: usize, value: u32)
 }
 
 // The lesser of two numbers.
-pub fn lesser(a: usize, b: usize) -> usize
+fn lesser(a: usize, b: usize) -> usize
     ensures { λ r. ⌜ r ≡ min a b ⌝ }
 {
     if a < b {

@@ -9,7 +9,6 @@ pub use filling::enter_at;
 pub use filling::enter_name;
 pub use filling::fill_slot;
 pub use filling::free_table;
-pub use filling::lesser;
 pub use filling::name_slot;
 pub use filling::name_table;
 pub use filling::slot_of;
