@@ -25,7 +25,12 @@ pub fn record_of(text: &[u8], work: &mut [u32], buffer: &mut [u8]) -> Answer
 }
 
 // A record is written into `written`, and what was written is read again into `again`: where nothing is refused, that is the record, byte for byte.
-pub fn written_again(source: &[u8], work: &mut [u32], written: &mut [u8], again: &mut [u8]) -> Answer
+pub fn written_again(
+    source: &[u8],
+    work: &mut [u32],
+    written: &mut [u8],
+    again: &mut [u8],
+) -> Answer
     ensures { λ r. ⌜ Written·again (now (source .entry)) (now (work .entry)) (now (work .exit)) (now (written .entry)) (now (written .exit)) (now (again .entry)) (now (again .exit)) r ⌝ }
 {
     match write(source, written) {
