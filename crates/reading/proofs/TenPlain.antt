@@ -5,7 +5,7 @@ use Rattle.emit.proofs.DecimalMade.{decimal-snoc}
 use Rattle.emit.proofs.DigitsStored.{digits-most}
 use Rattle.emit.proofs.PutLaws.{puts-sets}
 use Rattle.emit.specs.Puts.{Puts, last·place, puts}
-use Rattle.lexer.proofs.Basics.{all-four, and-left, and-right}
+use Rattle.lexer.proofs.Basics.{all-four, and-assoc, and-left, and-right, and-true}
 use Rattle.lexer.specs.Base.{bytes}
 use Rattle.reading.proofs.CharacterPuts.{bare-ordered, bare-unordered, plain-long, plain-spelled}
 use Rattle.reading.specs.CharactersHeld.{bare·piece, plain·character}
@@ -22,14 +22,6 @@ use mathlib.Core.Path.{_≡_, refl, sym, ap, _∙_}
 use native.Mathlib.Nat.{suc-mul}
 use native.Mathlib.Omega.{arith}
 
-and-assoc : (a b c : Bool) → a && b && c ≡ a && (b && c)
-and-assoc true b c = refl
-and-assoc false b c = refl
-
-and-true : (a : Bool) → a && true ≡ a
-and-true true = refl
-and-true false = refl
-
 -- Whether the rest of ten numbers are this one, behind those that were looked at.
 module _ (work : List ℕ) (number at : ℕ) where
   pub same-turn : (all : Bool) (i : ℕ) → i < 10
@@ -38,7 +30,7 @@ module _ (work : List ℕ) (number at : ℕ) where
   same-turn all i h =
       let left : 10 - i ≡ suc (10 - (i + 1)) = omega arith in
       let next : suc (at + i) ≡ at + (i + 1) = omega arith in
-      rw (left, next) (and-assoc all (eqb (getD work (at + i) 0) number) (all·same work number (at + (i + 1)) (10 - (i + 1))))
+      rw (left, next) (sym (and-assoc all (eqb (getD work (at + i) 0) number) (all·same work number (at + (i + 1)) (10 - (i + 1)))))
 
   pub same-end : (all : Bool) (i : ℕ) → 10 ≤ i → all ≡ all && all·same work number (at + i) (10 - i)
   unfolding all·same
@@ -109,6 +101,7 @@ front-made scratch after tens last fits size first p =
     ∙ ap (λ l. l ++ decimal tens ++ rest) first in
     (rw whole (take-at (bytes "character=" ++ decimal tens) rest last (omega arith)), end)
 
+-- What is put over the rest of the scratch is as long.
 pub bare-least : (o : CharacterOrdering) (behind : List ℕ) → 27 ≤ length (bare·piece o behind)
 unfolding bytes
 bare-least CharacterOrdering.Ordered behind = omega (arith, ap length (bare-ordered CharacterOrdering.Ordered behind refl))
