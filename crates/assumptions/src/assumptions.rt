@@ -16,35 +16,35 @@ use block::{CharacterOrdering, Form, is, punct, skip_newlines};
 use lexer::{Refusal, start_of};
 
 // The type that a word is, or none.
-#[derive(Drop)]
+#[derive(Clone, Copy)]
 pub enum TypeWord {
     Type(CharacterOrdering),
     None,
 }
 
 // The default type, or the refusal of the token with an index.
-#[derive(Drop)]
+#[derive(Clone, Copy)]
 pub enum OptionsAnswer {
     Type(CharacterOrdering),
     Refused(Refusal, usize),
 }
 
 // Where a command goes on, or the refusal of the token with an index.
-#[derive(Drop)]
+#[derive(Clone, Copy)]
 pub enum Placed {
     At(usize),
     Refused(Refusal, usize),
 }
 
 // The form that a word is, or none.
-#[derive(Drop)]
+#[derive(Clone, Copy)]
 pub enum FormWord {
     Form(Form),
     None,
 }
 
 // The form of a set and where it goes on, or the refusal of the token with an index.
-#[derive(Drop)]
+#[derive(Clone, Copy)]
 pub enum FormAnswer {
     Form(Form, usize),
     Refused(Refusal, usize),

@@ -25,28 +25,28 @@ use block::{CharacterOrdering, Further, Item, Judged, Range, is, punct};
 use lexer::{Kind, Refusal, kind_at, start_of, text_start};
 
 // The first number of a range, or ALL; or the refusal of the token with an index.
-#[derive(Drop)]
+#[derive(Clone, Copy)]
 pub enum FirstItem {
     Item(Item),
     Refused(Refusal, usize),
 }
 
 // What one part more comes to, or the refusal of the token with an index.
-#[derive(Drop)]
+#[derive(Clone, Copy)]
 pub enum ItemAnswer {
     Further(Further),
     Refused(Refusal, usize),
 }
 
 // Where a list is behind a part or a word, and whether a character was typed twice; or the refusal of the token with an index.
-#[derive(Drop)]
+#[derive(Clone, Copy)]
 pub enum WordAnswer {
     On(Item, bool),
     Refused(Refusal, usize),
 }
 
 // A list has ended: the command goes on at an index, or is judged.
-#[derive(Drop)]
+#[derive(Clone, Copy)]
 pub enum ListAnswer {
     Next(usize),
     Judged(Judged),

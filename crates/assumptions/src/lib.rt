@@ -1,5 +1,7 @@
 // ASSUMPTIONS, after assumptions.rs: OPTIONS, and TYPESET with its lists. What each function means stands in specs/.
 
+#![tactic(auto)]
+
 pub mod assumptions;
 pub mod characters;
 pub mod heads;

@@ -14,7 +14,7 @@ use lexer::{Cursor, Item, Kind, kind_at, next_byte, start_of, text_start};
 
 // What a list goes by: the index of the part's token; whether it is a dash, the mark of a stride, ALL; the number of the character that it names,
 // and the number that it spells, or 0.
-#[derive(Drop)]
+#[derive(Clone, Copy)]
 pub struct Part {
     pub index: usize,
     pub dash: bool,
@@ -25,7 +25,7 @@ pub struct Part {
 }
 
 // The next part of a word, with the cursor behind it, or none.
-#[derive(Drop)]
+#[derive(Clone, Copy)]
 pub enum NextPart {
     Part(Part, Cursor),
     End,

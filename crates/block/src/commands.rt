@@ -8,7 +8,7 @@ ghost use Rattle.lexer.specs.Stored.{range};
 use super::words::{newline, punct};
 
 // What comes next: no command; a `;` with nothing before it; a first word after which no `;` comes; or a command's first word and its `;`.
-#[derive(Drop)]
+#[derive(Clone, Copy)]
 pub enum Cut {
     None,
     Empty(usize),

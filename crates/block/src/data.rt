@@ -1,13 +1,13 @@
 // After data.rs: what kind of matrix a text has, and what one symbol of it is.
 
-#[derive(Drop)]
+#[derive(Clone, Copy)]
 pub enum DataType {
     Standard,
     Dna,
 }
 
 // A state by its index; the states that a code of DNA allows, a bit for each; missing; a gap; or no cell.
-#[derive(Drop)]
+#[derive(Clone, Copy)]
 pub enum Cell {
     State(usize),
     Uncertain(u8),
@@ -17,8 +17,8 @@ pub enum Cell {
 }
 
 // A taxon and a character by their numbers, each counted from 1 on.
-#[derive(Drop)]
+#[derive(Clone, Copy)]
 pub struct TaxonNumber(pub usize);
 
-#[derive(Drop)]
+#[derive(Clone, Copy)]
 pub struct CharacterNumber(pub usize);

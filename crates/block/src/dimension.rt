@@ -3,7 +3,7 @@
 use lexer::Refusal;
 
 // What was declared; a count is 0 where it was not given.
-#[derive(Drop)]
+#[derive(Clone, Copy)]
 pub struct Dimensions {
     pub taxa: u64,
     pub characters: u64,
@@ -11,14 +11,14 @@ pub struct Dimensions {
 }
 
 // The two options that take a value.
-#[derive(Drop)]
+#[derive(Clone, Copy)]
 pub enum Count {
     Taxa,
     Characters,
 }
 
 // Where the command is: at an option, or behind the option with an index, at its `=` or at its value.
-#[derive(Drop)]
+#[derive(Clone, Copy)]
 pub enum Dimensioning {
     Option(Dimensions),
     Equals(Dimensions, Count, usize),
@@ -26,14 +26,14 @@ pub enum Dimensioning {
 }
 
 // Where it is behind one word more, or its refusal.
-#[derive(Drop)]
+#[derive(Clone, Copy)]
 pub enum Dimensioned {
     Mode(Dimensioning),
     Refused(Refusal, usize),
 }
 
 // What the command declares, or its refusal.
-#[derive(Drop)]
+#[derive(Clone, Copy)]
 pub enum Sized {
     Dimensions(Dimensions),
     Refused(Refusal, usize),

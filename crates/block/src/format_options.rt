@@ -16,7 +16,7 @@ use super::words::{is, newline, punct};
 use lexer::{Item, Kind, Refusal, kind_at, next_byte, start_of, text_start};
 
 // What the words of the command say. What was not given is false, or 0; the symbols are those of the token with an index, if there are any.
-#[derive(Drop)]
+#[derive(Clone, Copy)]
 pub struct Options {
     pub data_type: u8,
     pub has_symbols: bool,
@@ -58,7 +58,7 @@ impl Options {
 }
 
 // Where the command is: at an option; behind INTERLEAVE, at its `=` or the next option; or behind the option with an index, at its `=` or value.
-#[derive(Drop)]
+#[derive(Clone, Copy)]
 pub enum Formatting {
     Option(Options),
     Perhaps(Options, usize),
@@ -67,14 +67,14 @@ pub enum Formatting {
 }
 
 // What one word more comes to: the command goes on, or the refusal of the token with an index.
-#[derive(Drop)]
+#[derive(Clone, Copy)]
 pub enum Formatted {
     On(Formatting),
     Refused(Refusal, usize),
 }
 
 // What the command comes to: the options that were given, or the refusal of the token with an index.
-#[derive(Drop)]
+#[derive(Clone, Copy)]
 pub enum FormatAnswer {
     Done(Options),
     Refused(Refusal, usize),

@@ -14,7 +14,7 @@ use super::symbols::{Symbols, given_symbols, sign_or};
 use lexer::lower;
 
 // An option by its word.
-#[derive(Drop)]
+#[derive(Clone, Copy)]
 pub enum Key {
     DataType,
     RespectCase,
@@ -28,7 +28,7 @@ pub enum Key {
 }
 
 // The options that take `=` and a value. INTERLEAVE may do without.
-#[derive(Drop)]
+#[derive(Clone, Copy)]
 pub enum Valued {
     DataType,
     Interleave,
@@ -38,7 +38,7 @@ pub enum Valued {
 }
 
 // How cells are written: of the symbols so many are the states; the gap is 0 where there is none.
-#[derive(Drop)]
+#[derive(Clone, Copy)]
 pub struct Format {
     pub data_type: DataType,
     pub symbols: [u8; 74],
@@ -50,7 +50,7 @@ pub struct Format {
 }
 
 // A state by its index, or none.
-#[derive(Drop)]
+#[derive(Clone, Copy)]
 pub enum Index {
     At(usize),
     None,

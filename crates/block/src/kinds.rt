@@ -1,13 +1,13 @@
 // Kinds of sets, of label commands and of what TYPESET lists, which the definitions and the code share.
 
 // The two kinds of set: uncertain in braces, polymorphic in parentheses.
-#[derive(Drop)]
+#[derive(Clone, Copy)]
 pub enum Bracket {
     Brace,
     Parenthesis,
 }
 
-#[derive(Drop)]
+#[derive(Clone, Copy)]
 pub enum Labelling {
     CharLabels,
     StateLabels,
@@ -15,14 +15,14 @@ pub enum Labelling {
 }
 
 // The two forms of a set: lists of characters for each type, or a type for each character.
-#[derive(Drop)]
+#[derive(Clone, Copy)]
 pub enum Form {
     Standard,
     Vector,
 }
 
 // The characters from first to last, each stride-th.
-#[derive(Drop)]
+#[derive(Clone, Copy)]
 pub struct Range {
     pub first: u64,
     pub last: u64,
@@ -30,7 +30,7 @@ pub struct Range {
 }
 
 // Where a list is: at a first number; behind it (ALL or not), with its token's index; behind its dash; behind the last number; behind its `\`.
-#[derive(Drop)]
+#[derive(Clone, Copy)]
 pub enum Item {
     Number,
     Single(bool, u64, u64, usize),
@@ -40,7 +40,7 @@ pub enum Item {
 }
 
 // What one part more comes to: the list goes on; or a range of it is complete, and it goes on behind that.
-#[derive(Drop)]
+#[derive(Clone, Copy)]
 pub enum Further {
     On(Item),
     Past(Range, Item),

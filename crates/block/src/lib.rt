@@ -1,6 +1,8 @@
 // Tokens to a reading, or the refusal of the first fault: the definitions of the blocks, the types that they share, and the code of words, commands,
 // DIMENSIONS, names and FORMAT. What each function means stands in specs/.
 
+#![tactic(auto)]
+
 pub mod alignment;
 pub mod commands;
 pub mod data;
@@ -26,7 +28,7 @@ pub use names::unique_names;
 pub use words::{alike, count_words, is, named, newline, number, punct};
 
 // A judgement: nothing is wrong, or the refusal of the token with an index.
-#[derive(Drop)]
+#[derive(Clone, Copy)]
 pub enum Judged {
     Good,
     Refused(Refusal, usize),

@@ -1,6 +1,6 @@
 // After model.rs: whether the states of a character are ordered.
 
-#[derive(Drop)]
+#[derive(Clone, Copy)]
 pub enum CharacterOrdering {
     Unordered,
     Ordered,

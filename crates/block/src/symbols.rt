@@ -15,7 +15,7 @@ use super::formats::Format;
 use lexer::{Cursor, Item, blank_byte, lower, next_byte, start_of, text_start};
 
 // So many symbols from the front; a count of 75 says that there are more than 74.
-#[derive(Drop)]
+#[derive(Clone, Copy)]
 pub struct Symbols {
     pub bytes: [u8; 74],
     pub count: usize,

@@ -4,7 +4,7 @@ ghost use Rattle.std.specs.Prelude.{◌<◌, length};
 ghost use Rattle.cases.specs.Framed.{Framed};
 
 // A question, at the front of the space, with its length; or none: at the end of the file, within a frame, or for a longer one.
-#[derive(Drop)]
+#[derive(Clone, Copy)]
 pub enum Frame {
     Question(usize),
     End,

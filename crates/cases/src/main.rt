@@ -1,6 +1,8 @@
 // Asks each question of the file `questions`: a text is read and a record written, with several buffers, and a name looked up in a record. Prints every
 // answer and every byte of the buffers, with a line `--` between two questions. A question stands behind its length, four bytes, little-endian.
 
+#![tactic(auto)]
+
 mod frames;
 mod lookups;
 mod printing;

@@ -7,7 +7,7 @@ use record::Answer;
 use write::write;
 
 // Which call is made: a text is read, or a record is written.
-#[derive(Drop)]
+#[derive(Clone, Copy)]
 pub enum Call {
     Read,
     Write,

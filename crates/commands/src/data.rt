@@ -29,14 +29,14 @@ use labels::{LabelCommand, LabelCommands};
 use lexer::Refusal;
 
 // The data of the open block after a command, or its refusal.
-#[derive(Drop)]
+#[derive(Clone, Copy)]
 pub enum Declared {
     Data(Data),
     Refused(Refusal, usize),
 }
 
 // Which label command a word is, if it is one.
-#[derive(Drop)]
+#[derive(Clone, Copy)]
 pub enum LabelWord {
     None,
     Labelling(Labelling),

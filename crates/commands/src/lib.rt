@@ -1,5 +1,7 @@
 // The state between two commands, and how blocks begin, what TAXA and the declarations of a data block do to it. What each function means stands in specs/.
 
+#![tactic(auto)]
+
 pub mod blocks;
 pub mod data;
 pub mod map;

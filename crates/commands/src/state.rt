@@ -6,28 +6,28 @@ use labels::LabelCommands;
 use lexer::Refusal;
 
 // Declared names: none, or those of the words from an index up to another.
-#[derive(Drop)]
+#[derive(Clone, Copy)]
 pub enum Names {
     None,
     Words(usize, usize),
 }
 
 // What DIMENSIONS declared, if it was there.
-#[derive(Drop)]
+#[derive(Clone, Copy)]
 pub enum Sizes {
     None,
     Given(Dimensions),
 }
 
 // What FORMAT said, if it was there.
-#[derive(Drop)]
+#[derive(Clone, Copy)]
 pub enum Style {
     None,
     Given(Options),
 }
 
 // A matrix that was read: by which declarations, between which tokens, and how many lines, taxa and characters it has.
-#[derive(Drop)]
+#[derive(Clone, Copy)]
 pub struct Held {
     pub names: Names,
     pub style: Style,
@@ -41,14 +41,14 @@ pub struct Held {
 }
 
 // The matrix, if it was read.
-#[derive(Drop)]
+#[derive(Clone, Copy)]
 pub enum Matrix {
     None,
     Read(Held),
 }
 
 // A data block so far.
-#[derive(Drop)]
+#[derive(Clone, Copy)]
 pub struct Data {
     pub sizes: Sizes,
     pub style: Style,
@@ -59,7 +59,7 @@ pub struct Data {
 
 // Which block is open, with the index of its name: none; TAXA, with its NTAX (0 if not given) and its names; DATA or CHARACTERS; ASSUMPTIONS, with
 // the default type and whether a set was read; TREES.
-#[derive(Drop)]
+#[derive(Clone, Copy)]
 pub enum Phase {
     Outside,
     Taxa(usize, u64, Names),
@@ -69,7 +69,7 @@ pub enum Phase {
 }
 
 // The open block, what an open data block holds, the taxa of the TAXA block, the matrix, and whether ASSUMPTIONS was read.
-#[derive(Drop)]
+#[derive(Clone, Copy)]
 pub struct State {
     pub phase: Phase,
     pub data: Data,
@@ -79,14 +79,14 @@ pub struct State {
 }
 
 // The state after a command, or its refusal.
-#[derive(Drop)]
+#[derive(Clone, Copy)]
 pub enum Stepped {
     State(State),
     Refused(Refusal, usize),
 }
 
 // What a text comes to: the matrix that was read, or a refusal.
-#[derive(Drop)]
+#[derive(Clone, Copy)]
 pub enum Parsed {
     Held(Held),
     Refused(Refusal, usize),

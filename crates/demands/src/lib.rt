@@ -1,5 +1,7 @@
 // The second and the third demand about the bytes that the calls leave: each function makes the calls on lent memory, and its contract says what comes of them.
 
+#![tactic(auto)]
+
 ghost use Rattle.demands.specs.Again.{WrittenAgain};
 ghost use Rattle.demands.specs.Compare.{Formed, FormsCompared, Tells};
 ghost use Rattle.demands.specs.Right.{RightlyRead};
@@ -11,7 +13,7 @@ use record::Answer;
 use write::write;
 
 // Whether two written forms have the same bytes, or the refusal by which there are not two.
-#[derive(Drop)]
+#[derive(Clone, Copy)]
 pub enum Compared {
     Same,
     Different,

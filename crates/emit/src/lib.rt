@@ -1,6 +1,8 @@
 // Bytes put into a lent buffer, one after another. What has no room is not written, and the place goes on all the same, so that the same calls measure
 // what would be written.
 
+#![tactic(auto)]
+
 ghost use Rattle.std.specs.Prelude.{◌+◌, ◌-◌, ◌/◌, ◌≤◌, min, leb, length, set, ◌∷◌, ◌++◌, ◌≡◌};
 ghost use Rattle.emit.specs.Puts.{Puts, last_place};
 ghost use Rattle.record.specs.Decimal.{digit, decimal};

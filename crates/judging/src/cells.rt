@@ -9,7 +9,7 @@ use super::cell_runs::cells_run;
 use block::CharacterNumber;
 
 // The cells of a row end at a place, and whether a gap is among them; or there are none.
-#[derive(Drop)]
+#[derive(Clone, Copy)]
 pub enum Cells {
     Behind(usize, bool),
     Wrong,
@@ -17,7 +17,7 @@ pub enum Cells {
 
 // What was read of a cell: nothing; a set up to where an index begins that must be at least so large; part of an index, with whether it is a set's, how
 // large it must be at least, and its value so far; or `m` or `g`, which are whole. `Wrong`: no cell begins so.
-#[derive(Drop)]
+#[derive(Clone, Copy)]
 pub enum Mode {
     Fresh,
     Opened(usize),
@@ -27,7 +27,7 @@ pub enum Mode {
 }
 
 // How far a row was read: the next place, what was read of the cell that is open, how many blanks were read, and whether a gap was.
-#[derive(Drop)]
+#[derive(Clone, Copy)]
 pub struct Walk {
     pub at: usize,
     pub mode: Mode,

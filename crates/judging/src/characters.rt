@@ -12,14 +12,14 @@ use block::CharacterNumber;
 use lexer::byte_or_zero;
 
 // Where lines end, and the answer to a question about them, such as whether there is a label; or there are no such lines.
-#[derive(Drop)]
+#[derive(Clone, Copy)]
 pub enum Flag {
     At(usize, bool),
     Wrong,
 }
 
 // Characters end at a place, one of them has a label or a state label or none has, and one is ordered or none is; or there are none.
-#[derive(Drop)]
+#[derive(Clone, Copy)]
 pub enum Characters {
     Behind(usize, bool, bool),
     Wrong,

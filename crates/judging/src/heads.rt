@@ -13,7 +13,7 @@ use super::symbols::symbols_line;
 use block::{CharacterNumber, DataType, TaxonNumber};
 
 // What the first four lines say: the type of the data, how many taxa and characters, and how many states.
-#[derive(Drop)]
+#[derive(Clone, Copy)]
 pub struct Head {
     pub data_type: DataType,
     pub taxa: TaxonNumber,
@@ -22,7 +22,7 @@ pub struct Head {
 }
 
 // They end at a place, and say this; or there are none.
-#[derive(Drop)]
+#[derive(Clone, Copy)]
 pub enum Headed {
     At(usize, Head),
     Wrong,

@@ -1,5 +1,7 @@
 // A record judged by a walk over its bytes: each part of it is found where it begins, or is none. What each function means stands in specs/.
 
+#![tactic(auto)]
+
 mod cell_runs;
 mod cells;
 mod characters;
@@ -22,7 +24,7 @@ pub use rows::row_lines;
 pub use whole::judge;
 
 // Where a part of a record ends, or that there is none.
-#[derive(Drop)]
+#[derive(Clone, Copy)]
 pub enum Behind {
     At(usize),
     Wrong,
@@ -30,7 +32,7 @@ pub enum Behind {
 
 // What a record has, and where its parts stand: the type of its data; how many taxa, characters and states; where its symbols, its rows and the lines
 // of its characters begin; whether a cell is a gap, whether a character has a label or a state label, and whether one is ordered.
-#[derive(Drop)]
+#[derive(Clone, Copy)]
 pub struct Shape {
     pub data_type: DataType,
     pub taxa: TaxonNumber,
@@ -45,7 +47,7 @@ pub struct Shape {
 }
 
 // What bytes are: a record of a shape, or none.
-#[derive(Drop)]
+#[derive(Clone, Copy)]
 pub enum Judged {
     Record(Shape),
     Wrong,

@@ -17,7 +17,7 @@ use lexer::{byte_or_zero, wide_blank};
 
 // What is open behind some bytes of a name: so many bytes of a character, the next of them from low to high; and whether all so far is White_Space
 // with no U+0020 in it.
-#[derive(Drop)]
+#[derive(Clone, Copy)]
 pub struct Naming {
     pub more: u8,
     pub low: u8,

@@ -11,7 +11,7 @@ use super::keys::{bytes_from, key_at};
 use emit::digits_of;
 
 // A number and where its line ends; or there is none.
-#[derive(Drop)]
+#[derive(Clone, Copy)]
 pub enum Number {
     At(usize, usize),
     Wrong,

@@ -17,7 +17,7 @@ use lexer::Refusal;
 
 // Where an entry list is: before its first entry; at the number of a next one; behind the number, or the label, of a character, with the index of the
 // number's token; or in its state labels, with the index behind the token in front of them.
-#[derive(Drop)]
+#[derive(Clone, Copy)]
 pub enum Entry {
     First,
     Next,
@@ -27,7 +27,7 @@ pub enum Entry {
 }
 
 // The list with one word more, or the refusal of the token with an index.
-#[derive(Drop)]
+#[derive(Clone, Copy)]
 pub enum Entered {
     On(Entry),
     Refused(Refusal, usize),

@@ -16,7 +16,7 @@ use block::{CharacterNumber, Judged, Labelling, count_words, named, newline};
 use lexer::Refusal;
 
 // A label command: which it is, the index of its first word, and the index of its end.
-#[derive(Drop)]
+#[derive(Clone, Copy)]
 pub struct LabelCommand {
     pub what: Labelling,
     pub head: usize,
@@ -24,7 +24,7 @@ pub struct LabelCommand {
 }
 
 // The label commands of a block, each of which comes at most once: so many of the three.
-#[derive(Drop)]
+#[derive(Clone, Copy)]
 pub struct LabelCommands {
     pub count: usize,
     pub first: LabelCommand,

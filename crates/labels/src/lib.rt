@@ -1,5 +1,7 @@
 // The three label commands, after mod.rs. What each function means stands in specs/.
 
+#![tactic(auto)]
+
 pub mod entries;
 pub mod labels;
 

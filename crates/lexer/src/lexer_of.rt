@@ -11,7 +11,7 @@ use super::scanning::comment_end;
 use super::{Place, Scan, Symbol};
 
 // A byte of a text, with its line and column.
-#[derive(Drop)]
+#[derive(Clone, Copy)]
 pub struct Position {
     pub at: usize,
     pub line: usize,
@@ -19,21 +19,21 @@ pub struct Position {
 }
 
 // What stands at a byte.
-#[derive(Drop)]
+#[derive(Clone, Copy)]
 pub enum Ahead {
     Symbol(Symbol),
     End,
 }
 
 // Behind a comment, or the place of its mark if it does not end.
-#[derive(Drop)]
+#[derive(Clone, Copy)]
 pub enum Passed {
     Behind(Position),
     Open(Place),
 }
 
 // A text beside a position in it.
-#[derive(Drop)]
+#[derive(Clone, Copy)]
 pub struct Lexer<'a> {
     pub text: &'a [u8],
     pub at: usize,

@@ -1,5 +1,7 @@
 // Bytes to tokens, after lexer.rs. What each function means stands in specs/.
 
+#![tactic(auto)]
+
 mod classes;
 mod label;
 pub mod lexer_of;
@@ -21,7 +23,7 @@ pub use scanning::{ends_word, word_stop, word_stop_by};
 pub use token::{kind_at, next_byte, plain_run, start_of, text_start};
 
 // The class of a byte by itself, one for each of the 256.
-#[derive(Drop)]
+#[derive(Clone, Copy)]
 pub enum Class {
     Newline,
     Blank,
@@ -33,7 +35,7 @@ pub enum Class {
 }
 
 // A byte in its context: what the lexer goes by.
-#[derive(Drop)]
+#[derive(Clone, Copy)]
 pub enum Symbol {
     Newline,
     Return,
@@ -48,7 +50,7 @@ pub enum Symbol {
 }
 
 // What the lexer is inside of, between two bytes. A comment's number is how many more comments are open around it.
-#[derive(Drop)]
+#[derive(Clone, Copy)]
 pub enum Mode {
     Between,
     Word,
@@ -60,7 +62,7 @@ pub enum Mode {
 }
 
 // What a token is. The last two stand at the end of a text that leaves a quote or a comment open.
-#[derive(Drop)]
+#[derive(Clone, Copy)]
 pub enum Kind {
     Word,
     Quoted,
@@ -72,28 +74,28 @@ pub enum Kind {
 }
 
 // A place in a text: lines and columns count from 1; a refusal without a place is at 0, 0.
-#[derive(Drop)]
+#[derive(Clone, Copy)]
 pub struct Place {
     pub line: usize,
     pub column: usize,
 }
 
 // What lexing a text answers: the count of its tokens, whose starts stand in work memory, or why there is none.
-#[derive(Drop)]
+#[derive(Clone, Copy)]
 pub enum Lexed {
     Tokens(usize),
     Refused(Refusal, Place),
 }
 
 // Where something that a mark opens has ended, or where the mark of a comment stands that does not end.
-#[derive(Drop)]
+#[derive(Clone, Copy)]
 pub enum Scan {
     At(usize),
     Open(usize),
 }
 
 // What stands at a byte between two tokens: something to pass over, or a token, and where it goes on; or the mark of what does not end.
-#[derive(Drop)]
+#[derive(Clone, Copy)]
 pub enum Step {
     Skip(usize),
     Token(usize),
@@ -102,21 +104,21 @@ pub enum Step {
 }
 
 // What storing the starts of a text's tokens comes to: their count, or the refusal of what stays open, with its opening mark.
-#[derive(Drop)]
+#[derive(Clone, Copy)]
 pub enum Walk {
     Done(usize),
     Open(Refusal, usize),
 }
 
 // A place in the text of a token, and a mode by the token's kind: `Between` for a mark, and a comment where nothing is left of the text.
-#[derive(Drop)]
+#[derive(Clone, Copy)]
 pub struct Cursor {
     pub at: usize,
     pub mode: Mode,
 }
 
 // The next byte of a token's text, or none.
-#[derive(Drop)]
+#[derive(Clone, Copy)]
 pub enum Item {
     Byte(u8, Cursor),
     End,

@@ -10,7 +10,7 @@ use super::classes::{entry_of, plain, symbol_at};
 use super::{Scan, Symbol};
 
 // A place in a comment, and how many more comments are open there.
-#[derive(Drop)]
+#[derive(Clone, Copy)]
 pub struct Nesting {
     pub at: usize,
     pub depth: usize,

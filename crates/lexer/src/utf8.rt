@@ -5,7 +5,7 @@ ghost use Rattle.lexer.specs.ByteBlocks.{is_ascii, all_first, blocks_end};
 ghost use Rattle.lexer.specs.Utf8.{utf8, after_lead, ascii_end};
 
 // What follows a byte: so many bytes of the same character, the next of them from low to high.
-#[derive(Drop)]
+#[derive(Clone, Copy)]
 pub struct Follow {
     pub more: u8,
     pub low: u8,

@@ -6,7 +6,7 @@ use block::{CharacterNumber, TaxonNumber};
 use naming::{cells_begin, cells_end, name_alike, name_begin, next_row};
 
 // Where the cells of a row begin and end, or that there is no such row.
-#[derive(Drop)]
+#[derive(Clone, Copy)]
 pub enum Sought {
     At(usize, usize),
     None,

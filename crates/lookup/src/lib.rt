@@ -1,5 +1,7 @@
 // The lookup call: a taxon's cells by its name, as the very bytes of the caller's record. What each function means stands in specs/.
 
+#![tactic(auto)]
+
 mod find;
 
 ghost use Rattle.lookup.specs.Finding.{LookedUp, LookupCall, refused_as};
@@ -10,7 +12,7 @@ use judging::{Judged, judge};
 use lexer::{Refusal, refusal_number};
 
 // The lookup's answer in numbers: the refusal's, or 0; the first byte of the cells and how many bytes they take, each 0 where they are refused.
-#[derive(Drop)]
+#[derive(Clone, Copy)]
 pub struct Looked {
     pub number: u32,
     pub start: usize,

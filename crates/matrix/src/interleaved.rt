@@ -17,7 +17,7 @@ use slots::{Table, name_table};
 
 // A page so far, by its shape: is it the first; how many rows it has; how many cells each row has from earlier pages; and its width, 0 before its
 // first line.
-#[derive(Drop)]
+#[derive(Clone, Copy)]
 pub struct Pages {
     pub first: bool,
     pub row: usize,
@@ -26,14 +26,14 @@ pub struct Pages {
 }
 
 // What a line comes to: the page behind it, or the refusal of the token with an index.
-#[derive(Drop)]
+#[derive(Clone, Copy)]
 pub enum Lined {
     Page(Pages),
     Refused(Refusal, usize),
 }
 
 // What the tokens of a line behind its name come to: so many cells, or the refusal of the token with an index.
-#[derive(Drop)]
+#[derive(Clone, Copy)]
 pub enum LineCells {
     Count(usize),
     Refused(Refusal, usize),

@@ -1,5 +1,7 @@
 // MATRIX, after matrix.rs: its rows, sequential or interleaved, and their declared order. What each function means stands in specs/.
 
+#![tactic(auto)]
+
 pub mod cells;
 pub mod chunks;
 pub mod index;

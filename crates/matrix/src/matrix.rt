@@ -19,35 +19,35 @@ use lexer::Refusal;
 use slots::{Table, name_table};
 
 // What the symbols of a word come to: how many cells, and whether all are states; or one of them is no symbol.
-#[derive(Drop)]
+#[derive(Clone, Copy)]
 pub enum Cells {
     Some(usize, bool),
     Wrong,
 }
 
 // A row so far: how many cells it has; and where a set is open, its kind, the index of its opening mark, and whether it is empty.
-#[derive(Drop)]
+#[derive(Clone, Copy)]
 pub enum Chunk {
     Plain(usize),
     Within(usize, Bracket, usize, bool),
 }
 
 // A row with one token more, or the refusal of the token with an index.
-#[derive(Drop)]
+#[derive(Clone, Copy)]
 pub enum Chunked {
     Row(Chunk),
     Refused(Refusal, usize),
 }
 
 // Where a sequential matrix is: between two rows; or in a row, with the index of its name.
-#[derive(Drop)]
+#[derive(Clone, Copy)]
 pub enum Sequence {
     Between,
     Inside(usize, Chunk),
 }
 
 // What a word of it comes to: it goes on; or the row whose name has an index is full; or the refusal of the token with an index.
-#[derive(Drop)]
+#[derive(Clone, Copy)]
 pub enum Turned {
     On(Sequence),
     Full(usize),
@@ -55,21 +55,21 @@ pub enum Turned {
 }
 
 // How many cells a row has behind some words, and the index of the next.
-#[derive(Drop)]
+#[derive(Clone, Copy)]
 pub struct Passed {
     pub cells: usize,
     pub next: usize,
 }
 
 // What one word or more come to, and the index behind them.
-#[derive(Drop)]
+#[derive(Clone, Copy)]
 pub struct Turn {
     pub turned: Turned,
     pub next: usize,
 }
 
 // Rows that are stored, so many; or the refusal of the token with an index.
-#[derive(Drop)]
+#[derive(Clone, Copy)]
 pub enum Rows {
     Done(usize),
     Refused(Refusal, usize),

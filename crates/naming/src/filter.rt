@@ -12,7 +12,7 @@ use block::{CharacterNumber, TaxonNumber};
 use slots::{Table, free_table};
 
 // What sifting names comes to: how many suspects were entered; or that two names are alike; or that there are more suspects than there is room for.
-#[derive(Drop)]
+#[derive(Clone, Copy)]
 pub enum Sifted {
     Suspects(TaxonNumber),
     Twice,
@@ -20,7 +20,7 @@ pub enum Sifted {
 }
 
 // What comparing the names of rows comes to: all differ, or two are alike, or there are too many suspects to tell.
-#[derive(Drop)]
+#[derive(Clone, Copy)]
 pub enum Compared {
     Differ,
     Twice,

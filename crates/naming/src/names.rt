@@ -19,7 +19,7 @@ use lexer::start_of;
 use slots::{Table, fill_slot, free_table, slot_of};
 
 // What entering the names of rows comes to: where the rows behind them begin, or that two are alike.
-#[derive(Drop)]
+#[derive(Clone, Copy)]
 pub enum Entered {
     Behind(usize),
     Twice,

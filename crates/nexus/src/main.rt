@@ -1,5 +1,7 @@
 // The program: it reads standard input, at most 1,024 bytes, and prints the record of that text, or the number, line and column of its refusal.
 
+#![tactic(auto)]
+
 ghost use Rattle.nexus.specs.Inputs.{Within};
 ghost use Rattle.nexus.specs.Printing.{InFront};
 ghost use Rattle.record.specs.Demands.{refusal_lines};
@@ -43,7 +45,7 @@ fn prints(input: &[u8], out: &mut [u8]) -> usize
 }
 
 // What reading comes to: so many bytes, or a read that failed.
-#[derive(Drop)]
+#[derive(Clone, Copy)]
 enum Input {
     Bytes(usize),
     Failed,

@@ -1,5 +1,7 @@
 // The calls for programs in other languages.
 
+#![tactic(auto)]
+
 ghost use Rattle.nexus_c.specs.Exports.{LookupExported, ReadExported, WriteExported};
 
 use lexer::refusal_number;

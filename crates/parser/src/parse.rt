@@ -15,7 +15,7 @@ use commands::{Matrix, Names, Parsed, Phase, State, Stepped, no_data};
 use lexer::Refusal;
 
 // The state behind the next command and the index behind that; or its refusal.
-#[derive(Drop)]
+#[derive(Clone, Copy)]
 pub enum Turned {
     State(State, usize),
     Refused(Refusal, usize),

@@ -22,7 +22,7 @@ use lexer::Refusal;
 use matrix::{Rows, arrange, rows_of};
 
 // What the matrix is to be: how many taxa and characters; or a refusal of the command.
-#[derive(Drop)]
+#[derive(Clone, Copy)]
 pub enum MatrixShape {
     Counts(TaxonNumber, CharacterNumber),
     Refused(Refusal),

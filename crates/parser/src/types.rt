@@ -22,7 +22,7 @@ use commands::{Held, Matrix, Phase, State, Stepped, map_fits, types_place};
 use lexer::Refusal;
 
 // Where the types of a set are stored: from a place on, so many. Or there is no room for them.
-#[derive(Drop)]
+#[derive(Clone, Copy)]
 pub enum Room {
     At(usize, usize),
     Short,

@@ -1,5 +1,7 @@
 // The read call: the record of a text, or its refusal with number and place.
 
+#![tactic(auto)]
+
 ghost use Rattle.std.specs.Prelude.{◌≤◌, length, get_or, true, ◌≡◌};
 ghost use Rattle.commands.specs.WorkMap.{map_fits};
 ghost use Rattle.lexer.specs.Places.{place};

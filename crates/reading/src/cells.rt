@@ -20,7 +20,7 @@ use lexer::{
 use matrix::sets::set_closes;
 
 // A row that is put: the next place, whether a cell was put, and how many cells are lacking.
-#[derive(Drop)]
+#[derive(Clone, Copy)]
 pub struct Putting {
     pub at: usize,
     pub started: bool,
@@ -28,7 +28,7 @@ pub struct Putting {
 }
 
 // A row behind the cells of a run, and where the run goes on.
-#[derive(Drop)]
+#[derive(Clone, Copy)]
 pub struct Ran {
     pub row: Putting,
     pub next: usize,

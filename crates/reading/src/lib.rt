@@ -1,5 +1,7 @@
 // The record of a text, put into a lent buffer from what work memory holds. What each function means stands in specs/.
 
+#![tactic(auto)]
+
 pub mod cells;
 pub mod characters;
 pub mod label_lines;

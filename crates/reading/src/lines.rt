@@ -20,14 +20,14 @@ use lexer::start_of;
 use matrix::sets::set_closes;
 
 // The set that is open in a row: none, or one of a kind.
-#[derive(Drop)]
+#[derive(Clone, Copy)]
 pub enum Open {
     None,
     Set(Bracket),
 }
 
 // A row that is put word by word: its cells so far, the set that is open, and an index above all states of that set.
-#[derive(Drop)]
+#[derive(Clone, Copy)]
 pub struct Walk {
     pub row: Putting,
     pub opened: Open,
@@ -35,7 +35,7 @@ pub struct Walk {
 }
 
 // A row behind one word or several, and the index of the next.
-#[derive(Drop)]
+#[derive(Clone, Copy)]
 pub struct Step {
     pub walk: Walk,
     pub next: usize,

@@ -1,9 +1,11 @@
 // Reading to record and back, the written form and the lookup. The answers of the calls; what they are stands in specs/.
 
+#![tactic(auto)]
+
 use lexer::{Place, Refusal};
 
 // What a call that writes into a lent buffer answers: how many bytes it wrote, or why none.
-#[derive(Drop)]
+#[derive(Clone, Copy)]
 pub enum Answer {
     Length(usize),
     Refused(Refusal, Place),

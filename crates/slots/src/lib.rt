@@ -1,6 +1,8 @@
 // A table in work memory by which a name is found among others: each name has a slot in it where the search begins, the same for names that are alike,
 // and its number stands there or behind. What each function means stands in specs/.
 
+#![tactic(auto)]
+
 pub mod filling;
 pub mod hashes;
 pub mod trie;
@@ -11,7 +13,7 @@ pub use filling::{
 pub use trie::name_entry;
 
 // A table: where it begins, at how many slots a search can begin, and where it ends.
-#[derive(Drop)]
+#[derive(Clone, Copy)]
 pub struct Table {
     pub base: usize,
     pub size: usize,
@@ -19,7 +21,7 @@ pub struct Table {
 }
 
 // What a trie has for a name: a value, none, or nothing that is known.
-#[derive(Drop)]
+#[derive(Clone, Copy)]
 pub enum Entry {
     Unknown,
     None,

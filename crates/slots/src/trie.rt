@@ -13,21 +13,21 @@ use super::hashes::blank_for;
 use lexer::{Cursor, Item, lower, next_byte, start_of, text_start};
 
 // A letter of a name and the cursor behind it.
-#[derive(Drop)]
+#[derive(Clone, Copy)]
 pub struct Letter {
     pub code: usize,
     pub next: Cursor,
 }
 
 // Where a letter leads: to the link behind its node; or, where no node has it, to the last link, at which one would be put.
-#[derive(Drop)]
+#[derive(Clone, Copy)]
 pub enum Branch {
     Behind(usize),
     Last(usize),
 }
 
 // Where a name leads: to the link behind all its letters, or to a link where the rest of them, behind a cursor, would be entered.
-#[derive(Drop)]
+#[derive(Clone, Copy)]
 pub enum Reach {
     Whole(usize),
     Part(usize, Cursor),

@@ -1,5 +1,7 @@
 // The write call: the written form of a record, or its refusal.
 
+#![tactic(auto)]
+
 ghost use Rattle.write.specs.Call.{FormDelivered, WriteCall};
 
 use judging::{Judged, Shape, judge};

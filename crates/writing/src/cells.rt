@@ -9,7 +9,7 @@ use emit::put;
 use lexer::{byte_or_zero, entry_of};
 
 // A sign that was read, and the next place.
-#[derive(Drop)]
+#[derive(Clone, Copy)]
 pub struct Sign {
     pub sign: u8,
     pub at: usize,

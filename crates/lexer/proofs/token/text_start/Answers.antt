@@ -1,0 +1,21 @@
+-- The function `text_start` meets its contract: the front of the token's text, by the symbol of its first byte. Assumes nothing.
+use Rattle.lexer.proofs.TokenParts.{front-newline, front-single, front-double, front-word, front-mark, front-past}
+use Rattle.lexer.proofs.token.text_start.Goals as goal
+
+pub returns-then-text-start : goal.returns-then-text-start
+returns-then-text-start c = front-past _ _ c.if-text-start.true
+
+pub returns-in-Newline : goal.returns-in-Newline
+returns-in-Newline c = front-newline _ _ c.if-text-start.false _ c.symbol_at.ensures c.in-Newline.is
+
+pub returns-in-Single : goal.returns-in-Single
+returns-in-Single c = front-single _ _ c.if-text-start.false _ c.symbol_at.ensures c.in-Single.is
+
+pub returns-in-Double : goal.returns-in-Double
+returns-in-Double c = front-double _ _ c.if-text-start.false _ c.symbol_at.ensures c.in-Double.is
+
+pub returns-in-Other : goal.returns-in-Other
+returns-in-Other c = front-word _ _ c.if-text-start.false _ c.symbol_at.ensures c.in-Other.is
+
+pub returns-in_default : goal.returns-in_default
+returns-in_default c = front-mark _ _ c.if-text-start.false _ c.symbol_at.ensures c.in_default.in_default-own.keys5
