@@ -26,7 +26,6 @@ mod ClassLaws
 mod CommentBlocks
 mod EndTurns
 mod FirstBytes
-mod HeldText
 mod MarkLaws
 mod PlaceLaws
 mod QuotedBytes

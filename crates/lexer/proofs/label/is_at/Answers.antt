@@ -1,4 +1,5 @@
 -- The function `is_at` meets its contract: only a word is a keyword, and it begins with the keyword's first byte. Assumes nothing.
+use borrow.Enum.Refused.{opened}
 use Rattle.lexer.proofs.FirstBytes.{key-first}
 use Rattle.lexer.proofs.KindTags.{tags-other}
 use Rattle.lexer.proofs.NextBytes.{front-left}
@@ -22,4 +23,4 @@ returns-in-Word c =
 
 pub returns-in_default : goal.returns-in_default
 unfolding is word_at
-returns-in_default c = rw (← c.kind_at.ensures, tags-other _ c.in_default.in_default-own.keys2)
+returns-in_default c = rw (← c.kind_at.ensures, tags-other _ (opened c.in_default.in_default-own.keys2))

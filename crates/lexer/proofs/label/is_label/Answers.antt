@@ -1,4 +1,5 @@
 -- The function `is_label` meets its contract: a word or single-quoted text that is not all blank, and so one whose first byte is plain. Assumes nothing.
+use borrow.Enum.Refused.{opened}
 use Rattle.lexer.proofs.KindTags.{tags-named, tags-nameless}
 use Rattle.lexer.proofs.LabelLaws.{label-given}
 use Rattle.lexer.proofs.NextBytes.{front-left}
@@ -19,4 +20,4 @@ returns-in-Word c =
 
 pub returns-in_default : goal.returns-in_default
 unfolding word_at
-returns-in_default c = rw (label-given, ← c.kind_at.ensures, tags-nameless _ c.in_default.in_default-own.keys2)
+returns-in_default c = rw (label-given, ← c.kind_at.ensures, tags-nameless _ (opened c.in_default.in_default-own.keys2))

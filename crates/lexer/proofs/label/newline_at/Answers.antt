@@ -1,4 +1,5 @@
 -- The function `newline_at` meets its contract: LF is a newline, and besides it only CR can be. Assumes nothing.
+use borrow.Enum.Refused.{opened}
 use Rattle.lexer.proofs.FirstBytes.{line-feed, line_first}
 use Rattle.lexer.proofs.KindTags.{tags-unended}
 use Rattle.lexer.specs.Words.{is_line_end}
@@ -17,4 +18,4 @@ unfolding is_line_end
 returns-in-Newline c = rw (← c.kind_at.ensures, c.in-Newline.is)
 
 pub returns-in_default : goal.returns-in_default
-returns-in_default c = rw (← c.kind_at.ensures, tags-unended _ c.in_default.in_default-own.keys2)
+returns-in_default c = rw (← c.kind_at.ensures, tags-unended _ (opened c.in_default.in_default-own.keys2))

@@ -1,4 +1,5 @@
 -- The function `punct_at` meets its contract: another byte is not the mark. Assumes nothing.
+use borrow.Enum.Refused.{opened}
 use Rattle.lexer.proofs.FirstBytes.{mark-first}
 use Rattle.lexer.proofs.KindTags.{tags-unmarked}
 use Rattle.lexer.specs.Lexing.{word_at}
@@ -15,4 +16,4 @@ returns-in-Punctuation c = rw (← c.kind_at.ensures, c.in-Punctuation.is)
 
 pub returns-in_default : goal.returns-in_default
 unfolding punct word_at
-returns-in_default c = rw (← c.kind_at.ensures, tags-unmarked _ _ c.in_default.in_default-own.keys2)
+returns-in_default c = rw (← c.kind_at.ensures, tags-unmarked _ _ (opened c.in_default.in_default-own.keys2))

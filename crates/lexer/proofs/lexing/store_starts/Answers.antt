@@ -5,6 +5,10 @@ use mathlib.Core.Path.{sym, ◌∙◌}
 use native.Mathlib.Omega.{arith}
 use Rattle.lexer.proofs.lexing.store_starts.Goals as goal
 
+-- a pair as the clauses of the contract
+both : {A B : Type 0} → A × B → record { answer : A; stored : B }
+both p = record { answer = p.0; stored = p.1 }
+
 pub loop-i-init : goal.loop-i-init
 loop-i-init c = rw c.first_byte-i.ensures (storing-start _ _ c.requires.1)
 
@@ -43,17 +47,17 @@ shape_of-work-in-Quote c = c.loop-i.invariant.kept
 
 pub returns-in-Quote : goal.returns-in-Quote
 returns-in-Quote c =
-    storing-open _ _ _ _ _ c.loop-i.invariant _ _ (step-quote _ _ _ c.loop-i-test.true (sym c.token_step.ensures ∙ c.in-Quote.is))
+    both (storing-open _ _ _ _ _ c.loop-i.invariant _ _ (step-quote _ _ _ c.loop-i-test.true (sym c.token_step.ensures ∙ c.in-Quote.is)))
 
 pub shape_of-work-in-Comment : goal.shape_of-work-in-Comment
 shape_of-work-in-Comment c = c.loop-i.invariant.kept
 
 pub returns-in-Comment : goal.returns-in-Comment
 returns-in-Comment c =
-    storing-open _ _ _ _ _ c.loop-i.invariant _ _ (step-comment _ _ _ c.loop-i-test.true (sym c.token_step.ensures ∙ c.in-Comment.is))
+    both (storing-open _ _ _ _ _ c.loop-i.invariant _ _ (step-comment _ _ _ c.loop-i-test.true (sym c.token_step.ensures ∙ c.in-Comment.is)))
 
 pub shape_of-work : goal.shape_of-work
 shape_of-work c = c.loop-i.invariant.kept
 
 pub returns : goal.returns
-returns c = storing-end _ _ _ _ _ c.loop-i.invariant c.loop-i-test.false
+returns c = both (storing-end _ _ _ _ _ c.loop-i.invariant c.loop-i-test.false)

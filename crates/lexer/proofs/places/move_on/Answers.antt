@@ -1,4 +1,5 @@
 -- The function move_on meets its contract. Assumes nothing.
+use borrow.Enum.Refused.{opened}
 use Prim.Native.Nat.{ℕ, ◌+◌}
 use Rattle.lexer.specs.contracts.Symbol.{the_type}
 use Rattle.lexer.specs.Base.{pick}
@@ -44,4 +45,4 @@ unfolding move pick rank is_newline is_return is_part
 returns-in-Part c = sym (ap (move c.args.p) c.in-Part.is)
 
 pub returns-in_default : goal.returns-in_default
-returns-in_default c = column c.args.p c.args.s c.in_default.in_default-own.keys4
+returns-in_default c = column c.args.p c.args.s (opened c.in_default.in_default-own.keys4)

@@ -1,3 +1,4 @@
+use borrow.Enum.Refused.{opened}
 use Prim.Native.Nat.{◌-◌}
 use Rattle.lexer.proofs.SymbolTags.{tags-continue, tags-stop}
 use Rattle.lexer.proofs.WordBlocks.{word_next, plain-ahead, wording-start, wording-blocks, wording-skips}
@@ -42,7 +43,7 @@ returns-in-Open-comment_end c =
 
 pub returns-in_default : goal.returns-in_default
 returns-in_default c =
-    sym (word_over _ _ c.loop-i-test.true _ c.symbol_at.ensures (tags-stop _ c.in_default.in_default-own.keys3)) ∙ c.loop-i.invariant.rest
+    sym (word_over _ _ c.loop-i-test.true _ c.symbol_at.ensures (tags-stop _ (opened c.in_default.in_default-own.keys3))) ∙ c.loop-i.invariant.rest
 
 pub returns : goal.returns
 returns c = sym (word-last _ _ c.loop-i-test.false) ∙ c.loop-i.invariant.rest

@@ -1,3 +1,4 @@
+use borrow.Enum.Refused.{opened}
 use Prim.Native.Nat.{◌-◌}
 use Rattle.lexer.proofs.ClassLaws.{plain-symbol}
 use Rattle.lexer.proofs.SymbolTags.{tags-continue, tags-stop}
@@ -35,7 +36,7 @@ returns-in-Open-comment_end c =
 
 pub returns-in_default : goal.returns-in_default
 returns-in_default c =
-    sym (item-over _ _ c.loop-i-test.true _ c.symbol_at.ensures (tags-stop _ c.in_default.in_default-own.keys3)) ∙ c.loop-i.invariant
+    sym (item-over _ _ c.loop-i-test.true _ c.symbol_at.ensures (tags-stop _ (opened c.in_default.in_default-own.keys3))) ∙ c.loop-i.invariant
 
 pub returns : goal.returns
 returns c = sym (item-last _ _ c.loop-i-test.false) ∙ c.loop-i.invariant
