@@ -51,14 +51,14 @@ find-below f b k i (s ∷ r) h =
 
 module _ (f : Format) (good : Good f) where
   -- a cell of DNA that has no gap and is sound beside four symbols
-  four : f.row.data ≡ DataType.Dna → length f.symbols ≡ 4
+  four : f.data_type ≡ DataType.Dna → length f.symbols ≡ 4
   unfolding acgt bytes
   four e = rw (good.dna e) refl
 
-  coded : f.row.data ≡ DataType.Dna → (d c : Cell) → sound_cell 4 c ≡ true → is_gap c ≡ false → some c ≡ some d → Fine f d
+  coded : f.data_type ≡ DataType.Dna → (d c : Cell) → sound_cell 4 c ≡ true → is_gap c ≡ false → some c ≡ some d → Fine f d
   coded e d c s g h = rw (← some_inj h) (record { sound = rw (four e) s; gap_sign = λ p. absurd (false≢true (sym g ∙ p)) })
 
-  code-fine : (b : ℕ) (d : Cell) → f.row.data ≡ DataType.Dna → dna_cell b ≡ some d → Fine f d
+  code-fine : (b : ℕ) (d : Cell) → f.data_type ≡ DataType.Dna → dna_cell b ≡ some d → Fine f d
   unfolding dna_cell dna_letter sound_cell sound_set rising is_gap is_empty
   code-fine b d e h =
       let fine : (c : Cell) → sound_cell 4 c ≡ true → is_gap c ≡ false → some c ≡ some d → Fine f d = coded e d in
@@ -86,18 +86,18 @@ module _ (f : Format) (good : Good f) where
       let l = find-below f b 0 i f.symbols e in
       rw (← some_inj h) (record { sound = lt-ltb i (length f.symbols) (omega arith); gap_sign = λ p. absurd (false≢true p) })
 
-  symbol-fine : (t : DataType) (b : ℕ) (d : Cell) → f.row.data ≡ t → state_or_code t f b ≡ some d → Fine f d
+  symbol-fine : (t : DataType) (b : ℕ) (d : Cell) → f.data_type ≡ t → state_or_code t f b ≡ some d → Fine f d
   unfolding state_or_code
   symbol-fine DataType.Standard b d e h = state-fine b d (state_of f b) refl h
   symbol-fine DataType.Dna b d e h = code-fine b d e h
 
   gap-fine : (g : Option ℕ) (b : ℕ) (d : Cell) → f.gap ≡ g → gap_or f g b ≡ some d → Fine f d
   unfolding gap_or sound_cell is_gap given
-  gap-fine none b d e h = symbol-fine f.row.data b d refl h
+  gap-fine none b d e h = symbol-fine f.data_type b d refl h
   gap-fine (some g) b d e h =
-      pick_some (equal f g b) (some gap) (state_or_code f.row.data f b) d
+      pick_some (equal f g b) (some gap) (state_or_code f.data_type f b) d
       (λ p. rw (← some_inj p) (record { sound = refl; gap_sign = λ q. rw e }))
-      (symbol-fine f.row.data b d refl) h
+      (symbol-fine f.data_type b d refl) h
 
   cell-fine : (b : ℕ) (d : Cell) → cell f b ≡ some d → Fine f d
   unfolding cell sound_cell is_gap

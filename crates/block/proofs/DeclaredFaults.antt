@@ -110,7 +110,7 @@ module _ (R : Faults) where
 
   key-faults : (o : Options) (w : Numbered) (k : Key) → key w ≡ k → FormatFaults R w → Ends R Formed (key_option o w k)
   unfolding key_option valued_key
-  key-faults o w Key.DataType e q = once-faults (given o.row.data) w _ q (q.value (rw e), q.format)
+  key-faults o w Key.DataType e q = once-faults (given o.data_type) w _ q (q.value (rw e), q.format)
   key-faults o w Key.RespectCase e q = once-faults o.respect_case w _ q tt
   key-faults o w Key.Labels e q = once-faults o.labels w _ q tt
   key-faults o w Key.NoTokens e q = once-faults o.no_tokens w _ q tt

@@ -28,7 +28,7 @@ module _ (f : Format) (b : ℕ) where
   missing-cell e = rw e
 
   module _ (m : equal f f.missing b ≡ false) where
-    pub cell-without-gap : f.gap ≡ none → state_or_code f.row.data f b ≡ cell f b
+    pub cell-without-gap : f.gap ≡ none → state_or_code f.data_type f b ≡ cell f b
     unfolding cell gap_or pick
     cell-without-gap e = rw (m, e)
 
@@ -37,7 +37,7 @@ module _ (f : Format) (b : ℕ) where
       unfolding cell gap_or pick equal
       gap-cell t = rw (m, e, t)
 
-      pub cell-beside-gap : equal f g b ≡ false → state_or_code f.row.data f b ≡ cell f b
+      pub cell-beside-gap : equal f g b ≡ false → state_or_code f.data_type f b ≡ cell f b
       unfolding cell gap_or pick state_or_code equal
       cell-beside-gap t = rw (m, e, t)
 
@@ -56,8 +56,8 @@ module _ (f : Format) (P : Option C.Cell → Type 0) (no : P none) (states : (i 
 
     gap-each : (g : Option ℕ) → P (gap_or f g b)
     unfolding gap_or
-    gap-each none = code-each f.row.data
-    gap-each (some g) = chosen P (equal f g b) (λ _. gaps) (λ _. code-each f.row.data)
+    gap-each none = code-each f.data_type
+    gap-each (some g) = chosen P (equal f g b) (λ _. gaps) (λ _. code-each f.data_type)
 
     pub cell-each : P (cell f b)
     unfolding cell

@@ -23,4 +23,4 @@ sound-few DataType.Standard l h = leb-true (length l) 73 (all-four (leb 2 (lengt
 sound-few DataType.Dna l h = omega (arith, ap length (same_true l acgt h))
 
 pub format-few : (i : ℕ) (ws : List Numbered) (f : Format) → format i ws ≡ done f → length f.symbols ≤ 73
-format-few i ws f h = sound-few f.row.data f.symbols ((format-good i ws f h).symbols false (λ e. absurd (false≢true e)))
+format-few i ws f h = sound-few f.data_type f.symbols ((format-good i ws f h).symbols false (λ e. absurd (false≢true e)))

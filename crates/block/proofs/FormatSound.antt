@@ -110,8 +110,8 @@ end-signed (value o k i) u p h = refused-done Refusal.NoValue i u h
 -- What holds of a format that is read.
 pub record Good (f : Format) : Type 0 where
   -- its symbols are those of a record, whatever cells occur
-  pub symbols : (gaps : Bool) → (gaps ≡ true → given f.gap ≡ true) → sound_symbols f.row.data f.symbols gaps ≡ true
-  pub dna : f.row.data ≡ DataType.Dna → f.symbols ≡ acgt
+  pub symbols : (gaps : Bool) → (gaps ≡ true → given f.gap ≡ true) → sound_symbols f.data_type f.symbols gaps ≡ true
+  pub dna : f.data_type ≡ DataType.Dna → f.symbols ≡ acgt
 
 valid-test : ℕ → Bool
 valid-test b = not (valid_symbol b) || among b valid_symbols
@@ -217,7 +217,7 @@ judged-good : (i : ℕ) (o : Options) (f : Format) → Signed o → judged i o �
 unfolding judged format_of
 judged-good i o f p h =
     let q = pick-when (good_symbols o (format_of o)) Refusal.Symbols i (done (format_of o)) f h in
-    rw (← done_inj q.1) (settled-good (get_or o.row.data DataType.Standard) o p q.0)
+    rw (← done_inj q.1) (settled-good (get_or o.data_type DataType.Standard) o p q.0)
 
 no-signs : Signed no_options
 unfolding no_options options
@@ -237,6 +237,6 @@ pub default-good : Good default_format
 unfolding run_text default_format
 default-good = record { symbols = sound; dna = λ e. absurd (let z : ◌≡◌ {A = ℕ} 0 1 = cc in omega arith) }
   where
-    sound : (gaps : Bool) → (gaps ≡ true → given default_format.gap ≡ true) → sound_symbols default_format.row.data default_format.symbols gaps ≡ true
+    sound : (gaps : Bool) → (gaps ≡ true → given default_format.gap ≡ true) → sound_symbols default_format.data_type default_format.symbols gaps ≡ true
     sound true g = refl
     sound false g = refl

@@ -28,7 +28,7 @@ module _ (o : Options) (g : Format) where
   few-symbols : good_symbols o g ≡ true → length g.symbols ≤ 74
   unfolding good_symbols
   few-symbols h =
-      let allowed = dna_options g.row.data o g && leb 2 (length g.symbols) in
+      let allowed = dna_options g.data_type o g && leb 2 (length g.symbols) in
       let valid = and_right allowed (all_valid g.symbols) (and_left (allowed && all_valid g.symbols) (all_differ g (signs g g.gap)) h) in
       let differ = and_right (allowed && all_valid g.symbols) (all_differ g (signs g g.gap)) h in
       at-most-74 g.symbols valid (states-distinct g g.gap differ)
@@ -36,6 +36,6 @@ module _ (o : Options) (g : Format) where
   pub too-many : 74 < length g.symbols → false ≡ good_symbols o g
   too-many h = by-test (good_symbols o g) (λ t. absurd (omega (arith, few-symbols t))) sym
 
-  pub all-good : (f : Format) → f ≡ g → dna_options f.row.data o f && leb 2 (length f.symbols) && all_valid f.symbols && all_differ f (signs f f.gap) ≡ good_symbols o g
+  pub all-good : (f : Format) → f ≡ g → dna_options f.data_type o f && leb 2 (length f.symbols) && all_valid f.symbols && all_differ f (signs f f.gap) ≡ good_symbols o g
   unfolding good_symbols
   all-good f e = rw e

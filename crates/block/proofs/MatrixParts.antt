@@ -103,7 +103,7 @@ pub record Parts (d : Data) (h : Numbered) (raw : List Numbered) (r : Reading) :
   pub follows : Follows d.taxa taken taxa
   pub labelled : List Labelled
   pub labels : apply_labels (length shape.format.symbols) shape.characters d.labels ≡ done labelled
-  pub is : record { data_type = shape.format.row.data; symbols = shape.format.symbols; taxa = taxa; characters = unordered labelled } ≡ r
+  pub is : record { data_type = shape.format.data_type; symbols = shape.format.symbols; taxa = taxa; characters = unordered labelled } ≡ r
 
 pub matrix-parts : (d : Data) (h : Numbered) (raw : List Numbered) (r : Reading) → matrix d h raw ≡ done r → Parts d h raw r
 unfolding matrix matrix_reading

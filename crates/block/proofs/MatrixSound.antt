@@ -44,13 +44,13 @@ pub record Untyped (N : List ℕ → Type 0) (r : Reading) : Type 0 where
   pub characters_few : leb (length r.characters) largest ≡ true
   pub rows_long : all_long (length r.characters) r.taxa ≡ true
   pub cells_sound : sound_rows (length r.symbols) r.taxa ≡ true
-  pub symbols_sound : sound_symbols r.row.data r.symbols (gap_in r.taxa) ≡ true
+  pub symbols_sound : sound_symbols r.data_type r.symbols (gap_in r.taxa) ≡ true
   pub names_each : All N (names r.taxa)
   pub names_unlike : names_differ (names r.taxa) ≡ true
   pub labels_each : All N (label_texts r.characters)
   pub states_few : few_states (length r.symbols) r.characters ≡ true
 
-pub typed-sound : (r : Reading) → Untyped SoundName r → orderable r.row.data r.characters ≡ true → Sound r
+pub typed-sound : (r : Reading) → Untyped SoundName r → orderable r.data_type r.characters ≡ true → Sound r
 typed-sound r u o =
     sound-parts r u.some_taxon u.some_character u.taxa_few u.characters_few u.rows_long u.cells_sound u.symbols_sound (all_sound (names r.taxa) u.names_each) u.names_unlike (labels-names r.characters ∙ all_sound (label_texts r.characters) u.labels_each) u.states_few o
 

@@ -25,7 +25,7 @@ use native.Mathlib.Omega.{arith}
 record Final (s : State) (r : Reading) : Type 0 where
   closed : s.phase ≡ outside
   matrix : s.matrix ≡ some r
-  orderable : orderable r.row.data r.characters ≡ true
+  orderable : orderable r.data_type r.characters ≡ true
 
 -- The state that the commands of these tokens lead to.
 record Leads (ws : List Numbered) (r : Reading) : Type 0 where
@@ -37,7 +37,7 @@ matrix-final : (header : ℕ) (s : State) (m : Option Reading) (r : Reading) →
 unfolding matrix_read final
 matrix-final header s none r at is e = refused-done Refusal.Absent header r e
 matrix-final header s (some m) r at is e =
-    let k = pick-when (orderable m.row.data m.characters) Refusal.OrderedDna header (done m) r e in
+    let k = pick-when (orderable m.data_type m.characters) Refusal.OrderedDna header (done m) r e in
     rw (← done_inj k.1) (record { closed = at; matrix = is; orderable = k.0 })
 
 finish-final : (header : ℕ) (s : State) (p : Phase) (r : Reading) → s.phase ≡ p → finish_in header s p ≡ done r → Final s r
@@ -78,7 +78,7 @@ pub record Finished (text : List ℕ) (r : Reading) : Type 0 where
   pub reached : fold step at_start (commands_of text) ≡ done state
   pub closed : state.phase ≡ outside
   pub matrix : state.matrix ≡ some r
-  pub orderable : orderable r.row.data r.characters ≡ true
+  pub orderable : orderable r.data_type r.characters ≡ true
 
 pub read-finished : (text : List ℕ) (r : Reading) → read text ≡ reading r → Finished text r
 unfolding read parse pick read_tokens commands_of

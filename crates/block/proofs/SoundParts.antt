@@ -74,9 +74,9 @@ symbols-each DataType.Dna symbols true h = let e = same_true symbols acgt h in r
 symbols-each DataType.Dna symbols false h = let e = same_true symbols acgt h in record { valid = rw e; different = rw e; two = rw e; few = rw e; dna = h }
 
 module _ (r : Reading) where
-  pub symbols-sound : Sound r → sound_symbols r.row.data r.symbols (gap_in r.taxa) ≡ true
+  pub symbols-sound : Sound r → sound_symbols r.data_type r.symbols (gap_in r.taxa) ≡ true
   unfolding sound_symbols dna_symbols
-  symbols-sound s = go r.row.data s.symbols_dna
+  symbols-sound s = go r.data_type s.symbols_dna
     where
       go : (t : DataType) → dna_symbols t r.symbols ≡ true → sound_symbols t r.symbols (gap_in r.taxa) ≡ true
       go DataType.Standard h = and_both (and_both (and_both s.symbols_two s.symbols_most) s.symbols_valid) s.symbols_different
@@ -94,11 +94,11 @@ module _ (r : Reading) where
   -- The conditions, from the tests.
   pub sound-parts : is_empty r.taxa ≡ false → is_empty r.characters ≡ false → leb (length r.taxa) largest ≡ true
       → leb (length r.characters) largest ≡ true → all_long (length r.characters) r.taxa ≡ true
-      → sound_rows (length r.symbols) r.taxa ≡ true → sound_symbols r.row.data r.symbols (gap_in r.taxa) ≡ true
+      → sound_rows (length r.symbols) r.taxa ≡ true → sound_symbols r.data_type r.symbols (gap_in r.taxa) ≡ true
       → sound_names (names r.taxa) ≡ true → names_differ (names r.taxa) ≡ true → sound_labels r.characters ≡ true
-      → few_states (length r.symbols) r.characters ≡ true → orderable r.row.data r.characters ≡ true → Sound r
+      → few_states (length r.symbols) r.characters ≡ true → orderable r.data_type r.characters ≡ true → Sound r
   sound-parts taxon character taxa characters long cells symbols named unlike labelled few ordered =
-      let s = symbols-each r.row.data r.symbols (gap_in r.taxa) symbols in
+      let s = symbols-each r.data_type r.symbols (gap_in r.taxa) symbols in
       let n = names-texts (names r.taxa) named in
       let l = names-texts (label_texts r.characters) (sym (labels-names r.characters) ∙ labelled) in
       record {

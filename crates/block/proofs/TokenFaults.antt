@@ -55,7 +55,7 @@ module _ (text : List ℕ) where
       matrix-faults : (m : Option Reading) → e.state.matrix ≡ m → Ends (Told text) Any (matrix_read w.index m)
       unfolding matrix_read final
       matrix-faults none at = refuses (at_token w token (no_matrix e at header nexus))
-      matrix-faults (some r) at = either (Told text) (orderable r.row.data r.characters) (λ o. gives tt) (λ o. refuses (at_token w token (ordered_dna e at o header nexus)))
+      matrix-faults (some r) at = either (Told text) (orderable r.data_type r.characters) (λ o. gives tt) (λ o. refuses (at_token w token (ordered_dna e at o header nexus)))
 
       finish-faults : (p : Phase) → e.state.phase ≡ p → Opened text p → Ends (Told text) Any (finish_in w.index e.state p)
       unfolding finish_in open_name

@@ -137,7 +137,7 @@ matrix_reading d sh raw =
     then (rows sh raw) (λ taken.
     then (in_order sh.head d.taxa taken) (λ taxa.
     then (apply_labels (length sh.format.symbols) sh.characters d.labels) (λ cs.
-    done (record { data_type = sh.format.row.data; symbols = sh.format.symbols; taxa = taxa; characters = unordered cs }))))
+    done (record { data_type = sh.format.data_type; symbols = sh.format.symbols; taxa = taxa; characters = unordered cs }))))
 
 -- What the matrix is to be, by what was declared before it.
 unfoldable pub matrix_shape : Data → Dimensions → ℕ → Outcome Shape
@@ -247,7 +247,7 @@ retyped o (t ∷ ts) (c ∷ cs) = record { label = c.label; states = c.states; o
 unfoldable pub with_types : Option CharacterOrdering → Option Types → Reading → Reading
 with_types default set r =
     record {
-      data_type = r.row.data;
+      data_type = r.data_type;
       symbols = r.symbols;
       taxa = r.taxa;
       characters = retyped (get_or default CharacterOrdering.Unordered) (get_or set []) r.characters;
@@ -325,7 +325,7 @@ orderable DataType.Standard cs = true
 orderable DataType.Dna cs = not (has_ordered cs)
 
 unfoldable pub final : ℕ → Reading → Outcome Reading
-final header r = pick (orderable r.row.data r.characters) (done r) (refused Refusal.OrderedDna header)
+final header r = pick (orderable r.data_type r.characters) (done r) (refused Refusal.OrderedDna header)
 
 unfoldable pub matrix_read : ℕ → Option Reading → Outcome Reading
 matrix_read header none = refused Refusal.Absent header

@@ -29,8 +29,8 @@ state_or_code DataType.Standard f b = state_cell (state_of f b)
 state_or_code DataType.Dna f b = dna_cell b
 
 unfoldable pub gap_or : Format → Option ℕ → ℕ → Option Cell
-gap_or f none b = state_or_code f.row.data f b
-gap_or f (some g) b = let other = state_or_code f.row.data f b in pick (equal f g b) (some gap) other
+gap_or f none b = state_or_code f.data_type f b
+gap_or f (some g) b = let other = state_or_code f.data_type f b in pick (equal f g b) (some gap) other
 
 -- The cell of one symbol: missing and gap are tried first.
 unfoldable pub cell : Format → ℕ → Option Cell

@@ -278,7 +278,7 @@ pub data MayStandAt (text : List ℕ) : Refusal → Numbered → Type 0 where
   -- 28: a word behind TYPESET
   character_list : {w : Numbered} → LaterWord text (is (bytes "TYPESET")) w → MayStandAt text Refusal.CharacterList w
   -- 29: #NEXUS, where no command is refused and DNA has an ordered character
-  ordered_dna : {w : Numbered} {r : Reading} (e : ComesToEnd text) → e.state.matrix ≡ some r → orderable r.row.data r.characters ≡ false → Header text w → is (bytes "#NEXUS") w ≡ true → MayStandAt text Refusal.OrderedDna w
+  ordered_dna : {w : Numbered} {r : Reading} (e : ComesToEnd text) → e.state.matrix ≡ some r → orderable r.data_type r.characters ≡ false → Header text w → is (bytes "#NEXUS") w ≡ true → MayStandAt text Refusal.OrderedDna w
 
 -- Where reading stops, with this number at the token of this index: at the first token; at a command, the first that is refused; or at the end.
 pub data Stops (text : List ℕ) : Refusal → ℕ → Type 0 where

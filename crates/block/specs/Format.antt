@@ -63,25 +63,25 @@ unfoldable pub with_type : DataType → Options → Options
 with_type t o = options (some t) o.symbols o.missing o.gap o.interleave o.respect_case o.labels o.no_tokens
 
 unfoldable pub with_symbols : List ℕ → Options → Options
-with_symbols s o = options o.row.data (some s) o.missing o.gap o.interleave o.respect_case o.labels o.no_tokens
+with_symbols s o = options o.data_type (some s) o.missing o.gap o.interleave o.respect_case o.labels o.no_tokens
 
 unfoldable pub with_missing : ℕ → Options → Options
-with_missing b o = options o.row.data o.symbols (some b) o.gap o.interleave o.respect_case o.labels o.no_tokens
+with_missing b o = options o.data_type o.symbols (some b) o.gap o.interleave o.respect_case o.labels o.no_tokens
 
 unfoldable pub with_gap : ℕ → Options → Options
-with_gap b o = options o.row.data o.symbols o.missing (some b) o.interleave o.respect_case o.labels o.no_tokens
+with_gap b o = options o.data_type o.symbols o.missing (some b) o.interleave o.respect_case o.labels o.no_tokens
 
 unfoldable pub with_interleave : Bool → Options → Options
-with_interleave b o = options o.row.data o.symbols o.missing o.gap (some b) o.respect_case o.labels o.no_tokens
+with_interleave b o = options o.data_type o.symbols o.missing o.gap (some b) o.respect_case o.labels o.no_tokens
 
 unfoldable pub with_case : Options → Options
-with_case o = options o.row.data o.symbols o.missing o.gap o.interleave true o.labels o.no_tokens
+with_case o = options o.data_type o.symbols o.missing o.gap o.interleave true o.labels o.no_tokens
 
 unfoldable pub with_labels : Options → Options
-with_labels o = options o.row.data o.symbols o.missing o.gap o.interleave o.respect_case true o.no_tokens
+with_labels o = options o.data_type o.symbols o.missing o.gap o.interleave o.respect_case true o.no_tokens
 
 unfoldable pub with_no_tokens : Options → Options
-with_no_tokens o = options o.row.data o.symbols o.missing o.gap o.interleave o.respect_case o.labels true
+with_no_tokens o = options o.data_type o.symbols o.missing o.gap o.interleave o.respect_case o.labels true
 
 -- Where the command is: at an option; behind INTERLEAVE, at its `=` or the next option; or behind the option with an index, at its `=` or value.
 pub data Formatting : Type 0 where
@@ -108,7 +108,7 @@ key w =
     Key.Unknown)))))))
 
 unfoldable pub key_option : Options → Numbered → Key → Outcome Formatting
-key_option o w Key.DataType = once (given o.row.data) w (equals o Valued.DataType w.index)
+key_option o w Key.DataType = once (given o.data_type) w (equals o Valued.DataType w.index)
 key_option o w Key.RespectCase = once o.respect_case w (option (with_case o))
 key_option o w Key.Labels = once o.labels w (option (with_labels o))
 key_option o w Key.NoTokens = once o.no_tokens w (option (with_no_tokens o))
@@ -190,7 +190,7 @@ settled DataType.Dna o =
     }
 
 unfoldable pub format_of : Options → Format
-format_of o = settled (get_or o.row.data DataType.Standard) o
+format_of o = settled (get_or o.data_type DataType.Standard) o
 
 -- DNA takes neither RESPECTCASE nor SYMBOLS other than ACGT, no code but N for missing, and no code for the gap.
 unfoldable pub dna_options : DataType → Options → Format → Bool
@@ -222,7 +222,7 @@ signs f (some g) = g ∷ f.missing ∷ f.symbols
 -- May the symbols stand together?
 unfoldable pub good_symbols : Options → Format → Bool
 good_symbols o f =
-    dna_options f.row.data o f && leb 2 (length f.symbols) && all_valid f.symbols && all_differ f (signs f f.gap)
+    dna_options f.data_type o f && leb 2 (length f.symbols) && all_valid f.symbols && all_differ f (signs f f.gap)
 
 unfoldable pub judged : ℕ → Options → Outcome Format
 judged i o = let f = format_of o in pick (good_symbols o f) (done f) (refused Refusal.Symbols i)

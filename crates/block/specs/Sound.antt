@@ -137,7 +137,7 @@ pub record Sound (r : Reading) : Type 0 where
   pub symbols_different : distinct r.symbols ≡ true
   pub symbols_two : leb 2 (length r.symbols) ≡ true
   pub symbols_most : leb (length r.symbols) (most_symbols (gap_in r.taxa)) ≡ true
-  pub symbols_dna : dna_symbols r.row.data r.symbols ≡ true
+  pub symbols_dna : dna_symbols r.data_type r.symbols ≡ true
   -- names are UTF-8, hold no `_` and no CR, and are blank-only only with a U+0020
   pub names_utf8 : each utf8 (names r.taxa) ≡ true
   pub names_underscore : each no_underscore (names r.taxa) ≡ true
@@ -153,7 +153,7 @@ pub record Sound (r : Reading) : Type 0 where
   -- at most as many state labels as symbols
   pub states_few : few_states (length r.symbols) r.characters ≡ true
   -- DNA has no ordered character
-  pub dna_unordered : orderable r.row.data r.characters ≡ true
+  pub dna_unordered : orderable r.data_type r.characters ≡ true
 
 -- The same as a test.
 unfoldable pub sound : Reading → Bool
@@ -164,9 +164,9 @@ sound r =
     && leb (length r.characters) largest
     && all_long (length r.characters) r.taxa
     && sound_rows (length r.symbols) r.taxa
-    && sound_symbols r.row.data r.symbols (gap_in r.taxa)
+    && sound_symbols r.data_type r.symbols (gap_in r.taxa)
     && sound_names (names r.taxa)
     && names_differ (names r.taxa)
     && sound_labels r.characters
     && few_states (length r.symbols) r.characters
-    && orderable r.row.data r.characters
+    && orderable r.data_type r.characters

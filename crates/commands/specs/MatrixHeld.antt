@@ -40,7 +40,7 @@ module _ (text work : List ℕ) (count : ℕ) where
   untyped_held h =
       let f = format_held text (take count work) h.style in
       record {
-        data_type = f.row.data;
+        data_type = f.data_type;
         symbols = f.symbols;
         taxa = order_held text (take count work) work (order_place count h.lines h.taxa) h.taxa h.names (rows_of h);
         characters = unordered (labels_held text work (labels_place count h.lines h.taxa) h.characters);

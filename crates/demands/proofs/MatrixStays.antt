@@ -113,14 +113,14 @@ shape-format m = (matrix-shaped m.block_data m.dimensions m.head.index m.shape m
 
 -- Data type and symbols of a format.
 pub record Of (f : Format) (r : Reading) : Type 0 where
-  pub data_type : r.row.data ≡ f.row.data
+  pub data_type : r.data_type ≡ f.data_type
   pub symbols : r.symbols ≡ f.symbols
 
 pub format-followed : (text : List ℕ) (r : Reading) → read text ≡ reading r → (m : MatrixOf (commands_of text)) → Of m.shape.format r
 unfolding with_types
 format-followed text r h m =
-    matrix-stays (Of m.shape.format) (λ x default set o. record { data_type = o.row.data; symbols = o.symbols }) text r h m
+    matrix-stays (Of m.shape.format) (λ x default set o. record { data_type = o.data_type; symbols = o.symbols }) text r h m
     (λ x e.
     let p = matrix-parts m.block_data m.head m.raw x e in
     let same : p.shape.format ≡ m.shape.format = p.shaped.formatted ∙ sym (shape-format m) in
-    record { data_type = ap (λ y. y.row.data) (sym p.is) ∙ ap (λ f. f.row.data) same; symbols = ap (λ y. y.symbols) (sym p.is) ∙ ap (λ f. f.symbols) same })
+    record { data_type = ap (λ y. y.data_type) (sym p.is) ∙ ap (λ f. f.data_type) same; symbols = ap (λ y. y.symbols) (sym p.is) ∙ ap (λ f. f.symbols) same })

@@ -63,7 +63,7 @@ pub record RightReading (text : List ℕ) (s : Reading) : Type 0 where
   -- the format by which its rows are read, that of the FORMAT command before it in its block, or the default; and the data type and the symbols,
   -- in their order, are those of this format
   pub formatted : Formatted matrix.before matrix.block matrix.shape.format
-  pub data_type : s.row.data ≡ matrix.shape.format.row.data
+  pub data_type : s.data_type ≡ matrix.shape.format.data_type
   pub symbols : s.symbols ≡ matrix.shape.format.symbols
   -- there are as many characters as its NCHAR says, and each row has exactly so many cells
   pub characters : length s.characters ≡ matrix.dimensions.characters

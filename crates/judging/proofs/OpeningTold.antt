@@ -378,9 +378,9 @@ module _ (b : List ℕ) (i : ℕ) (r : Flag)
       (λ p g. line-behind "datatype=" (type_word (typed p.0)) (lines p.1) ∙ ap (λ l. l ++ lines p.1) (spells p.0))
       (λ p g. record { taxa = g.1.0; characters = g.1.1.0; symbols = g.1.1.1 })
       (λ p g. refl)
-      (λ o g. made o g (type-made o.row.data))
+      (λ o g. made o g (type-made o.data_type))
     where
-      made : (o : Opening) → OpeningGood o → (x : Bool) × (o.row.data ≡ typed x)
+      made : (o : Opening) → OpeningGood o → (x : Bool) × (o.data_type ≡ typed x)
           → (p : Bool × Lines) × (Unit {0} × GoodBehind (typed p.0) p.1) × (o ≡ opened (typed p.0) p.1.0 p.1.1)
       made o g (x, is) = (
         (x, (o.taxa, (o.characters, o.symbols))),

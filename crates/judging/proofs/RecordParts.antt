@@ -46,7 +46,7 @@ module _ (b : List ℕ) where
   module _ (i : ℕ) (h : Head) (told : OpeningTold b 0 (Headed.At i h)) where
     -- What they say of a reading's record, and where they end.
     pub record Begun (r : Reading) : Type 0 where
-      pub typed : h.data_type ≡ r.row.data
+      pub typed : h.data_type ≡ r.data_type
       pub taxa : h.taxa.0 ≡ length r.taxa
       pub characters : h.characters.0 ≡ length r.characters
       pub states : h.states ≡ length r.symbols
@@ -58,7 +58,7 @@ module _ (b : List ℕ) where
     begun r reads =
         let (end, is) = same-told (told.all (opening r) (behind r) (opening-good r reads.sound reads.counted) (opening-stands b r reads)) in
         record {
-          typed = ap (λ (s : Sizes). s.row.data) is;
+          typed = ap (λ (s : Sizes). s.data_type) is;
           taxa = ap (λ (s : Sizes). s.taxa) is;
           characters = ap (λ (s : Sizes). s.characters) is;
           states = ap (λ (s : Sizes). s.states) is;
@@ -114,7 +114,7 @@ module _ (b : List ℕ) where
           (λ r reads.
           let at = begun r reads in
           let (_, gap) = rows_end r reads in
-          not-both (ap (λ g. g && ltb 72 h.states) gap ∙ ap (λ n. gap_in r.taxa && ltb 72 n) at.states ∙ symbols-room r.row.data r.symbols (gap_in r.taxa) (symbols-sound r reads.sound)) many)
+          not-both (ap (λ g. g && ltb 72 h.states) gap ∙ ap (λ n. gap_in r.taxa && ltb 72 n) at.states ∙ symbols-room r.data_type r.symbols (gap_in r.taxa) (symbols-sound r reads.sound)) many)
 
       -- Names are alike.
       pub judged-alike : NamesJudged b i h.taxa.0 h.characters.0 false → RecordJudged b Judged.Wrong
@@ -148,7 +148,7 @@ module _ (b : List ℕ) where
       unfolding headed_of opening_sizes sound_symbols most_symbols acgt bytes
       few-states =
           let (s, is) = told.found i _ refl in
-          omega (arith, few s.what.row.data s.what.symbols s.sound.symbols, ap (λ (z : Sizes). z.states) is)
+          omega (arith, few s.what.data_type s.what.symbols s.sound.symbols, ap (λ (z : Sizes). z.states) is)
         where
           few : (t : DataType) (l : List ℕ) → sound_symbols t l false ≡ true → length l ≤ 73
           few DataType.Standard l g =
@@ -204,4 +204,4 @@ module _ (b : List ℕ) where
             unordered : (r : Reading) → Reads b r → order && dna ≡ false
             unordered r reads =
                 ap (λ d. order && d) same ∙ ap (λ o. o && is_dna h.data_type) (ended r reads).order-told ∙ ap (λ t. has_ordered r.characters && is_dna t) (begun r reads).typed
-                ∙ dna-unordered r.row.data r.characters reads.sound.dna_unordered
+                ∙ dna-unordered r.data_type r.characters reads.sound.dna_unordered

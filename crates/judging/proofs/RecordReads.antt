@@ -63,7 +63,7 @@ judged-shape b s r reads shape = record { found = found; none = λ e. absurd (sh
 
 -- What the first four lines of a reading's record say.
 abbrev pub opening : Reading → Opening
-opening r = record { data_type = r.row.data; taxa = length r.taxa; characters = length r.characters; symbols = r.symbols }
+opening r = record { data_type = r.data_type; taxa = length r.taxa; characters = length r.characters; symbols = r.symbols }
 
 -- What stands behind them.
 abbrev pub behind : Reading → List ℕ
@@ -72,18 +72,18 @@ behind r = spell_taxa r.taxa (spell_characters 1 r.characters [])
 pub head-spelled : (r : Reading) (rest : List ℕ) → spell_head r rest ≡ spell_opening (opening r) ++ rest
 unfolding spell_head spell_opening
 head-spelled r rest =
-    let typed = line "datatype=" (type_word r.row.data) in
+    let typed = line "datatype=" (type_word r.data_type) in
     let taxa = line "taxa=" (decimal (length r.taxa)) in
     let characters = line "characters=" (decimal (length r.characters)) in
     let symbols = line "symbols=" r.symbols in
     ap (λ l. typed (taxa (characters l))) (line-append "symbols=" r.symbols [] rest)
     ∙ ap (λ l. typed (taxa l)) (line-append "characters=" (decimal (length r.characters)) (symbols []) rest)
     ∙ ap typed (line-append "taxa=" (decimal (length r.taxa)) (characters (symbols [])) rest)
-    ∙ line-append "datatype=" (type_word r.row.data) (taxa (characters (symbols []))) rest
+    ∙ line-append "datatype=" (type_word r.data_type) (taxa (characters (symbols []))) rest
 
 -- What stands in front of the symbols.
 abbrev pub front : Opening → List ℕ
-front o = line "datatype=" (type_word o.row.data) (line "taxa=" (decimal o.taxa) (line "characters=" (decimal o.characters) (bytes "symbols=")))
+front o = line "datatype=" (type_word o.data_type) (line "taxa=" (decimal o.taxa) (line "characters=" (decimal o.characters) (bytes "symbols=")))
 
 pub opening-front : (o : Opening) → spell_opening o ≡ front o ++ (o.symbols ++ (10 ∷ []))
 unfolding spell_opening line
@@ -91,10 +91,10 @@ opening-front o =
     let rest = o.symbols ++ (10 ∷ []) in
     let characters = line "characters=" (decimal o.characters) in
     let taxa = line "taxa=" (decimal o.taxa) in
-    let typed = line "datatype=" (type_word o.row.data) in
+    let typed = line "datatype=" (type_word o.data_type) in
     ap (λ l. typed (taxa l)) (line-append "characters=" (decimal o.characters) (bytes "symbols=") rest)
     ∙ ap typed (line-append "taxa=" (decimal o.taxa) (characters (bytes "symbols=")) rest)
-    ∙ line-append "datatype=" (type_word o.row.data) (taxa (characters (bytes "symbols="))) rest
+    ∙ line-append "datatype=" (type_word o.data_type) (taxa (characters (bytes "symbols="))) rest
 
 -- Fewer symbols are allowed beside a gap than without.
 symbols-without : (t : DataType) (s : List ℕ) (gaps : Bool) → sound_symbols t s gaps ≡ true → sound_symbols t s false ≡ true
@@ -151,7 +151,7 @@ opening-good r s c =
     record {
       taxa = (c.taxa, le-leb 1 (length r.taxa) (some-length r.taxa s.some_taxon));
       characters = (c.characters, le-leb 1 (length r.characters) (some-length r.characters s.some_character));
-      symbols = symbols-without r.row.data r.symbols (gap_in r.taxa) (symbols-sound r s);
+      symbols = symbols-without r.data_type r.symbols (gap_in r.taxa) (symbols-sound r s);
     }
 
 -- They stand in front.

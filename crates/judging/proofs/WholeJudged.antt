@@ -48,13 +48,13 @@ module _ (b : List ℕ) (i : ℕ) (h : Head) (told : OpeningTold b 0 (Headed.At 
       let (o, sizes) = told.found i _ refl in
       let (ts, gap) = rows_told.found j gaps refl in
       let (cs, marks) = (lines-told b i h told j gaps rows_told end label order x lines is).found end _ refl in
-      reading-made o (ap (λ (z : Sizes). z.row.data) sizes) (ap (λ (z : Sizes). z.taxa) sizes) (ap (λ (z : Sizes). z.characters) sizes) (ap (λ (z : Sizes). z.states) sizes)
+      reading-made o (ap (λ (z : Sizes). z.data_type) sizes) (ap (λ (z : Sizes). z.taxa) sizes) (ap (λ (z : Sizes). z.characters) sizes) (ap (λ (z : Sizes). z.states) sizes)
       ts (gap ∙ rows-gap false ts.what) cs (ap (λ (m : Marks). m.ordered) (marks ∙ characters-marks no_marks cs.what))
     where
       over : drop end b ≡ []
       over = drop_of_length-le b {i = end} (omega (arith, eqb-true end (length b) (not-false (eqb end (length b)) (or_left (not (eqb end (length b))) (order && dna) good))))
 
-      reading-made : (o : Stands b 0 OpeningGood spell_opening i) → h.data_type ≡ o.what.row.data → h.taxa.0 ≡ o.what.taxa → h.characters.0 ≡ o.what.characters
+      reading-made : (o : Stands b 0 OpeningGood spell_opening i) → h.data_type ≡ o.what.data_type → h.taxa.0 ≡ o.what.taxa → h.characters.0 ≡ o.what.characters
           → h.states ≡ length o.what.symbols
           → (ts : Stands b i (Listed (λ k. RowGood h.characters.0 h.states) 1 h.taxa.0) (spelled_all (λ k. spell_row) 1) j) → gaps ≡ gap_in ts.what
           → (cs : Stands b j (Listed (λ k. CharacterGood h.states) 1 h.characters.0) (spelled_all spell_one 1) end) → order ≡ has_ordered cs.what
@@ -62,12 +62,12 @@ module _ (b : List ℕ) (i : ℕ) (h : Head) (told : OpeningTold b 0 (Headed.At 
       reading-made o typed taxa characters states ts gap cs ordered = (r, record { spelled = spelled; sound = sound; counted = counted })
         where
           r : Reading
-          r = record { data_type = o.what.row.data; symbols = o.what.symbols; taxa = ts.what; characters = cs.what }
+          r = record { data_type = o.what.data_type; symbols = o.what.symbols; taxa = ts.what; characters = cs.what }
 
           same-opening : opening r ≡ o.what
           same-opening =
-              ap (λ n. record { data_type = o.what.row.data; taxa = n; characters = length cs.what; symbols = o.what.symbols }) (ts.sound.count ∙ taxa)
-              ∙ ap (λ n. record { data_type = o.what.row.data; taxa = o.what.taxa; characters = n; symbols = o.what.symbols }) (cs.sound.count ∙ characters)
+              ap (λ n. record { data_type = o.what.data_type; taxa = n; characters = length cs.what; symbols = o.what.symbols }) (ts.sound.count ∙ taxa)
+              ∙ ap (λ n. record { data_type = o.what.data_type; taxa = o.what.taxa; characters = n; symbols = o.what.symbols }) (cs.sound.count ∙ characters)
 
           lines-here : drop j b ≡ spell_characters 1 cs.what []
           lines-here = cs.here ∙ ap (λ l. spelled_all spell_one 1 cs.what ++ l) over ∙ sym (characters-spelled 1 cs.what [])
@@ -101,12 +101,12 @@ module _ (b : List ℕ) (i : ℕ) (h : Head) (told : OpeningTold b 0 (Headed.At 
               (small_count cs.what counted.characters)
               long
               (rw (sym states) (rows-cells h.characters.0 h.states 1 ts.what ts.sound.each))
-              (symbols-beside o.what.row.data o.what.symbols (gap_in ts.what) o.sound.symbols (rw (sym gap, sym states) room))
+              (symbols-beside o.what.data_type o.what.symbols (gap_in ts.what) o.sound.symbols (rw (sym gap, sym states) room))
               (rows-names h.characters.0 h.states 1 ts.what ts.sound.each)
               (sym (differ ts.what (spell_characters 1 cs.what []) ts.sound.count stand))
               (characters-labels h.states 1 cs.what cs.sound.each)
               (rw (sym states) (characters-few h.states 1 cs.what cs.sound.each))
-              (unordered-dna o.what.row.data cs.what
+              (unordered-dna o.what.data_type cs.what
               (ap (λ d. has_ordered cs.what && is_dna d) (sym typed) ∙ ap (λ d. has_ordered cs.what && d) (sym same-dna) ∙ ap (λ x. x && dna) (sym ordered) ∙ or_right (not (eqb end (length b))) (order && dna) good))
 
   -- They have its shape.

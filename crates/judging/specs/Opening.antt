@@ -49,11 +49,11 @@ pub record Opening : Type 0 where
 pub record OpeningGood (o : Opening) : Type 0 where
   pub taxa : CountGood o.taxa
   pub characters : CountGood o.characters
-  pub symbols : sound_symbols o.row.data o.symbols false ≡ true
+  pub symbols : sound_symbols o.data_type o.symbols false ≡ true
 
 unfoldable pub spell_opening : Opening → List ℕ
 spell_opening o =
-    line "datatype=" (type_word o.row.data)
+    line "datatype=" (type_word o.data_type)
     (line "taxa=" (decimal o.taxa)
     (line "characters=" (decimal o.characters)
     (line "symbols=" o.symbols [])))
@@ -66,7 +66,7 @@ pub record Sizes : Type 0 where
   pub states : ℕ
 
 unfoldable pub opening_sizes : Opening → Sizes
-opening_sizes o = record { data_type = o.row.data; taxa = o.taxa; characters = o.characters; states = length o.symbols }
+opening_sizes o = record { data_type = o.data_type; taxa = o.taxa; characters = o.characters; states = length o.symbols }
 
 unfoldable pub headed_of : Headed → Part Sizes
 headed_of (Headed.At j h) = until j (record { data_type = h.data_type; taxa = h.taxa.0; characters = h.characters.0; states = h.states })

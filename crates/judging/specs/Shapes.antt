@@ -15,7 +15,7 @@ use Rattle.std.proofs.Math.Option.{none, some}
 pub record ShapeOf (b : List ℕ) (s : Shape) (r : Reading) : Type 0 where
   pub spelled : b ≡ spell r
   pub sound : Sound r
-  pub data_type : s.data_type ≡ r.row.data
+  pub data_type : s.data_type ≡ r.data_type
   pub taxa : s.taxa.0 ≡ length r.taxa
   pub characters : s.characters.0 ≡ length r.characters
   pub states : s.states ≡ length r.symbols

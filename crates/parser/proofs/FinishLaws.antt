@@ -42,17 +42,17 @@ number-dna zero = refl
 number-dna (suc zero) = refl
 number-dna (suc (suc n)) = lt-ltb 1 (suc (suc n)) (omega arith)
 
-settled-type : (t : DataType) (o : F.Options) → (F.settled t o).row.data ≡ t
+settled-type : (t : DataType) (o : F.Options) → (F.settled t o).data_type ≡ t
 unfolding F.settled
 settled-type DataType.Standard o = refl
 settled-type DataType.Dna o = refl
 
 module _ (text front : List ℕ) (style : Style) where
-  pub none-dna : style ≡ Style.None → false ≡ is_dna (format_held text front style).row.data
+  pub none-dna : style ≡ Style.None → false ≡ is_dna (format_held text front style).data_type
   unfolding format_held style_of F.default_format is_dna
   none-dna e = rw e
 
-  pub given-dna : (o : Options) → style ≡ Style.Given o → ltb 1 o.data_type ≡ is_dna (format_held text front style).row.data
+  pub given-dna : (o : Options) → style ≡ Style.Given o → ltb 1 o.data_type ≡ is_dna (format_held text front style).data_type
   unfolding format_held style_of F.format_of options_of F.options
   given-dna o e = rw e (number-dna o.data_type ∙ ap is_dna (sym (settled-type _ _)))
 
@@ -63,16 +63,16 @@ orderable-test DataType.Standard cs = refl
 orderable-test DataType.Dna cs = refl
 
 module _ (header : ℕ) (r : Reading) where
-  good : is_dna r.row.data && has_ordered r.characters ≡ false → done r ≡ final header r
+  good : is_dna r.data_type && has_ordered r.characters ≡ false → done r ≡ final header r
   unfolding final pick
-  good f = rw (orderable-test r.row.data r.characters, f)
+  good f = rw (orderable-test r.data_type r.characters, f)
 
-  bad : is_dna r.row.data && has_ordered r.characters ≡ true → refused Refusal.OrderedDna header ≡ final header r
+  bad : is_dna r.data_type && has_ordered r.characters ≡ true → refused Refusal.OrderedDna header ≡ final header r
   unfolding final pick
-  bad t = rw (orderable-test r.row.data r.characters, t)
+  bad t = rw (orderable-test r.data_type r.characters, t)
 
-module _ (text work : List ℕ) (count : ℕ) (h : Held) (header : ℕ) (dna : Bool) (dna_is : (t w : List ℕ) → dna ≡ is_dna (format_held t w h.style).row.data) where
-  type-held : dna ≡ is_dna (reading_held text work count h).row.data
+module _ (text work : List ℕ) (count : ℕ) (h : Held) (header : ℕ) (dna : Bool) (dna_is : (t w : List ℕ) → dna ≡ is_dna (format_held t w h.style).data_type) where
+  type-held : dna ≡ is_dna (reading_held text work count h).data_type
   unfolding reading_held with_types untyped_held
   type-held = dna_is text (take count work)
 
@@ -83,7 +83,7 @@ module _ (text work : List ℕ) (count : ℕ) (h : Held) (header : ℕ) (dna : B
   module _ (ordered : Bool) (ordered_is : (t : List ℕ) → ordered ≡ has_ordered (reading_held t work count h).characters) where
     pub dna-final : ordered ≡ false → parsed_held text work count (Parsed.Held h) ≡ final header (reading_held text work count h)
     unfolding parsed_held
-    dna-final f = good header (reading_held text work count h) (rw (← ordered_is text, f) (and-false (is_dna (reading_held text work count h).row.data)))
+    dna-final f = good header (reading_held text work count h) (rw (← ordered_is text, f) (and-false (is_dna (reading_held text work count h).data_type)))
 
     pub ordered-final : dna ≡ true → ordered ≡ true → parsed_held text work count (Parsed.Refused Refusal.OrderedDna header) ≡ final header (reading_held text work count h)
     unfolding parsed_held

@@ -84,7 +84,7 @@ held_of d head to lines taxa characters =
 
 -- A reading of these taxa, and of characters with these labels.
 unfoldable pub reading_parts : Format → List Taxon → List L.Labelled → Reading
-reading_parts f taxa cs = record { data_type = f.row.data; symbols = f.symbols; taxa = taxa; characters = unordered cs }
+reading_parts f taxa cs = record { data_type = f.data_type; symbols = f.symbols; taxa = taxa; characters = unordered cs }
 
 -- The order and the labels of a matrix, by its rows.
 unfoldable pub order_labelled : Format → ℕ → ℕ → ℕ → Option (List (List ℕ)) → List L.LabelCommand → List Taxon → Outcome Reading

@@ -30,7 +30,7 @@ symbols-few f n e = omega (arith, length-take f.count f.symbols)
 
 -- All four lines.
 pub head-lines : (f : F.Format) (taxa characters : ℕ) (behind : List ℕ)
-    → line "datatype=" (type_word f.row.data)
+    → line "datatype=" (type_word f.data_type)
     (bytes "taxa=" ++ (decimal taxa ++ (10 ∷ (bytes "characters=" ++ (decimal characters ++ (10 ∷ (bytes "symbols=" ++ (f.symbols ++ (10 ∷ behind)))))))))
     ≡ head_piece f taxa characters behind
 unfolding head_piece line

@@ -11,7 +11,7 @@ use Rattle.record.specs.Spell.{line, spell_characters, spell_head, spell_taxa, t
 -- The first four lines, by the format and the counts.
 unfoldable pub head_piece : Format → ℕ → ℕ → List ℕ → List ℕ
 head_piece f taxa characters behind =
-    line "datatype=" (type_word f.row.data)
+    line "datatype=" (type_word f.data_type)
     (line "taxa=" (decimal taxa)
     (line "characters=" (decimal characters)
     (line "symbols=" f.symbols behind)))

@@ -35,12 +35,12 @@ agree-equal : (r s : Reading) → Agree r s → r ≡ s
 agree-equal r s a =
     let taxa = taxa-agree r.taxa s.taxa a.names a.cells in
     let characters = characters-agree r.characters s.characters a.labels a.states a.types in
-    λ i. record { data_type = a.row.data i; symbols = a.symbols i; taxa = taxa i; characters = characters i }
+    λ i. record { data_type = a.data_type i; symbols = a.symbols i; taxa = taxa i; characters = characters i }
 
 equal-agree : (r s : Reading) → r ≡ s → Agree r s
 equal-agree r s e =
     record {
-      data_type = ap (λ x. x.row.data) e;
+      data_type = ap (λ x. x.data_type) e;
       symbols = ap (λ x. x.symbols) e;
       names = ap (λ x. names x.taxa) e;
       cells = ap (λ x. map (λ (t : Taxon). t.cells) x.taxa) e;

@@ -204,11 +204,11 @@ assumptions-lexed cs =
 form-lexes : (r : Reading) → Sound r → Lexes (form r) (form_tokens r)
 unfolding form form_tokens run_tokens
 form-lexes r s =
-    let signs = signs-valid r.row.data r.symbols (gap_in r.taxa) (symbols-sound r s) in
+    let signs = signs-valid r.data_type r.symbols (gap_in r.taxa) (symbols-sound r s) in
     let end = (end-parts (assumptions-lexed r.characters)).between in
     let rows = rows-lexed signs r.taxa s.cells_sound (names-sound r s) (λ y. y) end in
     let matrix = text-lexed (bytes "MATRIX\n") (key "MATRIX" ∷ newline ∷ []) (λ x. refl) (λ x. refl) rows in
-    let format = format-lexed r.row.data signs (labels-lexed r.characters (labels-sound r s) matrix) in
+    let format = format-lexed r.data_type signs (labels-lexed r.characters (labels-sound r s) matrix) in
     text-lexed (bytes "#NEXUS\nBEGIN DATA;\n")
     (key "#NEXUS" ∷ newline ∷ key "BEGIN" ∷ key "DATA" ∷ mark 59 ∷ newline ∷ [])
     (λ x. refl) (λ x. refl) (dimensions-lexed r format)

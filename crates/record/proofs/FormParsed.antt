@@ -66,7 +66,7 @@ abbrev from_matrix : Reading → List Token
 from_matrix r = key "MATRIX" ∷ matrix_words r (newline ∷ key "END" ∷ mark 59 ∷ newline ∷ assumptions_tokens r.characters)
 
 abbrev from_format : Reading → List Token
-from_format r = format_tokens r.row.data r.symbols (gap_in r.taxa) (labels_tokens r.characters (from_matrix r))
+from_format r = format_tokens r.data_type r.symbols (gap_in r.taxa) (labels_tokens r.characters (from_matrix r))
 
 abbrev from_begin : Reading → List Token
 from_begin r = newline ∷ key "BEGIN" ∷ key "DATA" ∷ mark 59 ∷ newline ∷ dimensions_tokens r (from_format r)
@@ -83,8 +83,8 @@ module _ (r : Reading) (s : Sound r) where
 
   format-to-end : (b : ℕ) → Reads (in_form b (declared (some (counts r)) none [] none)) (from_format r) (last r)
   format-to-end b =
-      rw (format-words r.row.data r.symbols (gap_in r.taxa) (labels_tokens r.characters (from_matrix r)))
-      (format_read b (counts r) r.row.data r.symbols (gap_in r.taxa) (symbols-sound r s)
+      rw (format-words r.data_type r.symbols (gap_in r.taxa) (labels_tokens r.characters (from_matrix r)))
+      (format_read b (counts r) r.data_type r.symbols (gap_in r.taxa) (symbols-sound r s)
       (newline-read (labels-read b (length r.symbols) (counts r) (written_format r) r.characters (leb-true (length r.characters) largest s.characters_few) (labels-sound r s) s.states_few (matrix-to-end b))))
 
   dimensions-to-end : (b : ℕ) → Reads (in_form b (declared none none [] none)) (dimensions_tokens r (from_format r)) (last r)

@@ -144,7 +144,7 @@ dimensions_tokens r behind =
 unfoldable pub form_tokens : Reading → List Token
 form_tokens r =
     key "#NEXUS" ∷ newline ∷ key "BEGIN" ∷ key "DATA" ∷ mark 59 ∷ newline ∷ dimensions_tokens r
-    (format_tokens r.row.data r.symbols (gap_in r.taxa)
+    (format_tokens r.data_type r.symbols (gap_in r.taxa)
     (labels_tokens r.characters
-    (key "MATRIX" ∷ newline ∷ rows_tokens r.row.data r.symbols r.taxa
+    (key "MATRIX" ∷ newline ∷ rows_tokens r.data_type r.symbols r.taxa
     (mark 59 ∷ newline ∷ key "END" ∷ mark 59 ∷ newline ∷ assumptions_tokens r.characters))))

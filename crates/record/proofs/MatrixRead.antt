@@ -34,7 +34,7 @@ use native.Mathlib.Omega.{arith}
 
 -- What the form's format says of the matrix.
 module _ (symbols : List ℕ) (gaps : Bool) where
-  form_type : (t : DataType) → (form_of t symbols gaps).row.data ≡ t
+  form_type : (t : DataType) → (form_of t symbols gaps).data_type ≡ t
   unfolding form_of
   form_type DataType.Standard = refl
   form_type DataType.Dna = refl
@@ -56,13 +56,13 @@ some-length (x ∷ l) h = (length l, refl)
 
 -- The format of the form, what its matrix is to be, and the tokens behind MATRIX.
 abbrev pub written_format : Reading → Format
-written_format r = form_of r.row.data r.symbols (gap_in r.taxa)
+written_format r = form_of r.data_type r.symbols (gap_in r.taxa)
 
 abbrev shape : Reading → ℕ → Shape
 shape r i = record { taxa = length r.taxa; characters = length r.characters; format = written_format r; head = i }
 
 abbrev pub matrix_words : Reading → List Token → List Token
-matrix_words r rest = newline ∷ rows_tokens r.row.data r.symbols r.taxa (mark 59 ∷ rest)
+matrix_words r rest = newline ∷ rows_tokens r.data_type r.symbols r.taxa (mark 59 ∷ rest)
 
 -- The counts of a reading; and its DATA block so far, with its label commands, before and behind the matrix.
 abbrev pub counts : Reading → Dimensions
@@ -83,10 +83,10 @@ module _ (r : Reading) (s : Sound r) where
   rows-read i j rest =
       let all : Turns (sequential_turn (shape r i)) (between []) (matrix_words r rest) (between r.taxa) =
       newline-turned
-      (rows-turned (shape r i) r.row.data r.symbols (gap_in r.taxa) (form-signs r.row.data r.symbols (gap_in r.taxa) (symbols-sound r s)) some-cell r.taxa [] rest s.cells_sound (λ g. g) s.rows_long (names-sound r s) s.names_unlike refl)
+      (rows-turned (shape r i) r.data_type r.symbols (gap_in r.taxa) (form-signs r.data_type r.symbols (gap_in r.taxa) (symbols-sound r s)) some-cell r.taxa [] rest s.cells_sound (λ g. g) s.rows_long (names-sound r s) s.names_unlike refl)
       in
       let raw : List Numbered = up_to_end (numbered j (matrix_words r rest)) in
-      pick_second (written_format r).interleave (interleaved (shape r i) raw) (sequential (shape r i) (words raw)) (form-sequential r.symbols (gap_in r.taxa) r.row.data)
+      pick_second (written_format r).interleave (interleaved (shape r i) raw) (sequential (shape r i) (words raw)) (form-sequential r.symbols (gap_in r.taxa) r.data_type)
       ∙ rw (all.turned j, eqb_same) refl
 
   matrix-value : (i j : ℕ) (rest : List Token) (ls : List LabelCommand) → LabelledBy r ls
@@ -95,7 +95,7 @@ module _ (r : Reading) (s : Sound r) where
   matrix-value i j rest ls labels =
       let (n, taxa) = some-length r.taxa s.some_taxon in
       let some-row : 0 < length r.taxa = omega arith in
-      rw (ne_eqb (length r.characters) 0 (λ e. omega (arith, some-cell)), ne_eqb (length r.taxa) 0 (λ e. omega arith), rows-read i j rest, form-symbols r.symbols (gap_in r.taxa) r.row.data, labels, form_type r.symbols (gap_in r.taxa) r.row.data)
+      rw (ne_eqb (length r.characters) 0 (λ e. omega (arith, some-cell)), ne_eqb (length r.taxa) 0 (λ e. omega arith), rows-read i j rest, form-symbols r.symbols (gap_in r.taxa) r.data_type, labels, form_type r.symbols (gap_in r.taxa) r.data_type)
       refl
 
   pub matrix-read : (b : ℕ) (ls : List LabelCommand) {t : State} {rest : List Token} → LabelledBy r ls
@@ -103,7 +103,7 @@ module _ (r : Reading) (s : Sound r) where
       → Reads (in_form b (with_labels r ls none)) (key "MATRIX" ∷ matrix_words r rest) t
   unfolding words_from step is_outside block_step ends inner_step data_step data_command given with_matrix in_phase
   matrix-read b ls {rest = rest} labels more =
-      command-read (key "MATRIX") refl refl (there newline refl (rows-passes r.row.data r.symbols r.taxa here))
+      command-read (key "MATRIX") refl refl (there newline refl (rows-passes r.data_type r.symbols r.taxa here))
       (λ i. (
         in_form b (with_labels r ls (some (with_characters r (untyped r.characters)))),
         rw (matrix-value i (suc i) rest ls labels) refl,

@@ -45,12 +45,12 @@ test-sound r t =
     ∷ leb (length r.characters) largest
     ∷ all_long (length r.characters) r.taxa
     ∷ sound_rows (length r.symbols) r.taxa
-    ∷ sound_symbols r.row.data r.symbols (gap_in r.taxa)
+    ∷ sound_symbols r.data_type r.symbols (gap_in r.taxa)
     ∷ sound_names (names r.taxa)
     ∷ names_differ (names r.taxa)
     ∷ sound_labels r.characters
     ∷ few_states (length r.symbols) r.characters
-    ∷ orderable r.row.data r.characters
+    ∷ orderable r.data_type r.characters
     ∷ []) t
     in
     sound-parts r (not-true _ e.0) (not-true _ e.1.0) e.1.1.0 e.1.1.1.0 e.1.1.1.1.0 e.1.1.1.1.1.0 e.1.1.1.1.1.1.0 e.1.1.1.1.1.1.1.0 e.1.1.1.1.1.1.1.1.0 e.1.1.1.1.1.1.1.1.1.0 e.1.1.1.1.1.1.1.1.1.1.0 e.1.1.1.1.1.1.1.1.1.1.1.0

@@ -111,7 +111,7 @@ characters-lead h ts done c (b ∷ bs) rest {n} e l =
 
 -- The head
 abbrev head_of : Reading → Head
-head_of r = record { data_type = r.row.data; taxa = length r.taxa; characters = length r.characters; symbols = r.symbols }
+head_of r = record { data_type = r.data_type; taxa = length r.taxa; characters = length r.characters; symbols = r.symbols }
 
 pub some-length : {A : Type 0} (l : List A) → is_empty l ≡ false → 1 ≤ length l
 unfolding is_empty
@@ -127,7 +127,7 @@ head-leads : (r : Reading) (rest : List ℕ) {n : Next} → Sound r → Counted 
     → Leads datatype_line (spell_head r rest) n
 unfolding spell_head line_turn made bind bytes among no_taxa most
 head-leads r rest s c h =
-    let t = r.row.data in
+    let t = r.data_type in
     let n = length r.taxa in
     let k = length r.characters in
     leads-line "datatype=" (type_word t) _ {m = taxa_line t} refl (type-clean t) (rw (value-key "datatype=" (type_word t), type-read))

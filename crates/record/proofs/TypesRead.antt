@@ -109,7 +109,7 @@ typeset-read t cs rest i h e = rw ((typeset-turned t cs rest).turned i) (vector-
 
 -- The state behind the DATA block of a form, and behind its ASSUMPTIONS.
 abbrev pub with_characters : Reading → List Character → Reading
-with_characters r cs = record { data_type = r.row.data; symbols = r.symbols; taxa = r.taxa; characters = cs }
+with_characters r cs = record { data_type = r.data_type; symbols = r.symbols; taxa = r.taxa; characters = cs }
 
 abbrev pub behind_blocks : Reading → Bool → State
 behind_blocks r b = record { phase = outside; taxa = none; matrix = some r; assumptions = b }

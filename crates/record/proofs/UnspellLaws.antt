@@ -52,7 +52,7 @@ taken key dec enc spelled f l b clean h =
 -- The bytes of the lines that led to a line, in front of what stands behind them
 unfoldable head_spelled : Head → List ℕ → List ℕ
 head_spelled h behind =
-    line "datatype=" (type_word h.row.data)
+    line "datatype=" (type_word h.data_type)
     (line "taxa=" (decimal h.taxa)
     (line "characters=" (decimal h.characters)
     (line "symbols=" h.symbols behind)))

@@ -96,7 +96,7 @@ FormsAreReadAgain = (r : Reading) → Sound r → Reads (form r) r
 -- Readings agree if each of these is equal in both: the data type; the symbols in order; the taxa's names and cells; for each character its
 -- label, its state labels and its type. Lists are equal also in length.
 pub record Agree (r s : Reading) : Type 0 where
-  pub data_type : r.row.data ≡ s.row.data
+  pub data_type : r.data_type ≡ s.data_type
   pub symbols : r.symbols ≡ s.symbols
   pub names : names r.taxa ≡ names s.taxa
   pub cells : map (λ (t : Taxon). t.cells) r.taxa ≡ map (λ (t : Taxon). t.cells) s.taxa

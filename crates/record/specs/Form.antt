@@ -132,8 +132,8 @@ unfoldable pub form : Reading → List ℕ
 form r =
     bytes "#NEXUS\nBEGIN DATA;\n"
     ++ form_dimensions r
-    (form_format r.row.data r.symbols (gap_in r.taxa)
+    (form_format r.data_type r.symbols (gap_in r.taxa)
     (form_labels r.characters
     (bytes "MATRIX\n"
-    ++ form_rows r.row.data r.symbols r.taxa
+    ++ form_rows r.data_type r.symbols r.taxa
     (bytes ";\nEND;\n" ++ form_assumptions r.characters []))))

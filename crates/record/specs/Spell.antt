@@ -73,7 +73,7 @@ spell_characters k (c ∷ r) behind = spell_character k c (spell_characters (suc
 -- The record's first four lines.
 unfoldable pub spell_head : Reading → List ℕ → List ℕ
 spell_head r behind =
-    line "datatype=" (type_word r.row.data)
+    line "datatype=" (type_word r.data_type)
     (line "taxa=" (decimal (length r.taxa))
     (line "characters=" (decimal (length r.characters))
     (line "symbols=" r.symbols behind)))

@@ -197,7 +197,7 @@ drafted (order_line d n) = none
 drafted (states_line d n o) = none
 drafted (state_line d n o k s) = none
 drafted (no_line d) =
-    some (record { data_type = d.head.row.data; symbols = d.head.symbols; taxa = d.taxa; characters = d.characters })
+    some (record { data_type = d.head.data_type; symbols = d.head.symbols; taxa = d.taxa; characters = d.characters })
 
 -- The shape of a record: its lines, in document 01's order.
 unfoldable pub shape : List ℕ → Option Reading

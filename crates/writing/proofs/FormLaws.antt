@@ -47,14 +47,14 @@ module _ (b : List ℕ) (s : Shape) (x : Reading) (of : ShapeOf b s x) where
   unfolding form_counts form_dimensions
   shape-dimensions behind = rw (of.taxa, of.characters)
 
-  pub shape-format : (behind : List ℕ) → form_format s.data_type (symbols_at b s) s.gaps behind ≡ form_format x.row.data x.symbols (gap_in x.taxa) behind
-  shape-format behind = rw (of.row.data, shape-symbols, of.gaps)
+  pub shape-format : (behind : List ℕ) → form_format s.data_type (symbols_at b s) s.gaps behind ≡ form_format x.data_type x.symbols (gap_in x.taxa) behind
+  shape-format behind = rw (of.data_type, shape-symbols, of.gaps)
 
   -- Rows by the signs of the shape are those of the reading.
   pub shape-rows : (signs : List ℕ) {before after : List ℕ} {n next : ℕ} → (length (symbols_at b s) ≤ 74 → Signed s.data_type (symbols_at b s) signs)
-      → RowsPut b signs s.taxa.0 s.rows before n after next → Puts before n (form_rows x.row.data x.symbols x.taxa) after next
+      → RowsPut b signs s.taxa.0 s.rows before n after next → Puts before n (form_rows x.data_type x.symbols x.taxa) after next
   shape-rows signs table rows =
-      rows x.row.data x.symbols (rw (of.row.data, shape-symbols) at (table shape-few)) (length x.characters) x.taxa (spell_characters 1 x.characters []) (sym of.taxa)
+      rows x.data_type x.symbols (rw (of.data_type, shape-symbols) at (table shape-few)) (length x.characters) x.taxa (spell_characters 1 x.characters []) (sym of.taxa)
       (record { some = some_one x.characters of.sound.some_character; long = of.sound.rows_long; sound = of.sound.cells_sound; here = of.rows })
 
   -- Labels and types likewise.

@@ -12,11 +12,11 @@ use Rattle.writing.specs.Signs.{SignsMade}
 -- The commands in front of the matrix.
 unfoldable pub form_head : Reading → List ℕ → List ℕ
 form_head r behind =
-    bytes "#NEXUS\nBEGIN DATA;\n" ++ form_dimensions r (form_format r.row.data r.symbols (gap_in r.taxa) (form_labels r.characters behind))
+    bytes "#NEXUS\nBEGIN DATA;\n" ++ form_dimensions r (form_format r.data_type r.symbols (gap_in r.taxa) (form_labels r.characters behind))
 
 -- The matrix, and the end of its block.
 unfoldable pub form_matrix : Reading → List ℕ → List ℕ
-form_matrix r behind = bytes "MATRIX\n" ++ form_rows r.row.data r.symbols r.taxa (bytes ";\nEND;\n" ++ behind)
+form_matrix r behind = bytes "MATRIX\n" ++ form_rows r.data_type r.symbols r.taxa (bytes ";\nEND;\n" ++ behind)
 
 -- Where the record of a reading stands and has this shape, and these are its signs, a part of its form is put.
 abbrev pub PartPut : (Reading → List ℕ → List ℕ) → List ℕ → Shape → ℕ → ℕ → List ℕ → ℕ → List ℕ → ℕ → Type 0

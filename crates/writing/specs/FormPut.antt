@@ -15,10 +15,10 @@ unfoldable pub form_piece : Reading → List ℕ → List ℕ
 form_piece r behind =
     bytes "#NEXUS\nBEGIN DATA;\n"
     ++ form_dimensions r
-    (form_format r.row.data r.symbols (gap_in r.taxa)
+    (form_format r.data_type r.symbols (gap_in r.taxa)
     (form_labels r.characters
     (bytes "MATRIX\n"
-    ++ form_rows r.row.data r.symbols r.taxa
+    ++ form_rows r.data_type r.symbols r.taxa
     (bytes ";\nEND;\n" ++ form_assumptions r.characters behind))))
 
 -- A line's text, read from a place of the record on, was put: the next place of the record is behind its LF, and the next of the buffer behind the piece.
