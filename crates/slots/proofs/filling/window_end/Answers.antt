@@ -1,0 +1,19 @@
+-- The function `window_end` meets its contract. Assumes nothing.
+use Prim.Native.Nat.{◌-◌}
+use Rattle.lexer.specs.Base.{pick}
+use Rattle.slots.specs.Entering.{window_end}
+use borrow.Author.Tests.{le-ltb, lt-ltb}
+use native.Mathlib.Omega.{arith}
+use Rattle.slots.proofs.filling.window_end.Goals as goal
+
+pub returns-then-end-from : goal.returns-then-end-from
+unfolding window_end pick
+returns-then-end-from c = rw (le-ltb 16 (c.args.table.end - c.args.from) (omega arith))
+
+pub returns-then-end-from-le16 : goal.returns-then-end-from-le16
+unfolding window_end pick
+returns-then-end-from-le16 c = rw (le-ltb 16 (c.args.table.end - c.args.from) (omega arith))
+
+pub returns : goal.returns
+unfolding window_end pick
+returns c = rw (lt-ltb 16 (c.args.table.end - c.args.from) (omega arith))

@@ -1,0 +1,6 @@
+-- The function `letter_of` meets its contract. Assumes nothing.
+use native.Mathlib.Omega.{arith}
+use Rattle.slots.proofs.trie.letter_of.Goals as goal
+
+pub returns : goal.returns
+returns c = (rw (c.lower-c.ensures, c.blank_for.ensures), omega arith)
