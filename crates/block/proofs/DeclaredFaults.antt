@@ -68,8 +68,8 @@ module _ (R : Faults) where
   unfolding dimension_option
   dimension-option-faults d w q =
       both R (is (bytes "NEWTAXA") w && not d.new_taxa) (gives tt)
-      (either R (is (bytes "NTAX") w) (λ e. count-faults d w Count.Taxa d.taxa q.dimension (q.taxa-value e))
-      (λ o. either R (is (bytes "NCHAR") w) (λ e. count-faults d w Count.Characters d.characters q.dimension (q.characters-value e))
+      (either R (is (bytes "NTAX") w) (λ e. count-faults d w Count.Taxa d.taxa q.dimension (q.taxa_value e))
+      (λ o. either R (is (bytes "NCHAR") w) (λ e. count-faults d w Count.Characters d.characters q.dimension (q.characters_value e))
       (λ p. refuses q.dimension)))
 
   dimension-value-faults : (d : Dimensions) (c : Count) (w : Numbered) (n : ℕ) → R Refusal.Dimension w.index → Ends R Sizing (dimension_value d c w n)

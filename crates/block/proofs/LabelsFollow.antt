@@ -51,6 +51,9 @@ unordered-show (l ∷ ls) = (record { label = refl; states = refl }, unordered-s
 retyped-show : (o : CharacterOrdering) (ts : Types) (ls : List Labelled) (cs : List Character) → AllShow ls cs → AllShow ls (retyped o ts cs)
 unfolding retyped
 retyped-show o ts [] [] p = tt
+retyped-show o ts [] (c ∷ cs) p = elim p [ ]
+retyped-show o [] (l ∷ ls) [] p = elim p [ ]
+retyped-show o (t ∷ ts) (l ∷ ls) [] p = elim p [ ]
 retyped-show o [] (l ∷ ls) (c ∷ cs) p = (record { label = p.0.label; states = p.0.states }, retyped-show o [] ls cs p.1)
 retyped-show o (t ∷ ts) (l ∷ ls) (c ∷ cs) p = (record { label = p.0.label; states = p.0.states }, retyped-show o ts ls cs p.1)
 

@@ -1,0 +1,10 @@
+-- The function `acgt` meets its contract, by computation. Assumes nothing.
+use Rattle.block.specs.Dna.{acgt}
+use Rattle.lexer.specs.Base.{bytes}
+use mathlib.Core.Path.{refl}
+use native.Mathlib.Omega.{arith}
+use Rattle.block.proofs.symbols.Symbols.acgt.Goals as goal
+
+pub returns : goal.returns
+unfolding acgt bytes
+returns c = record { few = λ h. refl; many = λ h. absurd (omega arith) }
