@@ -1,0 +1,9 @@
+
+use Rattle.labels.proofs.entries.label_entries.Given as goal
+
+abbrev pub invariant-loop-i : goal.invariant-loop-i
+invariant-loop-i l =     let c = command_of l.what l.head (words (range l.text l.initial.work l.from l.to)) in
+    Entering l.text l.at l.characters l.initial.work l.symbols c l.to (fold (entries_turn l.symbols c) (labels.at (labels_held l.text l.initial.work l.at l.characters) labels.first) (words (range l.text l.initial.work l.from l.to))) l.work l.entry l.i
+
+abbrev pub decreases-loop-i : goal.decreases-loop-i
+decreases-loop-i l = l.to - l.i
