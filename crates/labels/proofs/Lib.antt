@@ -2,6 +2,6 @@
 pub mod EachLabelled
 pub mod EntriesWalk
 pub mod EntryTurns
-pub mod LabelCommands
+pub mod LabelCommandLaws
 pub mod LabelSlotLaws
 pub mod LabelTurns

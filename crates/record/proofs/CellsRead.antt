@@ -64,7 +64,7 @@ module _ (sh : Shape) (rows : List Taxon) (n : List ℕ) {t : Sequence} where
   sign-grown b c cells ts e room g i = sign-joined-turned b ts alone joins
     where
       alone : (k : Kind) → Symbolic k → Turns (sequential_turn sh) (inside rows i n (plain cells)) (record { kind = k; text = b ∷ [] } ∷ ts) t
-      alone k can = record { turned = λ j. rw (can.no_end, can.no_line, chunk-symbol sh.format k can b j c cells e) (g.grown i (suc j) (at j (record { kind = k; text = b ∷ [] }))) }
+      alone k can = record { turned = λ j. rw (can.no_end, can.no-line, chunk-symbol sh.format k can b j c cells e) (g.grown i (suc j) (at j (record { kind = k; text = b ∷ [] }))) }
 
       joins : (u : List ℕ) (r : List Token) → ts ≡ word u ∷ r → Turns (sequential_turn sh) (inside rows i n (plain cells)) (word (b ∷ u) ∷ r) t
       joins u r p =
@@ -79,7 +79,7 @@ module _ (sh : Shape) (rows : List Taxon) (n : List ℕ) {t : Sequence} where
   sign-within b j cells k o set ts e i g = sign-joined-turned b ts alone joins
     where
       alone : (x : Kind) → Symbolic x → Turns (sequential_turn sh) (inside rows i n (within cells k o set)) (record { kind = x; text = b ∷ [] } ∷ ts) t
-      alone x can = record { turned = λ m. rw (can.no_end, can.no_line, set-symbol sh.format x can b m j cells k o set e) (g.turned (suc m)) }
+      alone x can = record { turned = λ m. rw (can.no_end, can.no-line, set-symbol sh.format x can b m j cells k o set e) (g.turned (suc m)) }
 
       joins : (u : List ℕ) (r : List Token) → ts ≡ word u ∷ r → Turns (sequential_turn sh) (inside rows i n (within cells k o set)) (word (b ∷ u) ∷ r) t
       joins u r p =

@@ -77,7 +77,7 @@ no-row-found : (name : List ℕ) (at : ℕ) (ts : List Taxon)
 unfolding find_cells pick
 no-row-found name at [] h = refl
 no-row-found name at (t ∷ ts) h =
-    rw (h [] t ts refl) (no-row-found name _ ts (λ us u vs e. h (t ∷ us) u vs (ap (◌∷◌ t) e)))
+    rw (h [] t ts refl) (no-row-found name (at + before_cells t + length (spell_cells t.cells) + 1) ts (λ us u vs e. h (t ∷ us) u vs (ap (◌∷◌ t) e)))
 
 -- No row is without cells, and so none has an empty stretch.
 row-long : (k : ℕ) (us : List Taxon) (t : Taxon) (vs : List Taxon) → all_long k (us ++ (t ∷ vs)) ≡ true → length t.cells ≡ k

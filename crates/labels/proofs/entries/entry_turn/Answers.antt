@@ -5,8 +5,8 @@ use mathlib.Core.Path.{refl}
 use Rattle.labels.proofs.entries.entry_turn.Goals as goal
 
 -- the parts of a fact as the clauses of the contract
-both : {A B C : Type 0} → A × B × C → record { front : A; placed : B; entered : C }
-both p = record { front = p.0; placed = p.1; entered = p.2 }
+both : {A B C : Type 0} → A × (B × C) → record { front : A; placed : B; entered : C }
+both p = record { front = p.0; placed = p.1.0; entered = p.1.1 }
 
 pub number_turn-requires : goal.number_turn-requires
 number_turn-requires c =
@@ -34,7 +34,7 @@ returns-in-Next c = both ((refl, (c.entry_begins-in-Next.ensures.placed, λ ws. 
 pub returns-in-Numbered : goal.returns-in-Numbered
 unfolding entry_of
 returns-in-Numbered c =
-    both ((c.number_turn.ensures.front, (c.number_turn.ensures.placed.0, λ ws. rw c.in-Numbered.is (c.number_turn.ensures.placed.1 _ _))))
+    both ((c.number_turn.ensures.front, (c.number_turn.ensures.placed, λ ws. rw c.in-Numbered.is (c.number_turn.ensures.entered _ _))))
 
 pub returns-in-Labelled : goal.returns-in-Labelled
 unfolding entry_of
@@ -43,4 +43,4 @@ returns-in-Labelled c = both ((refl, (c.label_turn.ensures.placed, λ ws. rw c.i
 pub returns-in-States : goal.returns-in-States
 unfolding entry_of
 returns-in-States c =
-    both ((c.states_turn.ensures.front, (c.states_turn.ensures.placed.0, λ ws. rw c.in-States.is (c.states_turn.ensures.placed.1 _))))
+    both ((c.states_turn.ensures.front, (c.states_turn.ensures.placed, λ ws. rw c.in-States.is (c.states_turn.ensures.entered _))))

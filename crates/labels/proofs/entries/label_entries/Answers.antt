@@ -1,22 +1,16 @@
 use native.Mathlib.Omega.{arith}
-use Rattle.labels.proofs.entries.label_entries.Goals as goal
-
--- The function `label_entries` meets its contract: a turn for each word. The measure is what is left of the words. Assumes nothing.
 use Prim.Native.Nat.{◌+◌, ◌-◌, ◌*◌, ◌≤◌, ◌<◌}
 use Rattle.block.specs.Commands.{words}
 use Rattle.block.specs.Judged.{judged}
 use Rattle.block.specs.Labels as labels
 use Rattle.block.specs.Labels.{label_entries}
-use Rattle.block.specs.Outcome.{fold, then}
-use Rattle.labels.proofs.EntriesWalk.{entries_turn, Entering, entering-start, entering-newline, entering-turn, entering-refused, entering-end, ended-placed}
-use Rattle.labels.proofs.entries.label_entries.Statement.{statement}
-use Rattle.labels.proofs.entries.label_entries.Tie as tie
-use Rattle.labels.specs.LabelEntries.{command_of, entered}
-use Rattle.labels.specs.LabelSlots.{labels_held}
+use Rattle.block.specs.Outcome.{then}
+use Rattle.labels.proofs.EntriesWalk.{entering-start, entering-newline, entering-turn, entering-refused, entering-end, ended-placed}
+use Rattle.labels.specs.LabelEntries.{entered}
 use Rattle.lexer.specs.Stored.{range}
-use borrow.Author.Rules.{rules}
 use lib.ListN.{length}
 use mathlib.Core.Path.{sym, ◌∙◌}
+use Rattle.labels.proofs.entries.label_entries.Goals as goal
 
 -- the parts of a fact as the clauses of the contract
 both : {A B : Type 0} → A × B → record { front : A; labelled : B }
@@ -39,12 +33,12 @@ entry_turn-requires c =
 pub loop-i-preserved : goal.loop-i-preserved
 unfolding entered
 loop-i-preserved c =
-    entering-turn _ _ _ _ _ _ _ c.requires.1 _ _ _ c.loop-i.invariant c.loop-i-test.true (sym c.newline.ensures ∙ c.if-newline.false) _ _ c.entry_turn.auto.1.0 c.entry_turn.ensures.front (rw c.in-On.is at c.entry_turn.ensures.placed.0) (rw c.in-On.is at (c.entry_turn.ensures.placed.1 (words (range c.args.text.now c.args.work.now c.args.from c.args.to))))
+    entering-turn _ _ _ _ _ _ _ c.requires.1 _ _ _ c.loop-i.invariant c.loop-i-test.true (sym c.newline.ensures ∙ c.if-newline.false) _ _ c.entry_turn.auto.work c.entry_turn.ensures.front (rw c.in-On.is at c.entry_turn.ensures.placed) (rw c.in-On.is at (c.entry_turn.ensures.entered (words (range c.args.text.now c.args.work.now c.args.from c.args.to))))
 
 pub returns-in-Refused : goal.returns-in-Refused
 unfolding entered judged label_entries then
 returns-in-Refused c =
-    both ((c.entry_turn.ensures.front ∙ c.loop-i.invariant.front, rw (← entering-refused _ _ _ _ _ _ _ c.requires.1 _ _ _ c.loop-i.invariant c.loop-i-test.true (sym c.newline.ensures ∙ c.if-newline.false) _ _ (rw c.in-Refused.is at (c.entry_turn.ensures.placed.1 (words (range c.args.text.now c.args.work.now c.args.from c.args.to)))))))
+    both ((c.entry_turn.ensures.front ∙ c.loop-i.invariant.front, rw (← entering-refused _ _ _ _ _ _ _ c.requires.1 _ _ _ c.loop-i.invariant c.loop-i-test.true (sym c.newline.ensures ∙ c.if-newline.false) _ _ (rw c.in-Refused.is at (c.entry_turn.ensures.entered (words (range c.args.text.now c.args.work.now c.args.from c.args.to)))))))
 
 pub entry_end-requires : goal.entry_end-requires
 entry_end-requires c =

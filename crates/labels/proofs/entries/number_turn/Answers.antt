@@ -7,8 +7,8 @@ use mathlib.Core.Path.{refl, sym, ◌∙◌}
 use Rattle.labels.proofs.entries.number_turn.Goals as goal
 
 -- the parts of a fact as the clauses of the contract
-both : {A B C : Type 0} → A × B × C → record { front : A; placed : B; entered : C }
-both p = record { front = p.0; placed = p.1; entered = p.2 }
+both : {A B C : Type 0} → A × (B × C) → record { front : A; placed : B; entered : C }
+both p = record { front = p.0; placed = p.1.0; entered = p.1.1 }
 
 pub returns-then-punct : goal.returns-then-punct
 unfolding entered entry_of

@@ -10,8 +10,8 @@ use native.Mathlib.Omega.{arith}
 use Rattle.labels.proofs.entries.states_turn.Goals as goal
 
 -- the parts of a fact as the clauses of the contract
-both : {A B C : Type 0} → A × B × C → record { front : A; placed : B; entered : C }
-both p = record { front = p.0; placed = p.1; entered = p.2 }
+both : {A B C : Type 0} → A × (B × C) → record { front : A; placed : B; entered : C }
+both p = record { front = p.0; placed = p.1.0; entered = p.1.1 }
 
 pub returns-in-Good : goal.returns-in-Good
 unfolding entered entry_of judged then

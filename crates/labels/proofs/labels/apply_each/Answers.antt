@@ -1,6 +1,6 @@
 use Prim.Native.Nat.{◌+◌, ◌-◌, ◌*◌, ◌≤◌}
 use Rattle.block.specs.Judged.{judged}
-use Rattle.labels.proofs.LabelCommands.{applying-start, applying-turn, applying-refused, applying-end, all_fit}
+use Rattle.labels.proofs.LabelCommandLaws.{applying-start, applying-turn, applying-refused, applying-end, all_fit}
 use Rattle.labels.specs.LabelLists.{Fits}
 use Rattle.lexer.proofs.Basics.{both_below, not-below}
 use lib.ListN.{length}
@@ -39,7 +39,7 @@ unfolding judged
 loop-i-preserved c =
     let b = both_below c.loop-i.i c.args.commands.count 3 c.loop-i-test.true in
     let f : Fits c.args.at c.command_at-c.result = rw c.command_at-c.ensures (all_fit _ _ _ _ c.loop-i.i c.requires.2 c.requires.3 c.requires.4) in
-    (omega (arith, b.1), applying-turn _ _ _ _ _ _ _ _ c.loop-i.invariant.1 b.0 b.1 _ c.command_at-c.ensures f.front _ c.label_command.auto.1.0 c.label_command.ensures.front (rw c.in-Good.is at c.label_command.ensures.labelled))
+    (omega (arith, b.1), applying-turn _ _ _ _ _ _ _ _ c.loop-i.invariant.1 b.0 b.1 _ c.command_at-c.ensures f.front _ c.label_command.auto.work c.label_command.ensures.front (rw c.in-Good.is at c.label_command.ensures.labelled))
 
 pub returns-in-Refused : goal.returns-in-Refused
 unfolding judged

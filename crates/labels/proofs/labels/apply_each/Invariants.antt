@@ -1,6 +1,6 @@
 -- The function `apply_each` meets its contract: a turn for each command. The measure is how many of the three are left. Assumes nothing.
 use Prim.Native.Nat.{◌-◌, ◌≤◌}
-use Rattle.labels.proofs.LabelCommands.{Applying}
+use Rattle.labels.proofs.LabelCommandLaws.{Applying}
 use Rattle.labels.proofs.labels.apply_each.Given as goal
 
 abbrev pub invariant-loop-i : goal.invariant-loop-i

@@ -1,5 +1,5 @@
 -- The function `command_at` meets its contract. Assumes nothing.
-use Rattle.labels.proofs.LabelCommands.{third-on}
+use Rattle.labels.proofs.LabelCommandLaws.{third-on}
 use Rattle.labels.proofs.labels.command_at.Goals as goal
 
 pub returns : goal.returns

@@ -1,5 +1,5 @@
 -- The function `label_command` meets its contract: by the command. Assumes nothing.
-use Rattle.labels.proofs.LabelCommands.{command-each, command-states, command-both}
+use Rattle.labels.proofs.LabelCommandLaws.{command-each, command-states, command-both}
 use mathlib.Core.Path.{sym, ◌∙◌}
 use Rattle.labels.proofs.labels.label_command.Goals as goal
 

@@ -23,7 +23,7 @@ returns-then-characters-k c =
 pub loop-i-preserved : goal.loop-i-preserved
 unfolding judged
 loop-i-preserved c =
-    each_turn _ _ _ _ _ _ c.requires.1 _ _ _ c.loop-i.invariant c.loop-i-test.true (sym c.newline.ensures ∙ c.if-newline.false) c.if-characters-k.false _ c.label_one.auto.1.0 c.label_one.ensures.front (rw c.in-Good.is at c.label_one.ensures.labelled)
+    each_turn _ _ _ _ _ _ c.requires.1 _ _ _ c.loop-i.invariant c.loop-i-test.true (sym c.newline.ensures ∙ c.if-newline.false) c.if-characters-k.false _ c.label_one.auto.work c.label_one.ensures.front (rw c.in-Good.is at c.label_one.ensures.labelled)
 
 pub returns-in-Refused : goal.returns-in-Refused
 unfolding judged
