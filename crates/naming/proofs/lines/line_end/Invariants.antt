@@ -1,0 +1,11 @@
+-- The function `line_end` meets its contract: a turn passes one byte of the line. The measure is what is left of the bytes. Assumes nothing.
+use Prim.Native.Nat.{◌-◌}
+use Rattle.naming.proofs.LineLaws.{Ending}
+use lib.ListN.{length}
+use Rattle.naming.proofs.lines.line_end.Given as goal
+
+abbrev pub invariant-loop-from : goal.invariant-loop-from
+invariant-loop-from l = Ending l.source l.from l.at
+
+abbrev pub decreases-loop-from : goal.decreases-loop-from
+decreases-loop-from l = length l.source - l.at
