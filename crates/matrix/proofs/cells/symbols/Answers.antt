@@ -24,7 +24,7 @@ returns-then-punct c =
 
 pub returns-in-Word : goal.returns-in-Word
 returns-in-Word c =
-    c.word_Cells.ensures ∙ symbols-word _ _ _ _ _ c.start_of-start.ensures (sym c.in-Word.is ∙ c.kind_at.ensures)
+    c.word_cells.ensures ∙ symbols-word _ _ _ _ _ c.start_of-start.ensures (sym c.in-Word.is ∙ c.kind_at.ensures)
 
 pub returns-else-punct : goal.returns-else-punct
 returns-else-punct c =

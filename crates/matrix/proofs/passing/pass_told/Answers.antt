@@ -9,7 +9,7 @@ pub loop-i-init : goal.loop-i-init
 loop-i-init c = passed_none (search rules) (search rules)
 
 pub told_cells-told-requires : goal.told_cells-told-requires
-told_cells-told-requires c = (c.loop-i.invariant.below, c.loop-i.invariant.few, c.word_Bytes.ensures)
+told_cells-told-requires c = (c.loop-i.invariant.below, c.loop-i.invariant.few, c.word_bytes-table.ensures)
 
 pub returns-then-next-i : goal.returns-then-next-i
 returns-then-next-i c = c.loop-i.invariant
