@@ -7,25 +7,21 @@ use Rattle.block.specs.Typeset.{list_ends}
 use mathlib.Core.Path.{refl}
 use Rattle.assumptions.proofs.characters.list_end.Goals as goal
 
--- the parts of a fact as the clauses of the contract
-both : {A B : Type 0} → A × B → record { front : A; answer : B }
-both p = record { front = p.0; answer = p.1 }
-
 pub returns-in-Number : goal.returns-in-Number
-returns-in-Number c = both ((refl, λ rs ts g. rw c.in-Number.is (end_none _ _ rs ts _ _ g _ (c.judge_twice.ensures _))))
+returns-in-Number c = record { front = refl; answer = λ rs ts g. rw c.in-Number.is (end_none _ _ rs ts _ _ g _ (c.judge_twice.ensures _)) }
 
 pub returns-in-Single : goal.returns-in-Single
 unfolding range
-returns-in-Single c = both ((c.type_next.ensures.front, λ rs ts g. rw c.in-Single.is (end-single _ _ rs ts _ _ g _ _ _ _ _ c.type_next.ensures.typed (c.judge_twice-in-Single.ensures _) _ _)))
+returns-in-Single c = record { front = c.type_next.ensures.front; answer = λ rs ts g. rw c.in-Single.is (end-single _ _ rs ts _ _ g _ _ _ _ _ c.type_next.ensures.typed (c.judge_twice-in-Single.ensures _) _ _) }
 
 pub returns-in-Pair : goal.returns-in-Pair
 unfolding range
-returns-in-Pair c = both ((c.type_next-in-Pair.ensures.front, λ rs ts g. rw c.in-Pair.is (end-pair _ _ rs ts _ _ g _ _ _ _ _ c.type_next-in-Pair.ensures.typed (c.judge_twice-in-Pair.ensures _) _)))
+returns-in-Pair c = record { front = c.type_next-in-Pair.ensures.front; answer = λ rs ts g. rw c.in-Pair.is (end-pair _ _ rs ts _ _ g _ _ _ _ _ c.type_next-in-Pair.ensures.typed (c.judge_twice-in-Pair.ensures _) _) }
 
 pub returns-in-To : goal.returns-in-To
 unfolding judged list_ends listed item_end then
-returns-in-To c = both ((refl, λ rs ts g. rw c.in-To.is))
+returns-in-To c = record { front = refl; answer = λ rs ts g. rw c.in-To.is }
 
 pub returns-in-By : goal.returns-in-By
 unfolding judged list_ends listed item_end then
-returns-in-By c = both ((refl, λ rs ts g. rw c.in-By.is))
+returns-in-By c = record { front = refl; answer = λ rs ts g. rw c.in-By.is }

@@ -12,10 +12,6 @@ use native.Mathlib.Omega.{arith}
 use borrow.Enum.Refused.{opened}
 use Rattle.assumptions.proofs.characters.list_word.Goals as goal
 
--- the parts of a fact as the clauses of the contract
-both : {A B : Type 0} → A × B → record { front : A; answer : B }
-both p = record { front = p.0; answer = p.1 }
-
 pub returns-then-n-ne0 : goal.returns-then-n-ne0
 unfolding word_of
 returns-then-n-ne0 c =
@@ -25,12 +21,12 @@ returns-then-n-ne0 c =
     let start = c.start_of-start.result in
     let n : 0 < told_number 0 (drop start s.text.now) = omega (arith, value, c.if-n-ne0.true) in
     let spells = rw (← value, c.start_of-start.ensures) at (told-spells s.text.now start n) in
-    both ((turn.0, λ rs ts g. number-follows _ _ _ spells _ _ _ _ _ (turn.1 _ (c.number_part-part.ensures _ refl spells) rs ts g)))
+    record { front = turn.front; answer = λ rs ts g. number-follows _ _ _ spells _ _ _ _ _ (turn.answer _ (c.number_part-part.ensures _ refl spells) rs ts g) }
 
 pub cut_word-requires : goal.cut_word-requires
 unfolding word_of is_word
 cut_word-requires c =
-    (c.requires, rw (← c.start_of-start.ensures, ← c.kind_at.ensures, c.in-Word.is))
+    record { i_lt_at = c.requires; i_value = rw (← c.start_of-start.ensures, ← c.kind_at.ensures, c.in-Word.is) }
 
 pub returns-in_default : goal.returns-in_default
 unfolding word_of
@@ -38,4 +34,4 @@ returns-in_default c =
     let turn = c.part_turn-in_default.ensures in
     let other = tags-other c.kind_at.result (opened c.in_default.in_default-own.keys2) in
     let none = rw (c.kind_at.ensures, c.start_of-start.ensures) at other in
-    both ((turn.0, λ rs ts g. whole-follows _ _ _ _ _ _ _ none (turn.1 _ (c.whole_part-part.ensures none) rs ts g)))
+    record { front = turn.front; answer = λ rs ts g. whole-follows _ _ _ _ _ _ _ none (turn.answer _ (c.whole_part-part.ensures none) rs ts g) }

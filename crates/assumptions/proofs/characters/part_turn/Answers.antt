@@ -4,18 +4,14 @@ use Rattle.assumptions.specs.ListCode.{item_answer}
 use mathlib.Core.Path.{refl, sym}
 use Rattle.assumptions.proofs.characters.part_turn.Goals as goal
 
--- the parts of a fact as the clauses of the contract
-both : {A B : Type 0} → A × B → record { front : A; answer : B }
-both p = record { front = p.0; answer = p.1 }
-
 pub returns-in-On : goal.returns-in-On
 unfolding item_answer
-returns-in-On c = both ((refl, λ p e rs ts g. part-on _ _ rs ts _ _ _ p g _ (rw c.in-On.is at (rw c.in-Further.is at (sym (c.item_turn.ensures p e))))))
+returns-in-On c = record { front = refl; answer = λ p e rs ts g. part-on _ _ rs ts _ _ _ p g _ (rw c.in-On.is at (rw c.in-Further.is at (sym (c.item_turn.ensures p e)))) }
 
 pub returns-in-Past : goal.returns-in-Past
 unfolding item_answer
-returns-in-Past c = both ((c.type_next-again.ensures.front, λ p e rs ts g. part-past _ _ rs ts _ _ _ p g _ _ _ _ (rw c.in-Past.is at (rw c.in-Further.is at (sym (c.item_turn.ensures p e)))) c.type_next-again.ensures.typed))
+returns-in-Past c = record { front = c.type_next-again.ensures.front; answer = λ p e rs ts g. part-past _ _ rs ts _ _ _ p g _ _ _ _ (rw c.in-Past.is at (rw c.in-Further.is at (sym (c.item_turn.ensures p e)))) c.type_next-again.ensures.typed }
 
 pub returns-in-Refused : goal.returns-in-Refused
 unfolding item_answer
-returns-in-Refused c = both ((refl, λ p e rs ts g. part-over _ _ rs ts _ _ _ p g _ _ (rw c.in-Refused.is at (sym (c.item_turn.ensures p e))) _))
+returns-in-Refused c = record { front = refl; answer = λ p e rs ts g. part-over _ _ rs ts _ _ _ p g _ _ (rw c.in-Refused.is at (sym (c.item_turn.ensures p e))) _ }

@@ -11,7 +11,7 @@ pub returns-in-To : goal.returns-in-To
 returns-in-To c = λ p e. rw c.in-To.is (c.to_turn.ensures _ p e)
 
 pub returns-in-Pair : goal.returns-in-Pair
-returns-in-Pair c = λ p e. rw c.in-Pair.is (c.Pair_turn.ensures p e)
+returns-in-Pair c = λ p e. rw c.in-Pair.is (c.pair_turn.ensures p e)
 
 pub returns-in-By : goal.returns-in-By
 returns-in-By c = λ p e. rw c.in-By.is (c.by_turn.ensures _ p e)

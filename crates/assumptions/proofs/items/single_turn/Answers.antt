@@ -16,4 +16,4 @@ returns-then-part c = λ p e. rw (sym (told-dash _ p _ e) ∙ c.if-part.true, c.
 
 pub returns : goal.returns
 unfolding item_turn pick
-returns c = λ p e. rw (sym (told-dash _ p _ e) ∙ c.if-part.false) (c.Pair_turn.ensures p e)
+returns c = λ p e. rw (sym (told-dash _ p _ e) ∙ c.if-part.false) (c.pair_turn.ensures p e)

@@ -1,4 +1,3 @@
-use Prim.Native.Nat.{◌-◌}
 use Rattle.assumptions.proofs.PartWalks.{ending-start, ending-turn, ending-dash, ending-end}
 use Rattle.lexer.proofs.NextBytes.{yielded}
 use native.Mathlib.Omega.{arith}

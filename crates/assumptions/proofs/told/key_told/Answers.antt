@@ -1,6 +1,5 @@
-use Prim.Native.Nat.{◌+◌, ◌-◌}
+use Prim.Native.Nat.{◌+◌}
 use Rattle.assumptions.proofs.KeyWords.{keyword-end, keyword-off, keyword-on, keyword-short}
-use borrow.Author.Tests.{not-false, not-true}
 use lib.ListN.{drop, length-drop}
 use mathlib.Core.Path.{◌≡◌, refl, sym, ◌∙◌}
 use native.Mathlib.Omega.{arith}
@@ -26,14 +25,14 @@ pub returns-then-not-small-capital : goal.returns-then-not-small-capital
 returns-then-not-small-capital c =
     let s = c.args in
     let k = c.loop-k.k in
-    sym (keyword-off s.text.now s.keyword.now (s.start + k) k (omega arith) c.loop-k-test.true _ _ c.lower.ensures c.lower-in-loop-k.ensures (not-true _ c.if-not-small-capital.true-raw)) ∙ c.loop-k.invariant.1
+    sym (keyword-off s.text.now s.keyword.now (s.start + k) k (omega arith) c.loop-k-test.true _ _ c.lower.ensures c.lower-in-loop-k.ensures c.if-not-small-capital.true) ∙ c.loop-k.invariant.1
 
 pub loop-k-preserved : goal.loop-k-preserved
 loop-k-preserved c =
     let s = c.args in
     let k = c.loop-k.k in
     let there : s.start + k + 1 ≡ s.start + (k + 1) = omega arith in
-    let next = keyword-on s.text.now s.keyword.now (s.start + k) k (omega arith) c.loop-k-test.true _ _ c.lower.ensures c.lower-in-loop-k.ensures (not-false _ c.if-not-small-capital.false-raw) in
+    let next = keyword-on s.text.now s.keyword.now (s.start + k) k (omega arith) c.loop-k-test.true _ _ c.lower.ensures c.lower-in-loop-k.ensures c.if-not-small-capital.false in
     (omega arith, sym (rw there at next) ∙ c.loop-k.invariant.1)
 
 pub returns : goal.returns

@@ -1,4 +1,3 @@
-use Prim.Native.Nat.{◌-◌}
 use Rattle.assumptions.proofs.TypesHeldLaws.{clearing-start, clearing-turn, clearing-end}
 use Rattle.assumptions.proofs.types.clear_types.Goals as goal
 

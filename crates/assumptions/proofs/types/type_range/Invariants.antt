@@ -10,7 +10,7 @@ use mathlib.Core.Path.{◌≡◌}
 use Rattle.assumptions.proofs.types.type_range.Given as goal
 
 abbrev pub invariant-loop-k : goal.invariant-loop-k
-invariant-loop-k l =     (length l.work ≡ length l.initial.work)
+invariant-loop-k l = (length l.work ≡ length l.initial.work)
     × ((o : CharacterOrdering) (r : Range) → l.value ≡ type-number o → l.last ≡ min r.last l.count → l.stride ≡ r.stride → l.initial.k ≡ r.first → Striding o r l.at l.count l.initial.work l.work l.k)
 
 abbrev pub decreases-loop-k : goal.decreases-loop-k

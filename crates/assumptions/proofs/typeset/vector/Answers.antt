@@ -8,16 +8,12 @@ use mathlib.Core.Path.{refl, sym, ◌∙◌}
 use native.Mathlib.Omega.{arith}
 use Rattle.assumptions.proofs.typeset.vector.Goals as goal
 
--- the parts of a fact as the clauses of the contract
-both : {A B : Type 0} → A × B → record { front : A; answer : B }
-both p = record { front = p.0; answer = p.1 }
-
 pub returns-then-count-eq0 : goal.returns-then-count-eq0
 unfolding judged typeset_at
-returns-then-count-eq0 c = both ((refl, vector-empty _ _ _ (sym c.if-count-eq0.true ∙ c.count_words-count.ensures)))
+returns-then-count-eq0 c = record { front = refl; answer = vector-empty _ _ _ (sym c.if-count-eq0.true ∙ c.count_words-count.ensures) }
 
 pub returns-then-count-characters : goal.returns-then-count-characters
 unfolding judged typeset_at
 returns-then-count-characters c =
     let count = c.count_words-count.ensures in
-    both ((refl, sym (vector-count _ _ [] none _ (λ e. c.if-count-characters.true (omega (arith, e, count))) (omega (arith, count, c.if-count-eq0.false)))))
+    record { front = refl; answer = sym (vector-count _ _ [] none _ (λ e. c.if-count-characters.true (omega (arith, e, count))) (omega (arith, count, c.if-count-eq0.false))) }

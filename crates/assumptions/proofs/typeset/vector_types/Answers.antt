@@ -1,4 +1,3 @@
-use Prim.Native.Nat.{◌-◌}
 use Rattle.assumptions.proofs.VectorTypes.{vectoring-start, vectoring-room, vectoring-turn, vectoring-over, vectoring-end}
 use Rattle.assumptions.specs.TypesHeld.{type_word}
 use Rattle.block.specs.Judged.{judged}
@@ -6,16 +5,12 @@ use mathlib.Core.Path.{sym}
 use native.Mathlib.Omega.{arith}
 use Rattle.assumptions.proofs.typeset.vector_types.Goals as goal
 
--- the parts of a fact as the clauses of the contract
-both : {A B : Type 0} → A × B → record { front : A; answer : B }
-both p = record { front = p.0; answer = p.1 }
-
 pub loop-head-init : goal.loop-head-init
-loop-head-init c = vectoring-start _ _ _ _ _ _ _ c.requires.to_len.0
+loop-head-init c = vectoring-start _ _ _ _ _ _ _ c.requires.to_len
 
 pub returns-then-to-j : goal.returns-then-to-j
 unfolding judged
-returns-then-to-j c = both ((c.loop-head.invariant.front, vectoring-end _ _ _ _ _ _ _ c.requires.to_le_at.0 _ _ _ _ c.loop-head.invariant c.next_word-j.ensures c.if-to-j.true c.requires.to_len.1))
+returns-then-to-j c = record { front = c.loop-head.invariant.front; answer = vectoring-end _ _ _ _ _ _ _ c.requires.to_le_at.0 _ _ _ _ c.loop-head.invariant c.next_word-j.ensures c.if-to-j.true c.requires.le_characters }
 
 pub bounds-work-at : goal.bounds-work-at
 bounds-work-at c =
@@ -31,4 +26,4 @@ loop-head-preserved c = rw c.type_number.ensures (vectoring-turn _ _ _ _ _ _ _ c
 
 pub returns-in-None : goal.returns-in-None
 unfolding judged type_word
-returns-in-None c = both ((c.loop-head.invariant.front, vectoring-over _ _ _ _ _ _ _ c.requires.to_le_at.0 _ _ _ _ c.loop-head.invariant c.next_word-j.ensures c.if-to-j.false c.requires.to_len.1 (sym (rw c.in-None.is at c.ordering.ensures))))
+returns-in-None c = record { front = c.loop-head.invariant.front; answer = vectoring-over _ _ _ _ _ _ _ c.requires.to_le_at.0 _ _ _ _ c.loop-head.invariant c.next_word-j.ensures c.if-to-j.false c.requires.le_characters (sym (rw c.in-None.is at c.ordering.ensures)) }

@@ -19,9 +19,9 @@ loop-left-preserved c =
     let k = c.loop-left.invariant in
     let h = c.loop-left-test.true in
     ⊎_elim
-    (λ w. rw w.2 (looking-hit _ _ _ _ _ _ _ _ _ k h c.name_begin-name.ensures c.found_line.ensures c.next_row-here.ensures w.0.taken w.1.left))
-    (λ w. rw w.1 (looking-turn _ _ _ _ _ _ _ _ _ k h c.name_begin-name.ensures c.found_line.ensures c.next_row-here.ensures w.0.left))
-    c.if-found_line.branch
+    (λ w. rw w.room-is (looking-hit _ _ _ _ _ _ _ _ _ k h c.name_begin-name.ensures c.found_line.ensures c.next_row-here.ensures w.if-found_line.true w.if-room-eq0.false))
+    (λ w. rw w.room-is (looking-turn _ _ _ _ _ _ _ _ _ k h c.name_begin-name.ensures c.found_line.ensures c.next_row-here.ensures w.if-found_line.false))
+    c.if-found_line.branch-raw
 
 pub returns : goal.returns
 returns c = looking-end _ _ _ _ _ _ _ _ _ c.loop-left.invariant c.loop-left-test.false

@@ -1,0 +1,46 @@
+use Rattle.emit.proofs.DigitsStored.{digits-most, digits-put, storing-end, storing-last, storing-pair, storing-room, storing-size, storing-start}
+use mathlib.Core.Path.{◌∙◌}
+use native.Mathlib.Omega.{arith}
+use Rattle.emit.proofs.put_digits.Goals as goal
+
+-- the parts of a fact as the clauses of the contract
+both : {A B : Type 0} → A × B → record { puts : A; upper_bound : B }
+both p = record { puts = p.0; upper_bound = p.1 }
+
+pub overflow_add-end : goal.overflow_add-end
+overflow_add-end c = omega (arith, c.digits_of.ensures, digits-most 19 c.args.value (omega arith), c.requires)
+
+pub loop-rest-init : goal.loop-rest-init
+loop-rest-init c = rw c.digits_of.ensures (storing-start _ _ _ c.requires (omega arith))
+
+pub store_pair-requires : goal.store_pair-requires
+store_pair-requires c =
+    (omega (arith, storing-room _ _ _ _ _ _ c.loop-rest.invariant (omega arith)), omega (arith, storing-size _ _ _ _ _ _ c.loop-rest.invariant, c.loop-rest.invariant.room))
+
+pub overflow_sub-at : goal.overflow_sub-at
+overflow_sub-at c = omega (arith, storing-room _ _ _ _ _ _ c.loop-rest.invariant (omega arith))
+
+pub loop-rest-preserved : goal.loop-rest-preserved
+loop-rest-preserved c = rw c.store_pair.ensures (storing-pair _ _ _ _ _ _ c.loop-rest.invariant c.loop-rest-test.true)
+
+pub bounds-buffer-n : goal.bounds-buffer-n
+bounds-buffer-n c =
+    omega (arith, storing-size _ _ _ _ _ _ c.loop-rest.invariant, c.requires)
+
+pub returns-then-rest-lt10 : goal.returns-then-rest-lt10
+returns-then-rest-lt10 c =
+    both (rw c.last_digit.ensures (digits-put _ _ _ _ _ (omega arith) (storing-end _ _ _ _ _ _ c.loop-rest.invariant c.if-rest-lt10.true) c.digits_of.ensures))
+
+pub shape_of-buffer-then-rest-lt10 : goal.shape_of-buffer-then-rest-lt10
+shape_of-buffer-then-rest-lt10 c = (returns-then-rest-lt10 c).puts.kept
+
+pub store_pair-requires-2 : goal.store_pair-requires-2
+store_pair-requires-2 c =
+    (omega (arith, storing-room _ _ _ _ _ _ c.loop-rest.invariant (omega arith)), omega (arith, storing-size _ _ _ _ _ _ c.loop-rest.invariant, c.loop-rest.invariant.room))
+
+pub returns : goal.returns
+returns c =
+    both (digits-put _ _ _ _ _ (omega arith) (c.store_pair-2.ensures ∙ storing-last _ _ _ _ _ _ c.loop-rest.invariant c.if-rest-lt10.false (omega arith)) c.digits_of.ensures)
+
+pub shape_of-buffer : goal.shape_of-buffer
+shape_of-buffer c = (returns c).puts.kept
