@@ -1,0 +1,17 @@
+-- The function `opened_step` meets its contract. Assumes nothing.
+use Rattle.judging.proofs.CellModeLaws.{digit_low}
+use Rattle.judging.specs.CellModes.{is_digit, step_opened}
+use Rattle.lexer.specs.Base.{pick}
+use Rattle.judging.proofs.cells.opened_step.Goals as goal
+
+pub begin_index-requires : goal.begin_index-requires
+unfolding is_digit
+begin_index-requires c = digit_low c.args.b c.if-b.true
+
+pub returns-then-b : goal.returns-then-b
+unfolding step_opened is_digit pick
+returns-then-b c = rw c.if-b.true c.begin_index.ensures
+
+pub returns : goal.returns
+unfolding step_opened is_digit pick
+returns c = rw c.if-b.false
