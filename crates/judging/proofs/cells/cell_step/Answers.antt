@@ -5,7 +5,6 @@ use Rattle.judging.specs.CellModes.{step, within}
 use Rattle.lexer.specs.Base.{pick}
 use borrow.Author.Tests.{eq-eqb}
 use mathlib.Core.Path.{refl, sym}
-use borrow.Enum.Refused.{opened}
 use Rattle.judging.proofs.cells.cell_step.Goals as goal
 
 pub returns-then-b-eq32 : goal.returns-then-b-eq32
@@ -25,4 +24,4 @@ unfolding within
 returns-in-Index c = step-known _ _ c.if-b-eq32.false c.in-Index.is c.index_step.ensures
 
 pub returns-in_default : goal.returns-in_default
-returns-in_default c = step-known _ _ c.if-b-eq32.false refl (sym (tags-closed _ _ _ (opened c.in_default.in_default-own.keys4)))
+returns-in_default c = step-known _ _ c.if-b-eq32.false refl (sym (tags-closed _ _ _ c.in_default.in_default-own.keys4))
