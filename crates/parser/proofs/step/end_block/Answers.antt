@@ -25,7 +25,7 @@ pub returns-in-Data : goal.returns-in-Data
 returns-in-Data c =
     let told = c.in-Data.is in both ((
       λ m h. c.data_end.ensures.step m _ _ ∙ ends-data m _ _ _ _ _ _ _ told,
-      λ size p. c.data_end.ensures.placed _ _ size p (data-placed _ _ size _ _ _ told p.phase).0,
+      λ size p. c.data_end.ensures.placed _ _ size p (data-placed _ _ size c.args.s _ _ told p.phase).0,
     ))
 
 pub returns-in-Assumptions : goal.returns-in-Assumptions

@@ -1,0 +1,12 @@
+-- The function `place_behind` meets its contract. Assumes nothing.
+use Rattle.emit.specs.Puts.{last_place}
+use native.Mathlib.Omega.{arith}
+use Rattle.reading.proofs.cells.place_behind.Goals as goal
+
+pub returns-then-n-cells : goal.returns-then-n-cells
+unfolding last_place
+returns-then-n-cells c = omega arith
+
+pub returns : goal.returns
+unfolding last_place
+returns c = omega arith

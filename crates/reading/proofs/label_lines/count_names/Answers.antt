@@ -1,0 +1,21 @@
+use Prim.Native.Nat.{◌-◌}
+use Rattle.reading.proofs.FewNames.{counting-end, counting-full, counting-newline, counting-start, counting-turn}
+use mathlib.Core.Path.{sym, ◌∙◌}
+use Rattle.reading.proofs.label_lines.count_names.Goals as goal
+
+pub loop-j-init : goal.loop-j-init
+loop-j-init c = counting-start _ _ _ _
+
+pub returns-then-most-count : goal.returns-then-most-count
+returns-then-most-count c = counting-full _ _ _ _ _ _ c.loop-j.invariant c.if-most-count.true
+
+pub loop-j-preserved-then-newline : goal.loop-j-preserved-then-newline
+loop-j-preserved-then-newline c =
+    counting-newline _ _ _ _ _ _ c.loop-j.invariant c.loop-j-test.true (sym c.newline.ensures ∙ c.if-newline.true)
+
+pub loop-j-preserved : goal.loop-j-preserved
+loop-j-preserved c =
+    counting-turn _ _ _ _ _ _ c.loop-j.invariant c.loop-j-test.true (sym c.newline.ensures ∙ c.if-newline.false) c.if-most-count.false
+
+pub returns : goal.returns
+returns c = counting-end _ _ _ _ _ _ c.loop-j.invariant c.loop-j-test.false

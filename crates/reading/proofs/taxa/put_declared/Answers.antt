@@ -1,0 +1,45 @@
+use Prim.Native.Nat.{◌-◌}
+use Rattle.reading.proofs.HeldRows.{order-at, order-few, tokens-room, words-end, words-over, words-start, words-turn}
+use lib.Seq.{length-take-le}
+use mathlib.Core.Path.{refl, sym, ◌∙◌}
+use native.Mathlib.Omega.{arith}
+use Rattle.reading.proofs.taxa.put_declared.Goals as goal
+
+pub order_place-order-requires : goal.order_place-order-requires
+order_place-order-requires c = order-few _ _ _ _ _ c.requires
+
+pub loop-k-init : goal.loop-k-init
+loop-k-init c =
+    (refl, words-start _ _ _ _ c.args.held c.requires _ _ _ _ _ _ c.order_place-order.ensures)
+
+pub slice_bounds-next_word-end : goal.slice_bounds-next_word-end
+slice_bounds-next_word-end c =
+    sym (length-take-le _ c.args.work.now (tokens-room _ _ _ _ _ c.requires))
+
+pub shape_of-buffer-then-to-word : goal.shape_of-buffer-then-to-word
+shape_of-buffer-then-to-word c = c.loop-k.invariant.0
+
+pub returns-then-to-word : goal.returns-then-to-word
+returns-then-to-word c =
+    record {
+      kept = c.loop-k.invariant.0;
+      put = words-over _ _ _ _ c.args.held c.requires _ _ _ _ _ _ c.order_place-order.ensures _ _ c.loop-k.invariant.1 _ c.next_word-word.ensures c.if-to-word.true;
+    }
+
+pub overflow_add-order : goal.overflow_add-order
+overflow_add-order c =
+    omega (arith, order-at _ _ _ _ _ c.requires _ _ c.order_place-order.ensures c.loop-k-test.true)
+
+pub loop-k-preserved : goal.loop-k-preserved
+loop-k-preserved c =
+    (
+      c.put_taxon-m.ensures.kept ∙ c.loop-k.invariant.0,
+      words-turn _ _ _ _ c.args.held c.requires _ _ _ _ _ _ c.order_place-order.ensures _ _ c.loop-k.invariant.1 _ c.next_word-word.ensures c.if-to-word.false c.loop-k-test.true _ c.start_of-row.ensures c.put_taxon-m.ensures.put,
+    )
+
+pub shape_of-buffer : goal.shape_of-buffer
+shape_of-buffer c = c.loop-k.invariant.0
+
+pub returns : goal.returns
+returns c =
+    record { kept = c.loop-k.invariant.0; put = words-end _ _ _ _ c.args.held c.requires _ _ _ _ _ _ c.order_place-order.ensures _ _ c.loop-k.invariant.1 c.loop-k-test.false }
