@@ -85,7 +85,9 @@ module _ (name : ℕ → List ℕ) (cells : ℕ → List Cell) (taxa : ℕ) wher
   module _ (f : Format) (q m left : ℕ) (p : Page) (k : Paging q m (suc left) p) (l : Taxon) (named : l.name ≡ name (q * taxa + m)) (celled : l.cells ≡ cells (q * taxa + m)) where
     above_more : p.above ++ (record { name = (row_on p l.name).name; cells = (row_on p l.name).cells ++ l.cells } ∷ []) ≡ rows_paged (suc q) 0 (suc m)
     unfolding column
-    above_more = rw (row-on m left p q k l.name named, k.above, celled) (sym (rows_snoc (suc q) 0 m ∙ rw (zero-add m)))
+    above_more =
+        rw (row-on m left p q k l.name named, k.above, celled)
+        (sym (rows_snoc (suc q) 0 m ∙ ap (λ a. rows_paged (suc q) 0 m ++ (row_paged (suc q) a ∷ [])) (zero-add m)))
 
     count : length (p.above ++ (record { name = (row_on p l.name).name; cells = (row_on p l.name).cells ++ l.cells } ∷ [])) ≡ suc m
     count = ap length above_more ∙ rows-length (suc q) 0 (suc m)

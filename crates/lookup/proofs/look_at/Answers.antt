@@ -2,11 +2,8 @@
 use Rattle.lookup.proofs.LookLaws.{record-sought, at-ordered, at-looked, none-looked, wrong-looked}
 use Rattle.lookup.proofs.look_at.Goals as goal
 
-sub-t10 : tie.Need-overflow-sub-t10
-sub-t10 c =
-    let f = c.before.before.before in
-    let h = f.before.before in
-    at-ordered (record-sought h.before.before.judge.ensures _ h.shape.given.1 f.find-cells.ensures) c.before.start.given.1
+pub overflow_sub-result : goal.overflow_sub-result
+overflow_sub-result c = at-ordered (record-sought c.judge.ensures _ c.in-Record.is c.find_cells.ensures) c.in-At.is
 
 pub returns-in-At : goal.returns-in-At
 returns-in-At c =

@@ -4,36 +4,42 @@ use Rattle.lexer.specs.Base.{bytes}
 use Rattle.reading.proofs.CharacterPuts.{bare-ordered, bare-unordered}
 use Rattle.reading.proofs.PutWalks.{puts-from}
 use lib.ListN.{length}
-use mathlib.Core.Logic.{⊎_elim}
 use mathlib.Core.Path.{ap}
 use native.Mathlib.Omega.{arith}
 use Rattle.reading.proofs.plain.put_bare.Goals as goal
-
--- the parts of a fact as the clauses of the contract
-both : {A B : Type 0} → A × B → record { puts : A; upper_bound : B }
-both p = record { puts = p.0; upper_bound = p.1 }
+use Rattle.reading.proofs.plain.put_bare.Goals.{in-Unordered, in-Ordered}
 
 pub put_whole-requires : goal.put_whole-requires
 put_whole-requires c =
     let room = c.requires in
-    ⊎_elim
-    (λ w. omega (arith, room, ap length w.7, w.8, w.4.ensures.0.kept, w.4.ensures.1, c.put_whole-m.ensures.puts.kept, c.put_whole-m.ensures.value))
-    (λ w. omega (arith, room, ap length w.2, w.3, c.put_whole-m.ensures.puts.kept, c.put_whole-m.ensures.value))
-    c.match-ordering.branch
+    let first = c.put_whole-m.ensures in
+    elim c.match-ordering.branch [
+      in-Unordered w ↦
+        let second = w.put_whole-m-in-Unordered.ensures in
+        omega (arith, room, ap length w.buffer-is, w.m-is, second.puts.kept, second.value, first.puts.kept, first.value)
+      | in-Ordered w ↦ omega (arith, room, ap length w.buffer-is, w.m-is, first.puts.kept, first.value)
+    ]
 
 pub returns : goal.returns
 unfolding bytes
 returns c =
-    both (⊎_elim
-    (λ w. (
-      puts-as (puts_then c.put_whole-m.ensures.puts (puts_then w.4.ensures.0 (puts-from w.7 w.8 c.put_whole.ensures.puts))) (λ behind. bare-unordered _ behind w.1.given.1),
-      omega (arith, w.8, w.4.ensures.1, c.put_whole-m.ensures.value, c.put_whole.ensures.value),
-    ))
-    (λ w. (
-      puts-as (puts_then c.put_whole-m.ensures.puts (puts-from w.2 w.3 c.put_whole.ensures.puts)) (λ behind. bare-ordered _ behind w.1.given.1),
-      omega (arith, w.3, c.put_whole-m.ensures.value, c.put_whole.ensures.value),
-    ))
-    c.match-ordering.branch)
+    let first = c.put_whole-m.ensures in
+    let last = c.put_whole.ensures in
+    elim c.match-ordering.branch [
+      in-Unordered w ↦
+        let second = w.put_whole-m-in-Unordered.ensures in
+        record {
+          puts =
+            puts-as (puts_then first.puts (puts_then second.puts (puts-from w.buffer-is w.m-is last.puts)))
+            (λ behind. bare-unordered _ behind w.in-Unordered.is);
+          upper_bound = omega (arith, w.m-is, second.value, first.value, last.value);
+        }
+      | in-Ordered w ↦
+        record {
+          puts = puts-as (puts_then first.puts (puts-from w.buffer-is w.m-is last.puts)) (λ behind. bare-ordered _ behind w.in-Ordered.is);
+          upper_bound = omega (arith, w.m-is, first.value, last.value);
+        }
+    ]
 
 pub shape_of-buffer : goal.shape_of-buffer
-shape_of-buffer c = (returns c).0.kept
+shape_of-buffer c = (returns c).puts.kept
