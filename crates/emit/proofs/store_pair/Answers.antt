@@ -1,4 +1,3 @@
-
 use Rattle.emit.proofs.DigitsStored.{pair-first, pair-last}
 use lib.ListN.{length-set}
 use native.Mathlib.Omega.{arith}

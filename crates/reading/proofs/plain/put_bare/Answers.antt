@@ -14,9 +14,9 @@ put_whole-requires c =
     let room = c.requires in
     let first = c.put_whole-m.ensures in
     elim c.match-ordering.branch [
-      in-Unordered w ↦
-        let second = w.put_whole-m-in-Unordered.ensures in
-        omega (arith, room, ap length w.buffer-is, w.m-is, second.puts.kept, second.value, first.puts.kept, first.value)
+      | in-Unordered w ↦
+          let second = w.put_whole-m-in-Unordered.ensures in
+          omega (arith, room, ap length w.buffer-is, w.m-is, second.puts.kept, second.value, first.puts.kept, first.value)
       | in-Ordered w ↦ omega (arith, room, ap length w.buffer-is, w.m-is, first.puts.kept, first.value)
     ]
 
@@ -26,19 +26,19 @@ returns c =
     let first = c.put_whole-m.ensures in
     let last = c.put_whole.ensures in
     elim c.match-ordering.branch [
-      in-Unordered w ↦
-        let second = w.put_whole-m-in-Unordered.ensures in
-        record {
-          puts =
-            puts-as (puts_then first.puts (puts_then second.puts (puts-from w.buffer-is w.m-is last.puts)))
-            (λ behind. bare-unordered _ behind w.in-Unordered.is);
-          upper_bound = omega (arith, w.m-is, second.value, first.value, last.value);
-        }
+      | in-Unordered w ↦
+          let second = w.put_whole-m-in-Unordered.ensures in
+          record {
+            puts =
+                puts-as (puts_then first.puts (puts_then second.puts (puts-from w.buffer-is w.m-is last.puts)))
+                (λ behind. bare-unordered _ behind w.in-Unordered.is);
+            upper_bound = omega (arith, w.m-is, second.value, first.value, last.value);
+          }
       | in-Ordered w ↦
-        record {
-          puts = puts-as (puts_then first.puts (puts-from w.buffer-is w.m-is last.puts)) (λ behind. bare-ordered _ behind w.in-Ordered.is);
-          upper_bound = omega (arith, w.m-is, first.value, last.value);
-        }
+          record {
+            puts = puts-as (puts_then first.puts (puts-from w.buffer-is w.m-is last.puts)) (λ behind. bare-ordered _ behind w.in-Ordered.is);
+            upper_bound = omega (arith, w.m-is, first.value, last.value);
+          }
     ]
 
 pub shape_of-buffer : goal.shape_of-buffer

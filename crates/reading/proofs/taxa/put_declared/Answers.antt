@@ -31,11 +31,10 @@ overflow_add-order c =
     omega (arith, order-at _ _ _ _ _ c.requires _ _ c.order_place-order.ensures c.loop-k-test.true)
 
 pub loop-k-preserved : goal.loop-k-preserved
-loop-k-preserved c =
-    (
-      c.put_taxon-m.ensures.kept ∙ c.loop-k.invariant.0,
-      words-turn _ _ _ _ c.args.held c.requires _ _ _ _ _ _ c.order_place-order.ensures _ _ c.loop-k.invariant.1 _ c.next_word-word.ensures c.if-to-word.false c.loop-k-test.true _ c.start_of-row.ensures c.put_taxon-m.ensures.put,
-    )
+loop-k-preserved c = (
+  c.put_taxon-m.ensures.kept ∙ c.loop-k.invariant.0,
+  words-turn _ _ _ _ c.args.held c.requires _ _ _ _ _ _ c.order_place-order.ensures _ _ c.loop-k.invariant.1 _ c.next_word-word.ensures c.if-to-word.false c.loop-k-test.true _ c.start_of-row.ensures c.put_taxon-m.ensures.put,
+)
 
 pub shape_of-buffer : goal.shape_of-buffer
 shape_of-buffer c = c.loop-k.invariant.0

@@ -20,12 +20,11 @@ slice_bounds-put_line-end c =
 
 pub loop-at-preserved : goal.loop-at-preserved
 unfolding last_place
-loop-at-preserved c =
-    (
-      c.put_line-m.ensures.kept ∙ c.loop-at.invariant.0,
-      omega arith,
-      lining-turn _ _ _ _ _ _ _ _ _ _ _ _ _ c.loop-at.invariant.2 _ c.loop-at-test.true (ap (λ x. x + 1) c.start_of-from.ensures) (omega (arith, c.well_formed)) (omega arith) (omega arith) c.put_line-m.ensures.put,
-    )
+loop-at-preserved c = (
+  c.put_line-m.ensures.kept ∙ c.loop-at.invariant.0,
+  omega arith,
+  lining-turn _ _ _ _ _ _ _ _ _ _ _ _ _ c.loop-at.invariant.2 _ c.loop-at-test.true (ap (λ x. x + 1) c.start_of-from.ensures) (omega (arith, c.well_formed)) (omega arith) (omega arith) c.put_line-m.ensures.put,
+)
 
 pub shape_of-buffer : goal.shape_of-buffer
 shape_of-buffer c = c.loop-at.invariant.0

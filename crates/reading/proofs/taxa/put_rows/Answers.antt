@@ -16,11 +16,10 @@ overflow_add-count c =
     omega (arith, line-few _ _ _ _ _ c.requires _ _ _ c.row_count-rows.ensures c.loop-row-test.true _ c.first_line-first.ensures)
 
 pub loop-row-preserved : goal.loop-row-preserved
-loop-row-preserved c =
-    (
-      c.put_taxon-m.ensures.kept ∙ c.loop-row.invariant.0,
-      rows-turn _ _ _ _ c.args.held c.requires _ _ _ _ _ c.row_count-rows.ensures c.loop-row-test.true _ _ c.first_line-first.ensures c.start_of-i.ensures c.loop-row.invariant.1 c.put_taxon-m.ensures.put,
-    )
+loop-row-preserved c = (
+  c.put_taxon-m.ensures.kept ∙ c.loop-row.invariant.0,
+  rows-turn _ _ _ _ c.args.held c.requires _ _ _ _ _ c.row_count-rows.ensures c.loop-row-test.true _ _ c.first_line-first.ensures c.start_of-i.ensures c.loop-row.invariant.1 c.put_taxon-m.ensures.put,
+)
 
 pub shape_of-buffer : goal.shape_of-buffer
 shape_of-buffer c = c.loop-row.invariant.0

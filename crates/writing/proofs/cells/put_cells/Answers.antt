@@ -28,8 +28,7 @@ loop-at-smaller c =
     omega (arith, c.put_cell-cell.ensures.0, c.put_run-run.ensures.0, c.if-source-at.false)
 
 pub loop-at-preserved : goal.loop-at-preserved
-loop-at-preserved c =
-    (
-      c.put_cell-cell.auto.buffer ∙ c.put_run-run.auto.buffer ∙ c.loop-at.invariant.0,
-      run-then _ _ _ (run-then _ _ _ c.loop-at.invariant.1 c.put_run-run.ensures.1) (cells-turn _ _ _ _ _ _ _ c.put_cell-cell.ensures.1 c.if-source-at-ne32.false),
-    )
+loop-at-preserved c = (
+  c.put_cell-cell.auto.buffer ∙ c.put_run-run.auto.buffer ∙ c.loop-at.invariant.0,
+  run-then _ _ _ (run-then _ _ _ c.loop-at.invariant.1 c.put_run-run.ensures.1) (cells-turn _ _ _ _ _ _ _ c.put_cell-cell.ensures.1 c.if-source-at-ne32.false),
+)

@@ -27,12 +27,11 @@ loop-at-smaller c =
     omega (arith, some-within c.args.source.now c.sign_at-s.result.at (λ z. omega arith), sign-ahead _ _ _ _ c.sign_at-s.ensures)
 
 pub loop-at-preserved : goal.loop-at-preserved
-loop-at-preserved c =
-    (
-      omega (arith, sign-ahead _ _ _ _ c.sign_at-s.ensures),
-      c.put-m.ensures.kept ∙ c.loop-at.invariant.1,
-      members-turn _ _ _ _ _ _ _ _ c.loop-at.invariant.2 _ c.sign_at-s.ensures _ _ c.put-m.ensures (sym c.byte_or_zero.ensures ∙ c.if-byte_or_zero-ne46.false),
-    )
+loop-at-preserved c = (
+  omega (arith, sign-ahead _ _ _ _ c.sign_at-s.ensures),
+  c.put-m.ensures.kept ∙ c.loop-at.invariant.1,
+  members-turn _ _ _ _ _ _ _ _ c.loop-at.invariant.2 _ c.sign_at-s.ensures _ _ c.put-m.ensures (sym c.byte_or_zero.ensures ∙ c.if-byte_or_zero-ne46.false),
+)
 
 pub shape_of-buffer : goal.shape_of-buffer
 shape_of-buffer c = c.loop-at.invariant.1

@@ -33,12 +33,11 @@ loop-i-preserved-then-i-to c =
     )
 
 pub loop-i-preserved-then-b-ne92 : goal.loop-i-preserved-then-b-ne92
-loop-i-preserved-then-b-ne92 c =
-    (
-      omega arith,
-      going-turn c.loop-i.invariant.1 c.put_byte-m.ensures.kept
-          (λ after r. quoted-byte _ _ c.loop-i-test.true c.if-b-eq10.false c.if-b-ne92.true c.put_byte-m.ensures),
-    )
+loop-i-preserved-then-b-ne92 c = (
+  omega arith,
+  going-turn c.loop-i.invariant.1 c.put_byte-m.ensures.kept
+      (λ after r. quoted-byte _ _ c.loop-i-test.true c.if-b-eq10.false c.if-b-ne92.true c.put_byte-m.ensures),
+)
 
 pub returns-then-source-i-lt2 : goal.returns-then-source-i-lt2
 returns-then-source-i-lt2 c =
@@ -48,12 +47,11 @@ returns-then-source-i-lt2 c =
     ))
 
 pub loop-i-preserved : goal.loop-i-preserved
-loop-i-preserved c =
-    (
-      omega arith,
-      going-turn c.loop-i.invariant.1 c.put-m-else-source-i-lt2.ensures.kept
-          (λ after r. quoted-slash _ _ (omega arith) c.if-b-ne92.false _ c.meant.ensures c.put-m-else-source-i-lt2.ensures),
-    )
+loop-i-preserved c = (
+  omega arith,
+  going-turn c.loop-i.invariant.1 c.put-m-else-source-i-lt2.ensures.kept
+      (λ after r. quoted-slash _ _ (omega arith) c.if-b-ne92.false _ c.meant.ensures c.put-m-else-source-i-lt2.ensures),
+)
 
 pub returns : goal.returns
 returns c =
