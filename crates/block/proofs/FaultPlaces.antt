@@ -4,7 +4,6 @@ use Rattle.block.proofs.Faulted.{Ends, gives, refuses}
 use Rattle.block.proofs.OpenMarks.{quote-mark, comment-mark}
 use Rattle.block.proofs.OutcomeLaws.{All, Any, all-member}
 use Rattle.block.proofs.TokenFaults.{Met, met, at_none, parse-faults}
-use Rattle.block.proofs.ToldFaults as Told
 use Rattle.block.proofs.ToldFaults.{Told}
 use Rattle.block.specs.Faults.{TokenOf, MayStandAt, not_nexus, empty_command, unended_command, unended_block, words_after_end, not_begin, wrong_block, wrong_command, no_taxa_count, not_ready, not_filled, no_matrix, taxa_dimension, dimension, taxa_count, names_count, matrix_count, row_count, label_count, type_count, not_name, name_twice, row_twice, no_count, no_value, format_option, wrong_symbols, cell_symbol, open_set, not_states, wrong_row, no_row, no_entry, label_entry, type_form, type_word, default_type, character_list, ordered_dna, Stops, Whole, Begins, FaultAt, not_utf8, open_quote, open_comment, no_token, at_token, SaidFirst}
 use Rattle.block.specs.Outcome.{Outcome}

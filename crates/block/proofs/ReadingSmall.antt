@@ -14,7 +14,7 @@ use Rattle.block.specs.Interleaved.{all_long, interleaved}
 use Rattle.block.specs.Outcome.{done}
 use Rattle.block.specs.Parse.{reading, read}
 use Rattle.block.specs.Reading.{Taxon, Reading}
-use Rattle.block.specs.Sequential.{Shape, names, sequential}
+use Rattle.block.specs.Sequential.{Shape, sequential}
 use Rattle.block.specs.TaxonOrder.{behind_header, commands_of, all_rows, Follows}
 use Rattle.block.specs.Weights.{weights}
 use Rattle.lexer.proofs.Basics.{and_left, by-test}

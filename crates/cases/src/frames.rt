@@ -1,7 +1,10 @@
 // Frames: a length of four bytes, little-endian, and that many bytes.
 
-ghost use Rattle.std.specs.Prelude.{◌<◌, length};
+ghost use Rattle.std.specs.Prelude.{◌<◌, ◌≤◌, IfOk, length};
 ghost use Rattle.cases.specs.Framed.{Framed};
+
+use std::io;
+use std::io::Read;
 
 // A question, at the front of the space, with its length; or none: at the end of the file, within a frame, or for a longer one.
 #[derive(Clone, Copy)]
@@ -24,33 +27,48 @@ fn number(b: &[u8; 4]) -> usize {
     wide(b[0]) + 256 * wide(b[1]) + 65536 * wide(b[2]) + 16777216 * wide(b[3])
 }
 
+// Reads until the space is full or the file ends, and answers how many bytes it put at the front of the space.
+fn read_full(file: &mut impl Read, space: &mut [u8]) -> io::Result<usize>
+    ensures { IfOk result (λ n. n ≤ length space.new) }
+{
+    let mut done = 0;
+    while done < space.len() {
+        let got = file.read(&mut space[done..])?;
+        if got == 0 {
+            break;
+        }
+        done += got;
+    }
+    Ok(done)
+}
+
 // Reads so many bytes to the front of the space.
-fn read_bytes(fd: i32, space: &mut [u8], n: usize) -> Frame
-    ensures { Framed result (length space.new) }
+fn read_bytes(file: &mut impl Read, space: &mut [u8], n: usize) -> io::Result<Frame>
+    ensures { IfOk result (λ frame. Framed frame (length space.new)) }
 {
     if n > 4096 {
-        return Frame::Long;
+        return Ok(Frame::Long);
     }
     if n > space.len() {
-        return Frame::Long;
+        return Ok(Frame::Long);
     }
-    if io::read_full(fd, &mut space[..n]) < n {
-        return Frame::Cut;
+    if read_full(file, &mut space[..n])? < n {
+        return Ok(Frame::Cut);
     }
-    Frame::Question(n)
+    Ok(Frame::Question(n))
 }
 
 // Reads the next question to the front of the space.
-pub fn read_frame(fd: i32, space: &mut [u8]) -> Frame
-    ensures { Framed result (length space.new) }
+pub fn read_frame(file: &mut impl Read, space: &mut [u8]) -> io::Result<Frame>
+    ensures { IfOk result (λ frame. Framed frame (length space.new)) }
 {
     let mut four = [0u8; 4];
-    let got = io::read_full(fd, &mut four);
+    let got = read_full(file, &mut four)?;
     if got == 0 {
-        return Frame::End;
+        return Ok(Frame::End);
     }
     if got < 4 {
-        return Frame::Cut;
+        return Ok(Frame::Cut);
     }
-    read_bytes(fd, space, number(&four))
+    read_bytes(file, space, number(&four))
 }

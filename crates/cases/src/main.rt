@@ -9,59 +9,63 @@ mod printing;
 mod questions;
 
 use frames::{Frame, read_frame};
-use libc::STDERR_FILENO;
 use printing::print;
 use questions::print_question;
+use std::fs::File;
+use std::io;
+use std::io::Read;
 
 // Nothing more is to be read: what is wrong, if anything, goes to standard error.
-fn stop(why: &[u8]) -> bool {
-    io::write_all(STDERR_FILENO, why);
+fn stop(rt: &impl Eprint, why: &str) -> bool {
+    let _ = rt.eprint(why);
     false
 }
 
 // Takes the next question from the file and prints its calls. Is there more to read?
 fn print_next(
-    fd: i32,
+    rt: &(impl Print + Eprint),
+    file: &mut impl Read,
     space: &mut [u8],
     work: &mut [u32],
     buffer: &mut [u8],
     between: &[u8],
-) -> bool {
-    match read_frame(fd, space) {
+) -> io::Result<bool> {
+    match read_frame(file, space)? {
         Frame::Question(k) => {
-            print(between);
-            print_question(&space[..k], work, buffer);
-            true
+            print(rt, between)?;
+            print_question(rt, &space[..k], work, buffer)?;
+            Ok(true)
         }
-        Frame::End => stop(b""),
-        Frame::Cut => stop(b"cases: the file ends within a question\n"),
-        Frame::Long => stop(b"cases: a question is longer than 4096 bytes\n"),
+        Frame::End => Ok(stop(rt, "")),
+        Frame::Cut => Ok(stop(rt, "cases: the file ends within a question\n")),
+        Frame::Long => Ok(stop(rt, "cases: a question is longer than 4096 bytes\n")),
     }
 }
 
-// A proved loop has to end, and nothing says that a file does. So the loop counts its turns down, from a number that no run uses up.
-fn print_questions(fd: i32, space: &mut [u8], work: &mut [u32], buffer: &mut [u8]) {
-    if !print_next(fd, space, work, buffer, b"") {
-        return;
+// A proved loop has to end, and nothing says that a file does. So the loop counts its turns, up to a number that no run uses up.
+fn print_questions(
+    rt: &(impl Print + Eprint),
+    file: &mut impl Read,
+    space: &mut [u8],
+    work: &mut [u32],
+    buffer: &mut [u8],
+) -> io::Result<()> {
+    if !print_next(rt, file, space, work, buffer, b"")? {
+        return Ok(());
     }
-    let mut turns = u64::MAX;
-    while 0 < turns {
-        if !print_next(fd, space, work, buffer, b"--\n") {
-            return;
+    for _ in 0..u64::MAX {
+        if !print_next(rt, file, space, work, buffer, b"--\n")? {
+            return Ok(());
         }
-        turns -= 1;
     }
+    Ok(())
 }
 
-fn main() {
-    let fd = os::open_read(b"questions");
-    if fd < 0 {
-        os::fail(b"questions");
-        return;
-    }
-    let mut space = io::buffer();
+// A file that cannot be opened, a read and a write that failed are the error that ends the program.
+fn main(rt: HostRuntime) -> io::Result<()> {
+    let mut file = File::open(&rt, "questions")?;
+    let mut space = [0u8; 4096];
     let mut work = [0u32; 16448];
-    let mut buffer = io::large_buffer();
-    print_questions(fd, &mut space, &mut work, &mut buffer);
-    libc::close(fd);
+    let mut buffer = [0u8; 65536];
+    print_questions(&rt, &mut file, &mut space, &mut work, &mut buffer)
 }

@@ -1,4 +1,3 @@
 -- What the proofs of this crate rest on.
-mod InputLaws
 mod PrintLaws
 mod RefusalLines

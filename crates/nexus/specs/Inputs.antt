@@ -5,4 +5,4 @@ use Rattle.nexus.specs.declared.Input.{Input}
 -- So many bytes as are answered were lent.
 abbrev pub Within : Input → ℕ → Type 0
 Within (Input.Bytes n) room = n ≤ room
-Within Input.Failed room = Unit {0}
+Within (Input.Failed _) room = Unit {0}

@@ -9,10 +9,11 @@ ghost use Rattle.record.specs.Program.{program_prints};
 ghost use Rattle.std.specs.Prelude.{length, ◌≡◌};
 
 use lexer::refusal_number;
-use libc::{STDIN_FILENO, STDOUT_FILENO};
 use read::read;
 use reading::names::put_number;
 use record::Answer;
+use std::io;
+use std::io::{Read, Write};
 
 // Puts the lines of a refusal, and answers how many bytes they are.
 fn put_refusal(out: &mut [u8], number: usize, line: usize, column: usize) -> usize
@@ -44,44 +45,53 @@ fn prints(input: &[u8], out: &mut [u8]) -> usize
     }
 }
 
-// What reading comes to: so many bytes, or a read that failed.
+// What reading comes to: so many bytes, or a read that failed, and why.
 #[derive(Clone, Copy)]
 enum Input {
     Bytes(usize),
-    Failed,
+    Failed(io::Error),
 }
 
-// Reads standard input to the front of what is lent, until that is full, the input ends or a read fails.
-fn read_input(input: &mut [u8]) -> Input
+// Reads to the front of what is lent, until that is full, the input ends or a read fails.
+fn read_input<R: Read>(reader: &mut R, input: &mut [u8]) -> Input
     ensures { Within result (length input.new) }
 {
     let mut n = 0;
     while n < input.len() {
-        let got = libc::read(STDIN_FILENO, &mut input[n..]);
-        if got < 0 {
-            return Input::Failed;
+        match reader.read(&mut input[n..]) {
+            Ok(0) => return Input::Bytes(n),
+            Ok(more) => n += more,
+            Err(why) => return Input::Failed(why),
         }
-        let more = io::count(got, &input[n..]);
-        if more == 0 {
-            return Input::Bytes(n);
-        }
-        n += more;
     }
     Input::Bytes(n)
 }
 
+// Says on standard error what failed, and why in the system's own words: the number that std puts behind them is left out.
+fn say_failed(rt: &impl Eprint, what: &str, why: io::Error) {
+    let mut text = [0u8; 256];
+    let mut rest = &mut text[..];
+    let _ = write!(rest, "{why}");
+    let said = str::from_utf8(&text).unwrap_or("").trim_end_matches('\0');
+    let words = match said.split_once(" (os error ") {
+        Some((words, _)) => words,
+        None => said,
+    };
+    let _ = eprintln!(rt; "{what}: {words}");
+}
+
 // Prints what `prints` puts of standard input, or says on standard error why it cannot be read or printed. One byte more than 1,024 is asked for, so
 // that longer input is told from input that is taken.
-fn main() {
+fn main(rt: HostRuntime) {
     let mut input = [0u8; 1025];
-    match read_input(&mut input) {
+    match read_input(&mut rt.stdin(), &mut input) {
         Input::Bytes(n) => {
-            let mut out = io::large_buffer();
+            let mut out = [0u8; 65536];
             let size = prints(&input[..n], &mut out);
-            if !io::write_all(STDOUT_FILENO, &out[..size]) {
-                os::fail(b"write");
+            if let Err(why) = rt.stdout().write_all(&out[..size]) {
+                say_failed(&rt, "write", why);
             }
         }
-        Input::Failed => os::fail(b"read"),
+        Input::Failed(why) => say_failed(&rt, "read", why),
     }
 }

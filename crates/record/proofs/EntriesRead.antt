@@ -8,7 +8,7 @@ use Rattle.lexer.proofs.Basics.{and_left, and_right, or_left, or_right, by-test}
 use Rattle.lexer.specs.Base.{is_empty}
 use Rattle.lexer.specs.Tokens.{Token}
 use Rattle.lexer.specs.Words.{Numbered, largest}
-use Rattle.record.proofs.CommandLaws.{at, Passes, there, words_from}
+use Rattle.record.proofs.CommandLaws.{Passes, there, words_from}
 use Rattle.record.proofs.FormTokens.{word, mark, name, label_tokens, each_tokens, states_tokens, entry_tokens, comma_tokens, entries_tokens}
 use Rattle.record.proofs.LabelsRead.{Labels, Ending, state_labels, if_any, labels_of, number-labels, entry-labels}
 use Rattle.record.specs.Decimal.{decimal}

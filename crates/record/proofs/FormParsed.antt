@@ -13,7 +13,7 @@ use Rattle.lexer.proofs.Basics.{by-test}
 use Rattle.lexer.specs.Base.{given, is_empty}
 use Rattle.lexer.specs.Tokens.{Token}
 use Rattle.lexer.specs.Words.{largest}
-use Rattle.record.proofs.CommandLaws.{at, Reads, newline-read, command-read, here, words_from}
+use Rattle.record.proofs.CommandLaws.{Reads, newline-read, command-read, here, words_from}
 use Rattle.record.proofs.DecimalLaws.{positive-decimal}
 use Rattle.record.proofs.DimensionsRead.{declared, in_form, begin-data-read, dimensions-read}
 use Rattle.record.proofs.EntriesRead.{entries-read, nothing-labelled, entries-passes}

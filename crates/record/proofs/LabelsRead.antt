@@ -11,7 +11,7 @@ use Rattle.lexer.specs.Base.{is_empty, given}
 use Rattle.lexer.specs.Tokens.{Token}
 use Rattle.lexer.specs.Words as W
 use Rattle.lexer.specs.Words.{Numbered, numbered, largest}
-use Rattle.record.proofs.CommandLaws.{at, here, words_from}
+use Rattle.record.proofs.CommandLaws.{at, words_from}
 use Rattle.record.proofs.DecimalLaws.{positive-decimal}
 use Rattle.record.proofs.FormTokens.{word, mark, label_tokens, each_tokens, states_tokens}
 use Rattle.record.proofs.NameLaws.{name-label}

@@ -11,7 +11,7 @@ use Rattle.lexer.proofs.Basics.{and_left, and_right, or_left, or_right, or-both,
 use Rattle.lexer.specs.Base.{alike}
 use Rattle.lexer.specs.Tokens.{Token}
 use Rattle.record.proofs.CellsRead.{Grown, cells-grown, row-goes-on}
-use Rattle.record.proofs.CommandLaws.{at, Turns, end-turned, newline-turned, Passes, there, sign-passes, words_from}
+use Rattle.record.proofs.CommandLaws.{Turns, end-turned, newline-turned, Passes, there, sign-passes, words_from}
 use Rattle.record.proofs.FormTokens.{mark, newline, name, set_tokens, cell_tokens, cells_tokens, rows_tokens}
 use Rattle.record.proofs.NameLaws.{name-label}
 use Rattle.record.proofs.SignLaws.{Signs}

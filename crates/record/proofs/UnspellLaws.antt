@@ -5,7 +5,7 @@ use Rattle.block.specs.Cell.{Cell}
 use Rattle.block.specs.Reading.{Taxon, Character, Reading}
 use Rattle.block.specs.declared.model.CharacterOrdering.{CharacterOrdering}
 use Rattle.lexer.proofs.Basics.{picked, picked_value}
-use Rattle.lexer.specs.Base.{pick, bytes, among}
+use Rattle.lexer.specs.Base.{pick, among}
 use Rattle.record.proofs.CellLaws.{cells-spelled}
 use Rattle.record.proofs.DecimalLaws.{decimal-undecimal}
 use Rattle.record.proofs.EscapeLaws.{escaped-unescaped}

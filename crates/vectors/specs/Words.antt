@@ -1,6 +1,6 @@
 -- Words, quoted text, comments and marks, as names and cells show them.
 -- Made from host/definitions/chosen/02-words.txt, with the Rust's answers.
-use Rattle.std.specs.Prelude.{[], ◌∷◌, ◌++◌, ◌≡◌, refl}
+use Rattle.std.specs.Prelude.{◌∷◌, ◌++◌, ◌≡◌, refl}
 use Rattle.lexer.specs.Base.{bytes}
 use Rattle.vectors.specs.Asked.{read, answered, refused}
 

@@ -1,4 +1,3 @@
-use Prim.Native.Nat.{◌-◌}
 use Rattle.demands.proofs.CompareLaws.{before-turn, before-end, same-told, different-told}
 use lib.ListN.{length, get_or}
 use mathlib.Core.Path.{refl, ap}

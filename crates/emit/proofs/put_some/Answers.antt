@@ -1,4 +1,3 @@
-use Prim.Native.Nat.{◌-◌}
 use Rattle.emit.proofs.PutLaws.{puts-all, puts-more, puts_none}
 use native.Mathlib.Omega.{arith}
 use Rattle.emit.proofs.put_some.Goals as goal

@@ -1,4 +1,3 @@
-use Prim.Native.Nat.{◌-◌}
 use Rattle.emit.proofs.PutLaws.{puts-all, puts_none, puts-stored}
 use native.Mathlib.Nat.{add-zero}
 use native.Mathlib.Omega.{arith}

@@ -1,4 +1,3 @@
-use Prim.Native.Nat.{◌-◌}
 use Rattle.block.proofs.CutLaws.{seeking-start, seeking-turn, seeking-found, seeking-end}
 use Rattle.block.specs.Commands.{semicolon}
 use mathlib.Core.Path.{sym, ◌∙◌}

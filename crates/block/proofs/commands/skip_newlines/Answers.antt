@@ -1,6 +1,4 @@
-use Prim.Native.Nat.{◌-◌}
 use Rattle.block.proofs.CutLaws.{seeking-start, seeking-turn, seeking-found, seeking-end}
-use Rattle.block.specs.Commands.{newline}
 use mathlib.Core.Bool.{not}
 use mathlib.Core.Path.{sym, ap, ◌∙◌}
 use Rattle.block.proofs.commands.skip_newlines.Goals as goal

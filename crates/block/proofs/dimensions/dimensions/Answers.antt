@@ -1,6 +1,5 @@
-use Prim.Native.Nat.{◌-◌}
 use Rattle.block.proofs.WalkLaws.{walking_start, walking-newline, walking-turn, walking-refused, walking-end}
-use Rattle.block.specs.Dimensions.{dimension_turn, dimensions, no_dimensions, dimensions_of}
+use Rattle.block.specs.Dimensions.{dimensions, no_dimensions, dimensions_of}
 use Rattle.block.specs.Outcome.{then}
 use Rattle.block.specs.Sizes.{dimensioned, sized}
 use mathlib.Core.Path.{sym, ◌∙◌}

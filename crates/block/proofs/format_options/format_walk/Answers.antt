@@ -1,6 +1,4 @@
-use Prim.Native.Nat.{◌-◌}
 use Rattle.block.proofs.WalkLaws.{walking-newline, walking-turn, walking-refused, walking-end}
-use Rattle.block.specs.Format.{format_turn}
 use Rattle.block.specs.Formats.{formatted_of, formatting_of}
 use mathlib.Core.Path.{sym, ap, ◌∙◌}
 use Rattle.block.proofs.format_options.format_walk.Goals as goal

@@ -1,4 +1,3 @@
-use Prim.Native.Nat.{◌-◌}
 use Rattle.block.proofs.FormatCodes.{coding-start, coding-turn, coding-end}
 use mathlib.Core.Path.{refl}
 use native.Mathlib.Omega.{arith}

@@ -1,4 +1,3 @@
-use Prim.Native.Nat.{◌-◌}
 use Rattle.block.proofs.KeptNames.{passing-start, passing-turn, passing-found, passing-free, passing-none, passing-value}
 use Rattle.block.specs.NamesHeld.{name_of}
 use mathlib.Core.Path.{refl}

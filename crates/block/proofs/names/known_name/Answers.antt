@@ -1,4 +1,3 @@
-use Prim.Native.Nat.{◌-◌}
 use Rattle.block.proofs.NamesWalk.{searching-newline, searching-turn, searching-found, searching-end}
 use Rattle.block.specs.NamesHeld.{name_of}
 use mathlib.Core.Path.{refl, sym, ◌∙◌}

@@ -1,4 +1,3 @@
-use Prim.Native.Nat.{◌-◌}
 use Rattle.block.proofs.KeptNames.{kept-naming-start, kept-naming-newline, kept-naming-turn, names-judged}
 use Rattle.block.proofs.NamesWalk.{naming-end, nameless, name-again}
 use Rattle.block.proofs.WalkLaws.{walking-refused}

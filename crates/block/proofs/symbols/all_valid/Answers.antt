@@ -1,4 +1,4 @@
-use Prim.Native.Nat.{◌-◌, ◌<◌}
+use Prim.Native.Nat.{◌<◌}
 use Rattle.block.proofs.SymbolsDiffer.{passing-start, passing-turn, passing-over, passing-end, states-taken, valid-more, invalid-over}
 use Rattle.block.specs.Format.{all_valid}
 use borrow.Author.Tests.{not-true, not-false}

@@ -1,4 +1,4 @@
-use Prim.Native.Nat.{◌-◌, ◌<◌}
+use Prim.Native.Nat.{◌<◌}
 use Rattle.block.proofs.SymbolsDiffer.{passing-start, passing-turn, passing-over, passing-end, differ-more, differ-over}
 use Rattle.block.specs.Format.{all_differ}
 use Rattle.block.specs.Formats.{meant}

@@ -1,4 +1,3 @@
-use Prim.Native.Nat.{◌-◌}
 use Rattle.block.proofs.SymbolText.{unspacing-start, unspacing-blank, unspacing-symbol, unspacing-over, unspacing-end}
 use Rattle.lexer.proofs.NextBytes.{yielded}
 use mathlib.Core.Path.{refl}

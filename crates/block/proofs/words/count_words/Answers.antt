@@ -1,4 +1,3 @@
-use Prim.Native.Nat.{◌-◌}
 use Rattle.block.proofs.WordCounts.{counting-start, counting-newline, counting-turn, counting-end}
 use mathlib.Core.Path.{sym, ◌∙◌}
 use Rattle.block.proofs.words.count_words.Goals as goal

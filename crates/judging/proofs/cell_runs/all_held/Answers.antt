@@ -1,4 +1,3 @@
-use Prim.Native.Nat.{◌-◌}
 use Rattle.judging.proofs.CellRuns.{held_more, held_none}
 use mathlib.Core.Path.{◌≡◌}
 use native.Mathlib.Omega.{arith}

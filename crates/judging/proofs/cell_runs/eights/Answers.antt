@@ -1,4 +1,3 @@
-use Prim.Native.Nat.{◌-◌}
 use Rattle.judging.proofs.CellRuns.{moves-eight}
 use Rattle.judging.proofs.CellsJudged.{moves-none}
 use borrow.Author.Tests.{not-false}

@@ -1,4 +1,3 @@
-use Prim.Native.Nat.{◌-◌}
 use Rattle.judging.proofs.CellsJudged.{judged-none, judged-row, moves-few, moves-none, moves-then}
 use native.Mathlib.Omega.{arith}
 use Rattle.judging.proofs.cells.cells_line.Goals as goal

@@ -1,4 +1,3 @@
-use Prim.Native.Nat.{◌-◌}
 use Rattle.judging.proofs.KeyLaws.{compared-other, compared_same, compared-start, compared-turn, word-short}
 use native.Mathlib.Omega.{arith}
 use Rattle.judging.proofs.keys.key_at.Goals as goal

@@ -1,6 +1,4 @@
-use Prim.Native.Nat.{◌-◌}
 use Rattle.judging.proofs.NameJudged.{walking-settled}
-use mathlib.Core.Bool.{false}
 use native.Mathlib.Omega.{arith}
 use Rattle.judging.proofs.names.ascii_run.Goals as goal
 

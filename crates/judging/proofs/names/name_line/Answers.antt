@@ -1,4 +1,3 @@
-use Prim.Native.Nat.{◌-◌}
 use Rattle.judging.proofs.NameJudged.{walking_start, walking-turn, line-over, line-past, line_plain, line-no-escape, line-escape, escape-within}
 use Rattle.judging.specs.NameRest.{name_rest, unescape}
 use mathlib.Core.Path.{refl, ap, ◌∙◌}

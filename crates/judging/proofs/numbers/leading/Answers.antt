@@ -1,4 +1,3 @@
-use Prim.Native.Nat.{◌-◌}
 use Rattle.judging.proofs.NumberLaws.{valuing-end, valuing-high, valuing-low, valuing-many, valuing-start, valuing-turn}
 use Rattle.judging.proofs.numbers.leading.Goals as goal
 

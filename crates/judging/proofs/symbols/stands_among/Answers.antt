@@ -1,6 +1,5 @@
 use borrow.Author.Tests.{ne_eqb}
 use mathlib.Core.Path.{refl}
-use Prim.Native.Nat.{◌-◌}
 use Rattle.judging.proofs.SymbolRuns.{seeking-here, seeking-on, seeking-over}
 use native.Mathlib.Omega.{arith}
 use Rattle.judging.proofs.symbols.stands_among.Goals as goal

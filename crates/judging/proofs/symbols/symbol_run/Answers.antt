@@ -1,6 +1,5 @@
 use borrow.Author.Tests.{not-false, not-true}
 use mathlib.Core.Path.{sym, ◌∙◌}
-use Prim.Native.Nat.{◌-◌}
 use Rattle.judging.proofs.SymbolRuns.{running-again, running-invalid, running-on, running-over, running-start}
 use Rattle.judging.proofs.symbols.symbol_run.Goals as goal
 

@@ -1,4 +1,4 @@
-use Prim.Native.Nat.{◌+◌, ◌-◌, ◌*◌, ◌≤◌}
+use Prim.Native.Nat.{◌+◌, ◌*◌, ◌≤◌}
 use Rattle.block.specs.Judged.{judged}
 use Rattle.labels.proofs.LabelCommandLaws.{applying-start, applying-turn, applying-refused, applying-end, all_fit}
 use Rattle.labels.specs.LabelLists.{Fits}

@@ -1,4 +1,3 @@
-use Prim.Native.Nat.{◌-◌}
 use Rattle.labels.proofs.LabelSlotLaws.{emptying-start, emptying-turn, emptying-end}
 use native.Mathlib.Omega.{arith}
 use Rattle.labels.proofs.labels.clear_labels.Goals as goal

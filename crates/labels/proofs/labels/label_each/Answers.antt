@@ -1,4 +1,3 @@
-use Prim.Native.Nat.{◌-◌}
 use Rattle.block.specs.Judged.{judged}
 use Rattle.labels.proofs.EachLabelled.{each_start, each-newline, each_turn, each-refused, each-full, each-end}
 use mathlib.Core.Path.{sym, ◌∙◌}

@@ -1,4 +1,3 @@
-use Prim.Native.Nat.{◌-◌}
 use Rattle.lexer.proofs.TableLaws.{filling-end, filling-start, filling-turn}
 use Rattle.lexer.proofs.classes.fill.Goals as goal
 

@@ -1,4 +1,3 @@
-use Prim.Native.Nat.{◌-◌}
 use Rattle.lexer.proofs.NextBytes.{yielded}
 use Rattle.lexer.proofs.TextWalks.{blanking-turn, blanking-over, blanking-end}
 use borrow.Author.Tests.{not-true, not-false}

@@ -1,4 +1,3 @@
-use Prim.Native.Nat.{◌-◌}
 use Rattle.lexer.proofs.NextBytes.{yielded}
 use Rattle.lexer.proofs.TextWalks.{matching-turn, matching-over, matching-short, matching-end}
 use mathlib.Core.Path.{refl, sym, ◌∙◌}

@@ -1,4 +1,3 @@
-use Prim.Native.Nat.{◌-◌}
 use Rattle.lexer.proofs.NextBytes.{yielded}
 use Rattle.lexer.proofs.TextWalks.{comparing-turn, comparing-over, comparing-short, comparing-end}
 use mathlib.Core.Path.{refl, sym, ◌∙◌}

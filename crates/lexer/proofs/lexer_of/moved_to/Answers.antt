@@ -1,4 +1,3 @@
-use Prim.Native.Nat.{◌-◌}
 use Rattle.lexer.proofs.Basics.{both_below}
 use Rattle.lexer.proofs.PlaceLaws.{placing-turn, placing-end}
 use Rattle.lexer.specs.Positions.{moved_to, position}

@@ -1,4 +1,3 @@
-use Prim.Native.Nat.{◌-◌}
 use Rattle.lexer.proofs.StepLaws.{step_skip, step-token, step-quote, step-comment}
 use Rattle.lexer.proofs.Storing.{storing-start, storing-skip, storing-token, storing-end, storing-open}
 use mathlib.Core.Path.{sym, ◌∙◌}

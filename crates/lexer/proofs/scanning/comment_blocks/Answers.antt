@@ -1,4 +1,3 @@
-use Prim.Native.Nat.{◌-◌}
 use Rattle.lexer.proofs.CommentBlocks.{passing-start, passing-block, passing-stops, passing-over}
 use native.Mathlib.Omega.{arith}
 use Rattle.lexer.proofs.scanning.comment_blocks.Goals as goal

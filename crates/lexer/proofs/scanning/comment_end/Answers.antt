@@ -1,4 +1,3 @@
-use Prim.Native.Nat.{◌-◌}
 use Rattle.lexer.proofs.CommentBlocks.{commenting-start, commenting-closes, commenting-ahead, commenting-blocks}
 use Rattle.lexer.proofs.EndTurns.{comment-over, comment-opens, comment-goes-on, comment-open}
 use mathlib.Core.Path.{sym, ◌∙◌}

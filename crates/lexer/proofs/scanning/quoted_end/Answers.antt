@@ -1,4 +1,4 @@
-use Prim.Native.Nat.{◌+◌, ◌-◌}
+use Prim.Native.Nat.{◌+◌}
 use Rattle.lexer.proofs.EndTurns.{quote-over, quote-doubled, quote-goes-on, quote-same, quote-closed, quote-open}
 use borrow.Author.Tests.{eq-eqb, ne_eqb}
 use mathlib.Core.Bool.{false}

@@ -1,4 +1,3 @@
-use Prim.Native.Nat.{◌-◌}
 use Rattle.lexer.proofs.ByteBlocks.{passing-start, passing-block, passing-stops, passing-over}
 use Rattle.lexer.specs.ByteBlocks.{is_plain}
 use borrow.Author.Tests.{not-true, not-false}

@@ -1,5 +1,4 @@
 use borrow.Enum.Refused.{opened}
-use Prim.Native.Nat.{◌-◌}
 use Rattle.lexer.proofs.SymbolTags.{tags-continue, tags-stop}
 use Rattle.lexer.proofs.WordBlocks.{word_next, plain-ahead, wording-start, wording-blocks, wording-skips}
 use Rattle.lexer.proofs.WordEnds.{resumed, word-goes-on, word_over, word-skips, skip-ahead, word-last}

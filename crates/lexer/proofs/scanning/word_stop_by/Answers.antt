@@ -1,4 +1,3 @@
-use Prim.Native.Nat.{◌-◌}
 use Rattle.lexer.proofs.PlainRuns.{plain-next, plain_over, plain-stops}
 use Rattle.lexer.proofs.WordsTold.{stands-end, stands_on, stop-here, stop-other, stop-past}
 use borrow.Author.Tests.{eq-eqb, le-leb, lt-leb, ne_eqb}

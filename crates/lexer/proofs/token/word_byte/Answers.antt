@@ -1,5 +1,4 @@
 use borrow.Enum.Refused.{opened}
-use Prim.Native.Nat.{◌-◌}
 use Rattle.lexer.proofs.ClassLaws.{plain-symbol}
 use Rattle.lexer.proofs.SymbolTags.{tags-continue, tags-stop}
 use Rattle.lexer.proofs.WordBlocks.{other-continues}

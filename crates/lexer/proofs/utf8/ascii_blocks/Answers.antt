@@ -1,4 +1,3 @@
-use Prim.Native.Nat.{◌-◌}
 use Rattle.lexer.proofs.ByteBlocks.{passing-start, passing-sixteen, sixteen-stops, passing-over}
 use Rattle.lexer.specs.ByteBlocks.{is_ascii}
 use native.Mathlib.Omega.{arith}

@@ -1,4 +1,3 @@
-use Prim.Native.Nat.{◌-◌}
 use Rattle.lexer.proofs.AsciiRuns.{running-start, running-turn, running-stops, running-end}
 use Rattle.lexer.proofs.utf8.ascii_run.Goals as goal
 

@@ -1,4 +1,4 @@
-use Prim.Native.Nat.{◌-◌, ◌+◌}
+use Prim.Native.Nat.{◌+◌}
 use Rattle.lexer.proofs.AsciiRuns.{run-forward, checking-ascii}
 use Rattle.lexer.proofs.Utf8Checking.{checking-start, checking-turn, checking-refused, checking-end, from-lead, from-no-lead, from-later, from-no-later}
 use lib.ListN.{drop}

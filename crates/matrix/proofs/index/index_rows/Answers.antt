@@ -1,4 +1,3 @@
-use Prim.Native.Nat.{◌-◌}
 use Rattle.matrix.proofs.IndexLaws.{indexing-start, indexing-turn, indexing-end}
 use mathlib.Core.Path.{refl}
 use native.Mathlib.Omega.{arith}

@@ -1,4 +1,3 @@
-use Prim.Native.Nat.{◌-◌}
 use Rattle.matrix.proofs.IndexLaws.{searched-start, searched-turn, searched-end, searched-none, searched-value, first-place}
 use Rattle.matrix.specs.Lines.{name_at}
 use mathlib.Core.Path.{refl, ◌∙◌}

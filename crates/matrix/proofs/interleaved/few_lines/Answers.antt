@@ -1,4 +1,3 @@
-use Prim.Native.Nat.{◌-◌}
 use Rattle.matrix.proofs.LineLaws.{counting-start, counting-turn, counting-enough, counting-end}
 use native.Mathlib.Omega.{arith}
 use Rattle.matrix.proofs.interleaved.few_lines.Goals as goal

@@ -1,4 +1,3 @@
-use Prim.Native.Nat.{◌-◌}
 use Rattle.matrix.proofs.PageShapes.{growing-start, growing-room, growing-newline, growing-turn, growing-refused, growing-end}
 use mathlib.Core.Path.{sym, ◌∙◌}
 use Rattle.matrix.proofs.interleaved.line_cells.Goals as goal

@@ -1,4 +1,3 @@
-use Prim.Native.Nat.{◌-◌}
 use Rattle.matrix.proofs.LineLaws.{within-start, within-turn, within-newline, within_end}
 use mathlib.Core.Path.{sym, ◌∙◌}
 use Rattle.matrix.proofs.interleaved.line_end.Goals as goal

@@ -1,4 +1,3 @@
-use Prim.Native.Nat.{◌-◌}
 use Rattle.block.specs.Cells.{index_of}
 use Rattle.block.specs.Judged.{judged}
 use Rattle.block.specs.declared.formats.Index.{Index}

@@ -1,4 +1,4 @@
-use Prim.Native.Nat.{◌+◌, ◌-◌}
+use Prim.Native.Nat.{◌+◌}
 use Rattle.block.specs.Judged.{judged}
 use Rattle.matrix.proofs.ArrangeWalk.{arranging-start, arranging-room, word-here, row-place, arranging-newline, arranging-turn, arranging-end, named-told}
 use borrow.Author.Tests.{not-false}

@@ -1,4 +1,3 @@
-use Prim.Native.Nat.{◌-◌}
 use Rattle.block.specs.Cells.{index_of}
 use Rattle.matrix.proofs.PlaceWalk.{placing-start, placing-turn, placing-found, placing-end}
 use Rattle.matrix.specs.Lines.{name_at}

@@ -1,4 +1,3 @@
-use Prim.Native.Nat.{◌-◌}
 use Rattle.lexer.proofs.Basics.{or_right}
 use Rattle.matrix.proofs.SetLaws.{rising-high, rising_none, rising-other, rising-turn}
 use borrow.Author.Tests.{ltb-false, not-false, not-true}

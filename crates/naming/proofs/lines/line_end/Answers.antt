@@ -1,4 +1,3 @@
-use Prim.Native.Nat.{◌-◌}
 use Rattle.naming.proofs.LineLaws.{ending-end, ending-within, ending-turn}
 use mathlib.Core.Path.{refl}
 use native.Mathlib.Omega.{arith}

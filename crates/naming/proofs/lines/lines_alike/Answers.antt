@@ -1,4 +1,3 @@
-use Prim.Native.Nat.{◌-◌}
 use Rattle.naming.proofs.LikeLaws.{comparing-unlike, comparing-ended, comparing-within, comparing-turn}
 use mathlib.Core.Path.{refl}
 use native.Mathlib.Omega.{arith}

@@ -1,4 +1,3 @@
-use Prim.Native.Nat.{◌-◌}
 use Rattle.naming.proofs.EscapeLike.{naming-unlike, naming-turn, naming-end}
 use mathlib.Core.Path.{refl}
 use native.Mathlib.Omega.{arith}

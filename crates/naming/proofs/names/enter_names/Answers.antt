@@ -1,4 +1,3 @@
-use Prim.Native.Nat.{◌-◌}
 use Rattle.naming.proofs.EnteredRows.{entering-start, entering-room, entering-twice, entering-turn, entering-end}
 use mathlib.Core.Path.{◌∙◌}
 use native.Mathlib.Omega.{arith}

@@ -1,4 +1,3 @@
-use Prim.Native.Nat.{◌-◌}
 use Rattle.naming.proofs.EntryLaws.{sought-found, sought-turn, sought-none}
 use Rattle.naming.proofs.names.found_line.Goals as goal
 

@@ -1,4 +1,3 @@
-use Prim.Native.Nat.{◌-◌}
 use Rattle.naming.proofs.EntryLaws.{searching-found, searching-turn, searching-end}
 use mathlib.Core.Path.{refl}
 use Rattle.naming.proofs.names.known_line.Goals as goal

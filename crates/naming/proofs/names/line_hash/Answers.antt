@@ -1,4 +1,3 @@
-use Prim.Native.Nat.{◌-◌}
 use Rattle.naming.proofs.EntryLaws.{hashing-start, hashing-end, hashing-within, hashing-turn}
 use native.Mathlib.Omega.{arith}
 use Rattle.naming.proofs.names.line_hash.Goals as goal

@@ -1,4 +1,3 @@
-use Prim.Native.Nat.{◌-◌}
 use Rattle.naming.proofs.OrderedRows.{inserting-start, inserting-twice, inserting-turn, inserting-end}
 use mathlib.Core.Path.{◌∙◌}
 use native.Mathlib.Omega.{arith}

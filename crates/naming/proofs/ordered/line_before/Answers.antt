@@ -1,4 +1,3 @@
-use Prim.Native.Nat.{◌-◌}
 use Rattle.naming.proofs.BeforeLaws.{ordering-told, ordering-ended, ordering-within, ordering-turn}
 use mathlib.Core.Path.{refl}
 use native.Mathlib.Omega.{arith}

@@ -1,4 +1,3 @@
-use Prim.Native.Nat.{◌-◌}
 use Rattle.naming.proofs.OrderLaws.{halves-start, halves-within, halves-low, halves-high, halving-end}
 use borrow.Author.Rules.{rules}
 use native.Mathlib.Omega.{arith}

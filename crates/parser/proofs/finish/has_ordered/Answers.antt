@@ -1,4 +1,3 @@
-use Prim.Native.Nat.{◌-◌}
 use Rattle.parser.proofs.OrderedLaws.{yet-start, yet-turn, yet-found, yet-end}
 use Rattle.parser.proofs.finish.has_ordered.Goals as goal
 

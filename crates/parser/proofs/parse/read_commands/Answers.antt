@@ -1,4 +1,3 @@
-use Prim.Native.Nat.{◌-◌}
 use Rattle.parser.proofs.CommandsWalk.{walking_start, walking-turn, walking-refused, walking-end}
 use mathlib.Core.Path.{◌∙◌}
 use native.Mathlib.Omega.{arith}

@@ -1,4 +1,3 @@
-use Prim.Native.Nat.{◌-◌}
 use Rattle.lexer.proofs.NextBytes.{yielded}
 use Rattle.lexer.proofs.PlainRuns.{run-left}
 use Rattle.reading.proofs.RowPieces.{cells-end, cells-start, cells-turn}

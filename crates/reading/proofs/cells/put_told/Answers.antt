@@ -1,4 +1,4 @@
-use Prim.Native.Nat.{ℕ, ◌-◌, ◌<◌}
+use Prim.Native.Nat.{ℕ, ◌<◌}
 use Rattle.lexer.proofs.WordsTold.{stop-told}
 use Rattle.matrix.proofs.SetLaws.{closes-told}
 use Rattle.reading.proofs.ToldRows.{told-kept, told-set, told-word}

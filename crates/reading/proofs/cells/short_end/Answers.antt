@@ -1,4 +1,3 @@
-use Prim.Native.Nat.{◌-◌}
 use Rattle.reading.proofs.ShortLaws.{shorts-more, shorts-none}
 use Rattle.reading.specs.CodedCells.{cell_byte}
 use borrow.Author.Rules.{rules}

@@ -1,4 +1,3 @@
-use Prim.Native.Nat.{◌-◌}
 use Rattle.reading.proofs.RunPieces.{wrote-end, wrote-start, wrote-turn}
 use Rattle.reading.specs.CodedCells.{cell_byte}
 use lib.ListN.{length-set}

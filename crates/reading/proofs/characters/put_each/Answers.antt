@@ -1,4 +1,4 @@
-use Prim.Native.Nat.{◌+◌, ◌-◌}
+use Prim.Native.Nat.{◌+◌}
 use Rattle.lexer.proofs.Basics.{and_right}
 use Rattle.reading.proofs.CharacterWalk.{spelling-end, spelling-start, spelling-turn}
 use Rattle.reading.proofs.PutWalks.{room-or}

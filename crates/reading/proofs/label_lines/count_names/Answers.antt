@@ -1,4 +1,3 @@
-use Prim.Native.Nat.{◌-◌}
 use Rattle.reading.proofs.FewNames.{counting-end, counting-full, counting-newline, counting-start, counting-turn}
 use mathlib.Core.Path.{sym, ◌∙◌}
 use Rattle.reading.proofs.label_lines.count_names.Goals as goal

@@ -1,4 +1,3 @@
-use Prim.Native.Nat.{◌-◌}
 use Rattle.lexer.specs.Base.{bytes}
 use Rattle.reading.proofs.FewNames.{listing-end, listing_full, listing-newline, listing_start, listing-turn}
 use mathlib.Core.Path.{sym, ◌∙◌}

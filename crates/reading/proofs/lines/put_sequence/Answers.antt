@@ -1,7 +1,5 @@
-use Prim.Native.Nat.{◌-◌}
 use Rattle.reading.proofs.RowWalks.{rowing-as, rowing-end, rowing_start, step-ahead, step_kept, step-on, step-stop, words-over, words-pass}
 use Rattle.reading.proofs.ToldRows.{ahead-on, ahead-rowing}
-use mathlib.Core.Bool.{false}
 use mathlib.Core.Path.{sym, ◌∙◌}
 use native.Mathlib.Omega.{arith}
 use Rattle.reading.proofs.lines.put_sequence.Goals as goal

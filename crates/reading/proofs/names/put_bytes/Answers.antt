@@ -1,4 +1,3 @@
-use Prim.Native.Nat.{◌-◌}
 use Rattle.reading.proofs.NamePuts.{bytes-end, bytes_next}
 use Rattle.reading.proofs.PutWalks.{putting-end, putting-start, putting-turn}
 use native.Mathlib.Omega.{arith}

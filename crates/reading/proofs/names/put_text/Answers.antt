@@ -1,4 +1,3 @@
-use Prim.Native.Nat.{◌-◌}
 use Rattle.lexer.proofs.NextBytes.{yielded}
 use Rattle.reading.proofs.NamePuts.{text-end, text-next}
 use Rattle.reading.proofs.PutWalks.{putting-end, putting-start, putting-turn}

@@ -1,4 +1,4 @@
-use Prim.Native.Nat.{◌+◌, ◌-◌}
+use Prim.Native.Nat.{◌+◌}
 use Rattle.reading.proofs.TenPlain.{same_end, same_turn}
 use Rattle.reading.specs.TenPlain.{all_same}
 use mathlib.Core.Path.{◌≡◌, ap, ◌∙◌}

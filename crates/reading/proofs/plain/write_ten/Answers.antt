@@ -1,4 +1,4 @@
-use Prim.Native.Nat.{◌+◌, ◌-◌, ◌/◌}
+use Prim.Native.Nat.{◌+◌, ◌/◌}
 use Rattle.emit.proofs.PutLaws.{byte-written, puts_then}
 use Rattle.lexer.specs.Base.{bytes}
 use Rattle.reading.proofs.PutWalks.{putting-as, putting-end, putting-start, putting-turn}

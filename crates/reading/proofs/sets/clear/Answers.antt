@@ -1,4 +1,3 @@
-use Prim.Native.Nat.{◌-◌}
 use Rattle.reading.proofs.MarkLaws.{cleared-all, cleared_more, cleared-none}
 use native.Mathlib.Omega.{arith}
 use Rattle.reading.proofs.sets.clear.Goals as goal

@@ -1,4 +1,3 @@
-use Prim.Native.Nat.{◌-◌}
 use Rattle.lexer.proofs.NextBytes.{yielded}
 use Rattle.reading.proofs.MarkLaws.{marking-end, marking-start, marking-turn}
 use native.Mathlib.Omega.{arith}

@@ -1,4 +1,3 @@
-use Prim.Native.Nat.{◌-◌}
 use Rattle.reading.proofs.WholePuts.{digits-end, digits-turn}
 use mathlib.Core.Path.{refl}
 use native.Mathlib.Omega.{arith}

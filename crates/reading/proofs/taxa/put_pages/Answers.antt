@@ -1,4 +1,4 @@
-use Prim.Native.Nat.{◌+◌, ◌-◌}
+use Prim.Native.Nat.{◌+◌}
 use Rattle.emit.specs.Puts.{last_place}
 use Rattle.reading.proofs.LinesWalk.{lining-end, lining-start, lining-turn}
 use lib.Seq.{length-take-le}

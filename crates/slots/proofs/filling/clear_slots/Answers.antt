@@ -1,4 +1,3 @@
-use Prim.Native.Nat.{◌-◌}
 use Rattle.slots.proofs.FillingLaws.{cleared_more}
 use mathlib.Core.Path.{refl}
 use native.Mathlib.Omega.{arith}

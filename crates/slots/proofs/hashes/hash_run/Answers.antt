@@ -1,4 +1,3 @@
-use Prim.Native.Nat.{◌-◌}
 use Rattle.slots.proofs.HashLaws.{run-turn, run-end}
 use Rattle.slots.specs.Hashes.{hash}
 use mathlib.Core.Path.{refl}

@@ -1,4 +1,3 @@
-use Prim.Native.Nat.{◌-◌}
 use Rattle.lexer.proofs.NextBytes.{front-left, yielded}
 use Rattle.lexer.specs.Words.{spaced}
 use Rattle.slots.proofs.HashLaws.{hashing-turn, hashing-end}

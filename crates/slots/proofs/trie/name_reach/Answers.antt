@@ -1,4 +1,3 @@
-use Prim.Native.Nat.{◌-◌}
 use Rattle.lexer.proofs.NextBytes.{front-left}
 use Rattle.slots.proofs.ReachLaws.{reach-whole, reach-more, reach-part}
 use Rattle.slots.proofs.TrieLaws.{leads-same}

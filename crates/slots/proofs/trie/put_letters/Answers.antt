@@ -1,4 +1,3 @@
-use Prim.Native.Nat.{◌-◌}
 use Rattle.slots.proofs.GrowthLaws.{growing-start, growing-end, growing-lost, put-size, growing-last, growing-more, room-told}
 use borrow.Author.Tests.{not-false}
 use lib.ListN.{length-set}

@@ -1,4 +1,3 @@
-use Prim.Native.Nat.{◌-◌}
 use Rattle.lexer.proofs.ListLaws.{some-within}
 use Rattle.writing.proofs.MembersPut.{members-end, members-none, members-start, members-turn}
 use Rattle.writing.proofs.SignsRead.{sign-ahead}

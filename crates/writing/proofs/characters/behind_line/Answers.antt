@@ -1,4 +1,3 @@
-use Prim.Native.Nat.{◌-◌}
 use Rattle.writing.proofs.LinePlaces.{line-ends, line_on, line-past}
 use native.Mathlib.Omega.{arith}
 use Rattle.writing.proofs.characters.behind_line.Goals as goal

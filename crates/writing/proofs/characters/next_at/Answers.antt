@@ -1,4 +1,3 @@
-use Prim.Native.Nat.{◌-◌}
 use Rattle.writing.proofs.LinePlaces.{next_here, next-on, next_past}
 use Rattle.writing.proofs.characters.next_at.Goals as goal
 

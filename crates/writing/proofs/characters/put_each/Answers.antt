@@ -1,4 +1,3 @@
-use Prim.Native.Nat.{◌-◌}
 use Rattle.writing.proofs.EntryPuts.{each_none, each-past, each_turn}
 use Rattle.writing.proofs.PutWalks.{going_start, going-turn}
 use borrow.Author.Rules.{rules}

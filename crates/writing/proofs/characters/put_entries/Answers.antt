@@ -1,9 +1,7 @@
-use Prim.Native.Nat.{◌-◌}
 use Rattle.writing.proofs.EntryPuts.{entries-start, entries-entry, entries-plain, entries-end}
 use Rattle.writing.proofs.PlainCharacters.{entries-bare}
 use Rattle.writing.proofs.PutWalks.{going-turn}
 use borrow.Author.Rules.{rules}
-use mathlib.Core.Bool.{true}
 use mathlib.Core.Path.{refl}
 use native.Mathlib.Omega.{arith}
 use Rattle.writing.proofs.characters.put_entries.Goals as goal

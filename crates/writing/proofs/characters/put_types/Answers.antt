@@ -1,4 +1,3 @@
-use Prim.Native.Nat.{◌-◌}
 use Rattle.lexer.specs.Base.{bytes}
 use Rattle.record.specs.Spell.{order_word}
 use Rattle.writing.proofs.EntryPuts.{types-start, types-turn, types-end}

@@ -1,4 +1,3 @@
-use Prim.Native.Nat.{◌-◌}
 use Rattle.writing.proofs.QuotedBytes.{run-start, run-turn}
 use Rattle.writing.specs.QuotedNames.{special}
 use Rattle.writing.proofs.names.plain_run.Goals as goal

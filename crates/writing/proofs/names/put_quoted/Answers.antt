@@ -1,4 +1,3 @@
-use Prim.Native.Nat.{◌-◌}
 use Rattle.emit.proofs.PutLaws.{puts-as}
 use Rattle.writing.proofs.PutWalks.{going_start, going-turn}
 use Rattle.writing.proofs.QuotedBytes.{quoted-whole, quoted-run, quoted-byte, quoted-end, quoted-slash, quoted-no-slash, quoted-past, run_inside, run-part}

@@ -1,4 +1,3 @@
-use Prim.Native.Nat.{◌-◌}
 use Rattle.writing.proofs.RowsLaws.{rows_end, rows_start, rows-turn}
 use mathlib.Core.Path.{refl, ◌∙◌}
 use Rattle.writing.proofs.rows.put_rows.Goals as goal

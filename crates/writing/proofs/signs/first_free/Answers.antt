@@ -1,4 +1,3 @@
-use Prim.Native.Nat.{◌-◌}
 use Rattle.writing.proofs.SymbolsTaken.{free-found, free-next, free-past, taken-by}
 use borrow.Author.Tests.{not-false, not-true}
 use lib.ListN.{drop, take}

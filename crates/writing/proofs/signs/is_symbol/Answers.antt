@@ -1,4 +1,3 @@
-use Prim.Native.Nat.{◌-◌}
 use Rattle.writing.proofs.SymbolsTaken.{among-found, among_next, among_none, among-past}
 use mathlib.Core.Path.{refl, sym, ◌∙◌}
 use Rattle.writing.proofs.signs.is_symbol.Goals as goal

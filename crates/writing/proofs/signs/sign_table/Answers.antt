@@ -1,4 +1,3 @@
-use Prim.Native.Nat.{◌-◌}
 use Rattle.lexer.proofs.TableLaws.{filled-start, filled-turn}
 use Rattle.writing.proofs.SymbolsTaken.{table-signed}
 use lib.ListN.{length-set}

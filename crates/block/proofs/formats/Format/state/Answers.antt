@@ -1,4 +1,4 @@
-use Prim.Native.Nat.{◌-◌, ◌<◌}
+use Prim.Native.Nat.{◌<◌}
 use Rattle.block.proofs.SymbolWalk.{seeking-start, seeking-turn, seeking-found, seeking-end, symbol-meant}
 use Rattle.block.specs.Cells.{index_of}
 use Rattle.block.specs.Formats.{meant}

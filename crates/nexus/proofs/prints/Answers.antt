@@ -1,0 +1,16 @@
+-- The function prints meets its contract: input that is too long is refused, and of other input what the read call answers is printed. Assumes nothing.
+use Rattle.nexus.proofs.PrintLaws.{long-prints, length-prints, refusal-prints}
+use borrow.Author.Rules.{rules}
+use Rattle.nexus.proofs.prints.Goals as goal
+
+pub returns-then-input-gt1024 : goal.returns-then-input-gt1024
+returns-then-input-gt1024 c =
+    long-prints _ c.if-input-gt1024.true _ _ c.put_refusal.ensures
+
+pub returns-in-Length : goal.returns-in-Length
+returns-in-Length c =
+    length-prints _ c.if-input-gt1024.false _ _ _ _ (search rules) c.requires _ c.read.ensures _ c.in-Length.is
+
+pub returns-in-Refused : goal.returns-in-Refused
+returns-in-Refused c =
+    refusal-prints _ c.if-input-gt1024.false _ _ _ _ (search rules) c.requires _ c.read.ensures _ _ c.in-Refused.is _ c.refusal_number.ensures _ _ c.put_refusal-in-Refused.ensures
