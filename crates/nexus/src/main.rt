@@ -67,31 +67,30 @@ fn read_input<R: Read>(reader: &mut R, input: &mut [u8]) -> Input
     Input::Bytes(n)
 }
 
-// Says on standard error what failed, and why in the system's own words: the number that std puts behind them is left out.
-fn say_failed(rt: &impl Eprint, what: &str, why: io::Error) {
-    let mut text = [0u8; 256];
-    let mut rest = &mut text[..];
-    let _ = write!(rest, "{why}");
-    let said = str::from_utf8(&text).unwrap_or("").trim_end_matches('\0');
-    let words = match said.split_once(" (os error ") {
-        Some((words, _)) => words,
-        None => said,
-    };
-    let _ = eprintln!(rt; "{what}: {words}");
-}
-
-// Prints what `prints` puts of standard input, or says on standard error why it cannot be read or printed. One byte more than 1,024 is asked for, so
-// that longer input is told from input that is taken.
+// Prints what `prints` puts of standard input, or says on standard error why it cannot be read or printed, in the system's own words: the number that std
+// puts behind them is left out. One byte more than 1,024 is asked for, so that longer input is told from input that is taken.
 fn main(rt: HostRuntime) {
     let mut input = [0u8; 1025];
-    match read_input(&mut rt.stdin(), &mut input) {
+    let mut out = [0u8; 65536];
+    let failed = match read_input(&mut rt.stdin(), &mut input) {
         Input::Bytes(n) => {
-            let mut out = [0u8; 65536];
             let size = prints(&input[..n], &mut out);
-            if let Err(why) = rt.stdout().write_all(&out[..size]) {
-                say_failed(&rt, "write", why);
+            match rt.stdout().write_all(&out[..size]) {
+                Ok(()) => None,
+                Err(why) => Some(("write", why)),
             }
         }
-        Input::Failed(why) => say_failed(&rt, "read", why),
+        Input::Failed(why) => Some(("read", why)),
+    };
+    if let Some((what, why)) = failed {
+        let mut text = [0u8; 256];
+        let mut rest = &mut text[..];
+        let _ = write!(rest, "{why}");
+        let said = str::from_utf8(&text).unwrap_or("").trim_end_matches('\0');
+        let words = match said.split_once(" (os error ") {
+            Some((words, _)) => words,
+            None => said,
+        };
+        let _ = eprintln!(rt; "{what}: {words}");
     }
 }
