@@ -1,7 +1,7 @@
 /*
  * The proved NEXUS reader, for C and C++.
  *
- * Link libnexus_c.a, which `rt staticlib nexus_c` writes to target/staticlib. It is for x86-64.
+ * Link libnexus_c.a, which `tools/build` writes to target/staticlib. It is for x86-64.
  *
  * A call works in the memory that it is lent and on the stack of its thread, of which it needs at most
  * NEXUS_STACK_NEEDED bytes, and nowhere else. It allocates nothing and keeps nothing, so several
