@@ -1,7 +1,7 @@
 -- A range is typed character by character: those up to a number are typed, and those behind it are as they were. Assumes nothing.
 use Prim.Native.Nat.{ℕ, zero, suc, ◌+◌, ◌-◌, ◌%◌, ◌≤◌, ◌<◌, min}
 use Rattle.assumptions.proofs.TypesHeldLaws.{type-of-number, type-of-some, held_more, held-set-before, held-set-next}
-use Rattle.assumptions.specs.TypesHeld.{type-number, type-of, types_held}
+use Rattle.assumptions.specs.TypesHeld.{type_number, type_of, types_held}
 use Rattle.block.specs.CharacterList.{in_range}
 use Rattle.block.specs.Typeset.{Types, typed_one, typed_range, on_types}
 use Rattle.block.specs.declared.kinds.Range.{Range}
@@ -88,7 +88,7 @@ module _ (o : CharacterOrdering) (r : Range) (at count : ℕ) (before : List ℕ
 
   module _ (work : List ℕ) (n : ℕ) (k : Ranging o r at count before work n) where
     -- what the next character comes to
-    next : n < count → typed_range o r (suc n) (types_held work (at + n) (count - n)) ≡ typed_one (in_range r (suc n)) o (type-of (get_or work (at + n) 0)) (typed_range o r (suc (suc n)) (types_held work (at + suc n) (count - suc n)))
+    next : n < count → typed_range o r (suc n) (types_held work (at + n) (count - n)) ≡ typed_one (in_range r (suc n)) o (type_of (get_or work (at + n) 0)) (typed_range o r (suc (suc n)) (types_held work (at + suc n) (count - suc n)))
     unfolding types_held typed_range
     next h =
         let less : count - n ≡ suc (count - suc n) = omega arith in
@@ -100,19 +100,19 @@ module _ (o : CharacterOrdering) (r : Range) (at count : ℕ) (before : List ℕ
         record {
           size = k.size;
           front = k.front;
-          rest = rw (held_more work at n) (sym (passed-by o (types_held work at n) (type-of (get_or work (at + n) 0)) (typed_range o r (suc (suc n)) (types_held work (at + suc n) (count - suc n)))) ∙ rw (next h, e) at k.rest);
+          rest = rw (held_more work at n) (sym (passed-by o (types_held work at n) (type_of (get_or work (at + n) 0)) (typed_range o r (suc (suc n)) (types_held work (at + suc n) (count - suc n)))) ∙ rw (next h, e) at k.rest);
         }
 
-    ranging-typed : n < count → at + count ≤ length before → in_range r (suc n) ≡ true → get_or work (at + n) 0 ≡ 0 → Ranging o r at count before (set work (at + n) (type-number o)) (suc n)
-    unfolding type-of
+    ranging-typed : n < count → at + count ≤ length before → in_range r (suc n) ≡ true → get_or work (at + n) 0 ≡ 0 → Ranging o r at count before (set work (at + n) (type_number o)) (suc n)
+    unfolding type_of
     ranging-typed h fits e z =
-        let after = set work (at + n) (type-number o) in
+        let after = set work (at + n) (type_number o) in
         let room : at + n < length work = omega (arith, k.size) in
-        let front : types_held after at (suc n) ≡ types_held work at n ++ (some o ∷ []) = held-set-next work at n (type-number o) room ∙ rw (type-of-number o) in
-        let behind : types_held after (at + suc n) (count - suc n) ≡ types_held work (at + suc n) (count - suc n) = held-set-before work (at + n) (type-number o) (at + suc n) (count - suc n) (omega arith) in
+        let front : types_held after at (suc n) ≡ types_held work at n ++ (some o ∷ []) = held-set-next work at n (type_number o) room ∙ rw (type-of-number o) in
+        let behind : types_held after (at + suc n) (count - suc n) ≡ types_held work (at + suc n) (count - suc n) = held-set-before work (at + n) (type_number o) (at + suc n) (count - suc n) (omega arith) in
         record {
-          size = length-set work (at + n) (type-number o) ∙ k.size;
-          front = take-set-le at work (at + n) (type-number o) (omega arith) ∙ k.front;
+          size = length-set work (at + n) (type_number o) ∙ k.size;
+          front = take-set-le at work (at + n) (type_number o) (omega arith) ∙ k.front;
           rest = rw (front, behind) (sym (typed-here o (types_held work at n) (typed_range o r (suc (suc n)) (types_held work (at + suc n) (count - suc n)))) ∙ rw (next h, e, z) at k.rest);
         }
 
@@ -172,7 +172,7 @@ module _ (o : CharacterOrdering) (r : Range) (at count : ℕ) (before : List ℕ
   -- what typing one character answers, and the memory behind it
   module _ (fits : at + count ≤ length before) (work after : List ℕ) where
     pub striding-typed : (k : ℕ) (b : Bool) → Striding o r at count before work k → k ≤ min r.last count
-        → b ≡ eqb k 0 || eqb (get_or work (at + (k - 1)) 0) 0 → after ≡ pick (ltb 0 k && b) (set work (at + (k - 1)) (type-number o)) work
+        → b ≡ eqb k 0 || eqb (get_or work (at + (k - 1)) 0) 0 → after ≡ pick (ltb 0 k && b) (set work (at + (k - 1)) (type_number o)) work
         → b ≡ true → Ranging o r at count before after k
     unfolding pick
     striding-typed zero b s within free stored t =
@@ -183,11 +183,11 @@ module _ (o : CharacterOrdering) (r : Range) (at count : ℕ) (before : List ℕ
         let front : min (suc n - 1) count ≡ n = omega arith in
         let some : eqb (suc n) 0 ≡ false = ne_eqb (suc n) 0 (λ e. omega arith) in
         let zero : eqb (get_or work (at + n) 0) 0 ≡ true = sym (rw (this, some) at free) ∙ t in
-        let put : after ≡ set work (at + n) (type-number o) = rw (this, t, lt-ltb 0 (suc n) (omega arith)) at stored in
+        let put : after ≡ set work (at + n) (type_number o) = rw (this, t, lt-ltb 0 (suc n) (omega arith)) at stored in
         rw put (ranging-typed o r at count before work n (rw front at s.done) (omega arith) fits (in-range-on r (suc n) s.from (omega arith) s.on) (eqb-true (get_or work (at + n) 0) 0 zero))
 
     pub striding-twice : (k : ℕ) (b : Bool) → Striding o r at count before work k → k ≤ min r.last count
-        → b ≡ eqb k 0 || eqb (get_or work (at + (k - 1)) 0) 0 → after ≡ pick (ltb 0 k && b) (set work (at + (k - 1)) (type-number o)) work
+        → b ≡ eqb k 0 || eqb (get_or work (at + (k - 1)) 0) 0 → after ≡ pick (ltb 0 k && b) (set work (at + (k - 1)) (type_number o)) work
         → b ≡ false → (take at after ≡ take at before) × (none ≡ typed_range o r 1 (types_held before at count))
     unfolding pick
     striding-twice zero b s within free stored f = not-both f free

@@ -1,6 +1,6 @@
 -- Laws of the types that work memory holds. Assumes nothing.
 use Prim.Native.Nat.{ℕ, zero, suc, ◌+◌, ◌≤◌, ◌<◌}
-use Rattle.assumptions.specs.TypesHeld.{type-number, type-of, types_held}
+use Rattle.assumptions.specs.TypesHeld.{type_number, type_of, types_held}
 use Rattle.block.specs.Typeset.{Types}
 use Rattle.block.specs.declared.model.CharacterOrdering.{CharacterOrdering}
 use lib.ListN.{length, get_or, take, set, replicate, length-set, replicate-append-replicate}
@@ -13,14 +13,14 @@ use native.Mathlib.Numerals.{add-one}
 use native.Mathlib.Omega.{arith}
 
 -- The number of a type stands for it.
-pub type-of-number : (o : CharacterOrdering) → type-of (type-number o) ≡ some o
-unfolding type-of type-number
+pub type-of-number : (o : CharacterOrdering) → type_of (type_number o) ≡ some o
+unfolding type_of type_number
 type-of-number CharacterOrdering.Unordered = refl
 type-of-number CharacterOrdering.Ordered = refl
 
 -- A number that is not 0 is a type.
-pub type-of-some : (n : ℕ) → (n ≡ 0 → ⊥) → (o : CharacterOrdering) × (type-of n ≡ some o)
-unfolding type-of
+pub type-of-some : (n : ℕ) → (n ≡ 0 → ⊥) → (o : CharacterOrdering) × (type_of n ≡ some o)
+unfolding type_of
 type-of-some zero h = absurd (h refl)
 type-of-some (suc zero) h = (CharacterOrdering.Unordered, refl)
 type-of-some (suc (suc n)) h = (CharacterOrdering.Ordered, refl)
@@ -34,12 +34,12 @@ held-alike work after at (suc n) h =
     rw (here, held-alike work after (suc at) n (λ i l u. h i (omega arith) (omega arith)))
 
 -- One character more, behind the others.
-pub held_more : (work : List ℕ) (at n : ℕ) → types_held work at (suc n) ≡ types_held work at n ++ (type-of (get_or work (at + n) 0) ∷ [])
+pub held_more : (work : List ℕ) (at n : ℕ) → types_held work at (suc n) ≡ types_held work at n ++ (type_of (get_or work (at + n) 0) ∷ [])
 unfolding types_held
 held_more work at zero = rw (add-zero at)
 held_more work at (suc n) =
     let next : suc at + n ≡ at + suc n = omega arith in
-    ap (λ (ts : Types). type-of (get_or work at 0) ∷ ts) (rw next at (held_more work (suc at) n))
+    ap (λ (ts : Types). type_of (get_or work at 0) ∷ ts) (rw next at (held_more work (suc at) n))
 
 -- A store before a place, or behind all, leaves the types from there on.
 module _ (work : List ℕ) (i v at n : ℕ) where
@@ -50,7 +50,7 @@ module _ (work : List ℕ) (i v at n : ℕ) where
   held-set-behind h = held-alike work (set work i v) at n (λ j l u. get_or-set_other work i j v 0 (λ e. omega arith))
 
 -- The next character is given a type.
-pub held-set-next : (work : List ℕ) (at n v : ℕ) → at + n < length work → types_held (set work (at + n) v) at (suc n) ≡ types_held work at n ++ (type-of v ∷ [])
+pub held-set-next : (work : List ℕ) (at n v : ℕ) → at + n < length work → types_held (set work (at + n) v) at (suc n) ≡ types_held work at n ++ (type_of v ∷ [])
 held-set-next work at n v h =
     held_more (set work (at + n) v) at n
     ∙ rw (held-set-behind work (at + n) v at n (omega arith), get_or-set_same work (at + n) v 0 h)
@@ -69,7 +69,7 @@ module _ (at count : ℕ) (before : List ℕ) where
 
   module _ (work : List ℕ) (k : ℕ) (c : Clearing at count before work k) where
     pub clearing-turn : k < count → at + count ≤ length before → Clearing at count before (set work (at + k) 0) (k + 1)
-    unfolding type-of
+    unfolding type_of
     clearing-turn h fits =
         record {
           below = omega arith;

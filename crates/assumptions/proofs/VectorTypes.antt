@@ -3,7 +3,7 @@ use Prim.Native.Nat.{ℕ, zero, suc, ◌+◌, ◌≤◌, ◌<◌}
 use Rattle.assumptions.proofs.TypesHeldLaws.{type-of-number, held-set-next}
 use Rattle.assumptions.proofs.TypesetWalks.{next-front, at-end, at_done}
 use Rattle.assumptions.specs.NextWord.{Next}
-use Rattle.assumptions.specs.TypesHeld.{type-number, types_held}
+use Rattle.assumptions.specs.TypesHeld.{type_number, types_held}
 use Rattle.assumptions.specs.TypesetWalk.{typeset_from, typeset_at, set_of}
 use Rattle.block.specs.Commands.{words}
 use Rattle.block.specs.Outcome.{done, refused, then, fold}
@@ -97,16 +97,16 @@ module _ (text : List ℕ) (head from to at n : ℕ) (before : List ℕ) where
     word : j < to → word_of text work j ≡ word_of text before j
     word h = word_kept text work before at v.front j (omega arith)
 
-    pub vectoring-turn : (o : CharacterOrdering) → j < to → at + n ≤ length before → ordering (word_of text work j) ≡ some o → Vectoring text head from to at n before (set work (at + k) (type-number o)) (j + 1) (k + 1)
+    pub vectoring-turn : (o : CharacterOrdering) → j < to → at + n ≤ length before → ordering (word_of text work j) ≡ some o → Vectoring text head from to at n before (set work (at + k) (type_number o)) (j + 1) (k + 1)
     unfolding typeset_turn vector_word
     vectoring-turn o h fits e =
         let more : length (words (range text before i to)) ≡ suc (length (words (range text before (j + 1) to))) = ap length (next.here h) in
         let room = vectoring-room h in
         let here : ordering (word_of text before j) ≡ some o = rw (word h) at e in
-        let held : types_held (set work (at + k) (type-number o)) at (k + 1) ≡ types_held work at k ++ (some o ∷ []) = rw (add-one k) (held-set-next work at k (type-number o) (omega (arith, v.size)) ∙ rw (type-of-number o)) in
+        let held : types_held (set work (at + k) (type_number o)) at (k + 1) ≡ types_held work at k ++ (some o ∷ []) = rw (add-one k) (held-set-next work at k (type_number o) (omega (arith, v.size)) ∙ rw (type-of-number o)) in
         record {
-          size = length-set work (at + k) (type-number o) ∙ v.size;
-          front = take-set-le at work (at + k) (type-number o) (omega arith) ∙ v.front;
+          size = length-set work (at + k) (type_number o) ∙ v.size;
+          front = take-set-le at work (at + k) (type_number o) (omega arith) ∙ v.front;
           count = omega (arith, v.count);
           rest = rw held (at_done (set_of n head) text before to (types (types_held work at k) none) next (types (types_held work at k ++ (some o ∷ [])) none) h (rw here) ∙ v.rest);
         }

@@ -9,20 +9,20 @@ use Rattle.lexer.specs.Base.{pick}
 use Rattle.std.proofs.Math.Option.{Option, none, some}
 
 -- The number of a type.
-unfoldable pub type-number : CharacterOrdering → ℕ
-type-number CharacterOrdering.Unordered = 1
-type-number CharacterOrdering.Ordered = 2
+unfoldable pub type_number : CharacterOrdering → ℕ
+type_number CharacterOrdering.Unordered = 1
+type_number CharacterOrdering.Ordered = 2
 
 -- The type of a number.
-unfoldable pub type-of : ℕ → Option CharacterOrdering
-type-of zero = none
-type-of (suc zero) = some CharacterOrdering.Unordered
-type-of (suc (suc n)) = some CharacterOrdering.Ordered
+unfoldable pub type_of : ℕ → Option CharacterOrdering
+type_of zero = none
+type_of (suc zero) = some CharacterOrdering.Unordered
+type_of (suc (suc n)) = some CharacterOrdering.Ordered
 
 -- The types of so many characters, held from a place of work memory on.
 unfoldable pub types_held : List ℕ → ℕ → ℕ → Types
 types_held work at zero = []
-types_held work at (suc n) = let more = types_held work (suc at) n in type-of (get_or work at 0) ∷ more
+types_held work at (suc n) = let more = types_held work (suc at) n in type_of (get_or work at 0) ∷ more
 
 -- A type word, or none.
 unfoldable pub type_word : TypeWord → Option CharacterOrdering

@@ -1,7 +1,7 @@
 // The types of characters, as work memory holds them.
 
 ghost use Rattle.std.specs.Prelude.{◌+◌, ◌-◌, ◌≤◌, min, eqb, ltb, length, take, get_or, set, replicate, ◌&&◌, ◌||◌, not, ◌≡◌};
-ghost use Rattle.assumptions.specs.TypesHeld.{type-number, types_held, unless_twice};
+ghost use Rattle.assumptions.specs.TypesHeld.{type_number, types_held, unless_twice};
 ghost use Rattle.block.specs.Typeset.{typed_range};
 ghost use Rattle.lexer.specs.Base.{pick};
 ghost use Rattle.std.proofs.Math.Option.{none};
@@ -10,7 +10,7 @@ use block::{CharacterNumber, CharacterOrdering, Range};
 
 // The number that stands for a type.
 pub fn type_number(ordering: CharacterOrdering) -> u32
-    ensures { result ≡ type-number ordering }
+    ensures { result ≡ type_number ordering }
 {
     match ordering {
         CharacterOrdering::Unordered => 1,

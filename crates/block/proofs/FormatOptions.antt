@@ -1,7 +1,7 @@
 -- The options of FORMAT as the code has them: what is given is not 0, and symbols stand in double quotes. Assumes nothing.
 use Prim.Native.Nat.{ℕ, zero, suc}
 use Rattle.block.specs.Format.{Options, format_value, single_symbol, symbol_value}
-use Rattle.block.specs.Formats.{sign_of, type-of, choice_of, symbols_of}
+use Rattle.block.specs.Formats.{sign_of, type_of, choice_of, symbols_of}
 use Rattle.block.specs.Outcome.{refused}
 use Rattle.block.specs.declared.formats.Valued.{Valued}
 use Rattle.lexer.specs.contracts.Kind as tags
@@ -28,8 +28,8 @@ unfolding sign_of given
 sign-given zero = refl
 sign-given (suc n) = after n
 
-pub type-given : (n : ℕ) → given (type-of n) ≡ not (eqb n 0)
-unfolding type-of given
+pub type-given : (n : ℕ) → given (type_of n) ≡ not (eqb n 0)
+unfolding type_of given
 type-given zero = refl
 type-given (suc zero) = refl
 type-given (suc (suc n)) = after (suc n)

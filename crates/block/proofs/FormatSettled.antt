@@ -3,7 +3,7 @@ use Prim.Native.Nat.{ℕ, zero, suc, ◌≤◌, ◌<◌}
 use Rattle.block.proofs.FormatSigns.{some-sign}
 use Rattle.block.specs.Dna.{acgt}
 use Rattle.block.specs.Format.{options, settled, format_of}
-use Rattle.block.specs.Formats.{Listed, Settled, meant, sign_of, type-of, choice_of, options_of}
+use Rattle.block.specs.Formats.{Listed, Settled, meant, sign_of, type_of, choice_of, options_of}
 use Rattle.block.specs.declared.data.DataType.{DataType}
 use Rattle.block.specs.declared.format_options.Options.{Options}
 use Rattle.block.specs.declared.formats.Format.{Format}
@@ -16,14 +16,14 @@ use mathlib.Core.Option.{some, get_or}
 use mathlib.Core.Path.{◌≡◌, refl, sym}
 use native.Mathlib.Omega.{arith}
 
-type-standard : (n : ℕ) → n ≤ 1 → get_or (type-of n) DataType.Standard ≡ DataType.Standard
-unfolding type-of
+type-standard : (n : ℕ) → n ≤ 1 → get_or (type_of n) DataType.Standard ≡ DataType.Standard
+unfolding type_of
 type-standard zero h = refl
 type-standard (suc zero) h = refl
 type-standard (suc (suc n)) h = absurd (omega arith)
 
-type-dna : (n : ℕ) → 1 < n → get_or (type-of n) DataType.Standard ≡ DataType.Dna
-unfolding type-of
+type-dna : (n : ℕ) → 1 < n → get_or (type_of n) DataType.Standard ≡ DataType.Dna
+unfolding type_of
 type-dna zero h = absurd (omega arith)
 type-dna (suc zero) h = absurd (omega arith)
 type-dna (suc (suc n)) h = refl

@@ -30,10 +30,10 @@ meant f =
     }
 
 -- A type that is 0 was not given; 1 is STANDARD, and any other DNA.
-unfoldable pub type-of : ℕ → Option DataType
-type-of zero = none
-type-of (suc zero) = some DataType.Standard
-type-of (suc (suc n)) = some DataType.Dna
+unfoldable pub type_of : ℕ → Option DataType
+type_of zero = none
+type_of (suc zero) = some DataType.Standard
+type_of (suc (suc n)) = some DataType.Dna
 
 -- A choice that is 0 was not given; 1 is NO, and any other YES.
 unfoldable pub choice_of : ℕ → Option Bool
@@ -47,7 +47,7 @@ symbols_of text work seen i = pick seen (some (F.unspaced (word_of text work i).
 
 unfoldable pub options_of : List ℕ → List ℕ → Options → F.Options
 options_of text work o =
-    F.options (type-of o.data_type) (symbols_of text work o.has_symbols o.symbols) (sign_of o.missing) (sign_of o.gap)
+    F.options (type_of o.data_type) (symbols_of text work o.has_symbols o.symbols) (sign_of o.missing) (sign_of o.gap)
     (choice_of o.interleave) o.respect_case o.labels o.no_tokens
 
 unfoldable pub formatting_of : List ℕ → List ℕ → Formatting → F.Formatting

@@ -1,5 +1,5 @@
-// Positions in a text, and a lexer that keeps the text beside its position. The proofs of its methods are written by hand, so each method is
-// thin: it takes the lexer apart and leaves the work to a function of the text and the position.
+// Positions in a text, and a lexer that keeps the text beside its position. Each method is thin: it takes the lexer apart and leaves the work to a function
+// of the text and the position.
 
 ghost use Rattle.std.specs.Prelude.{◌<◌, ◌≤◌, length, ◌≡◌};
 ghost use Rattle.lexer.specs.Places.{place};

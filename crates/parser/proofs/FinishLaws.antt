@@ -36,8 +36,8 @@ use mathlib.Core.Option.{get_or}
 use mathlib.Core.Path.{◌≡◌, refl, sym, ap, subst, ◌∙◌}
 use native.Mathlib.Omega.{arith}
 
-number-dna : (v : ℕ) → ltb 1 v ≡ is_dna (get_or (formats.type-of v) DataType.Standard)
-unfolding formats.type-of is_dna
+number-dna : (v : ℕ) → ltb 1 v ≡ is_dna (get_or (formats.type_of v) DataType.Standard)
+unfolding formats.type_of is_dna
 number-dna zero = refl
 number-dna (suc zero) = refl
 number-dna (suc (suc n)) = lt-ltb 1 (suc (suc n)) (omega arith)

@@ -1,7 +1,7 @@
 -- Whether a character of a held matrix is ordered: by the types of its set, and by its default type. Assumes nothing.
 use Prim.Native.Nat.{ℕ, zero, suc, ◌+◌, ◌-◌, ◌≤◌, ◌<◌}
 use Rattle.assumptions.proofs.VectorTypes.{types-length}
-use Rattle.assumptions.specs.TypesHeld.{type-of, type_word, types_held}
+use Rattle.assumptions.specs.TypesHeld.{type_of, type_word, types_held}
 use Rattle.assumptions.specs.declared.assumptions.TypeWord.{TypeWord}
 use Rattle.block.specs.Blocks.{has_ordered, is_ordered, retyped, with_types}
 use Rattle.block.specs.Reading.{Character, Reading}
@@ -34,8 +34,8 @@ module _ (default : TypeWord) where
   none-ordered d = rw d
 
 -- A type by its number
-number-ordered : (v : ℕ) (o : CharacterOrdering) → is_ordered (Option.get_or (type-of v) o) ≡ ltb 1 v || (eqb v 0 && is_ordered o)
-unfolding type-of is_ordered
+number-ordered : (v : ℕ) (o : CharacterOrdering) → is_ordered (Option.get_or (type_of v) o) ≡ ltb 1 v || (eqb v 0 && is_ordered o)
+unfolding type_of is_ordered
 number-ordered zero o = refl
 number-ordered (suc zero) o = refl
 number-ordered (suc (suc n)) o = rw (lt-ltb 1 (suc (suc n)) (omega arith))

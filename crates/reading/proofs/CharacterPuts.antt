@@ -1,6 +1,6 @@
 -- The lines of a character, by the numbers that work memory holds for its label and its state labels, and by its type. Assumes nothing.
 use Prim.Native.Nat.{ℕ, suc, ◌+◌, ◌-◌, ◌/◌, ◌%◌, ◌≤◌, min}
-use Rattle.assumptions.specs.TypesHeld.{type-of}
+use Rattle.assumptions.specs.TypesHeld.{type_of}
 use Rattle.block.specs.declared.model.CharacterOrdering.{CharacterOrdering}
 use Rattle.emit.proofs.PutLaws.{puts-out}
 use Rattle.emit.specs.Puts.{Puts, last_place}
@@ -143,13 +143,13 @@ module _ (work : List ℕ) (o : CharacterOrdering) (typed : Bool) (t : ℕ) wher
 
   module _ (set : typed ≡ true) (number : ℕ) (is : number ≡ get_or work t 0) where
     pub type-none : number ≡ 0 → o ≡ slot_type work o typed t
-    unfolding slot_type pick type-of
+    unfolding slot_type pick type_of
     type-none e = rw (set, ← is, e)
 
     pub type-one : number ≡ 1 → CharacterOrdering.Unordered ≡ slot_type work o typed t
-    unfolding slot_type pick type-of
+    unfolding slot_type pick type_of
     type-one e = rw (set, ← is, e)
 
     pub type-two : (number ≡ 0 → ⊥) → (number ≡ 1 → ⊥) → CharacterOrdering.Ordered ≡ slot_type work o typed t
-    unfolding slot_type pick type-of
+    unfolding slot_type pick type_of
     type-two z s = let more : number ≡ suc (suc (number - 2)) = omega (arith, z, s) in rw (set, ← is, more)

@@ -1,6 +1,6 @@
 -- The walk that puts the characters, ten of them at once. Assumes nothing.
 use Prim.Native.Nat.{ℕ, zero, suc, ◌+◌, ◌*◌, ◌≤◌}
-use Rattle.assumptions.specs.TypesHeld.{type-of}
+use Rattle.assumptions.specs.TypesHeld.{type_of}
 use Rattle.block.specs.declared.model.CharacterOrdering.{CharacterOrdering}
 use Rattle.emit.specs.Puts.{Puts}
 use Rattle.lexer.proofs.Basics.{and_left, and_right}
@@ -34,9 +34,9 @@ module _ (work : List ℕ) (number at count : ℕ) where
 module _ (text front work : List ℕ) (at characters : ℕ) (typed : Bool) (o : CharacterOrdering) (number : ℕ) where
   -- The type that a number stands for, if a set was read, and the first of some types that are all this one.
   abbrev type : CharacterOrdering
-  type = pick typed (Option.get_or (type-of number) o) o
+  type = pick typed (Option.get_or (type_of number) o) o
 
-  type-first : (typed : Bool) (t count : ℕ) → not typed || all_same work number t (suc count) ≡ true → slot_type work o typed t ≡ pick typed (Option.get_or (type-of number) o) o
+  type-first : (typed : Bool) (t count : ℕ) → not typed || all_same work number t (suc count) ≡ true → slot_type work o typed t ≡ pick typed (Option.get_or (type_of number) o) o
   unfolding slot_type pick
   type-first true t count h = rw (same_first work number t count h) refl
   type-first false t count h = refl

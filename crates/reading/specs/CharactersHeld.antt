@@ -1,6 +1,6 @@
 -- Characters as work memory holds their labels, state labels and types, and the piece of their state labels.
 use Rattle.std.specs.Prelude.{ℕ, get_or, length, Bool, List, [], ◌∷◌}
-use Rattle.assumptions.specs.TypesHeld.{type-of, types_held}
+use Rattle.assumptions.specs.TypesHeld.{type_of, types_held}
 use Rattle.block.specs.Blocks.{retyped, unordered}
 use Rattle.block.specs.Reading.{Character}
 use Rattle.block.specs.declared.model.CharacterOrdering.{CharacterOrdering}
@@ -32,7 +32,7 @@ plain_character o = record { label = []; states = []; ordering = o }
 
 -- The type at a place of work memory, if a set was read and gave one; else this one.
 unfoldable pub slot_type : List ℕ → CharacterOrdering → Bool → ℕ → CharacterOrdering
-slot_type work o typed t = pick typed (Option.get_or (type-of (get_or work t 0)) o) o
+slot_type work o typed t = pick typed (Option.get_or (type_of (get_or work t 0)) o) o
 
 -- The character that two numbers and a type stand for.
 unfoldable pub slot_character : List ℕ → List ℕ → ℕ → ℕ → CharacterOrdering → Character

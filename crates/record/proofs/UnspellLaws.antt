@@ -16,7 +16,7 @@ use Rattle.record.specs.Decimal.{decimal, undecimal}
 use Rattle.record.specs.Demands.{Counted}
 use Rattle.block.specs.Sound.{Sound, sound}
 use Rattle.record.specs.Spell.{line, type_word, order_word, escaped, spell_cells, spell_taxa, spell_states, spell_character, spell_characters, spell_head, spell}
-use Rattle.record.specs.Unspell.{lines, value, made, unescaped, unspell_cells, type-of, order_of, most, count_of, Head, Draft, Next, datatype_line, taxa_line, characters_line, symbols_line, name_line, cells_line, character_line, label_line, order_line, states_line, state_line, no_line, no_taxa, with_taxon, with_character, with_states, line_turn, turns, drafted, shape, if_sound, unspell}
+use Rattle.record.specs.Unspell.{lines, value, made, unescaped, unspell_cells, type_of, order_of, most, count_of, Head, Draft, Next, datatype_line, taxa_line, characters_line, symbols_line, name_line, cells_line, character_line, label_line, order_line, states_line, state_line, no_line, no_taxa, with_taxon, with_character, with_states, line_turn, turns, drafted, shape, if_sound, unspell}
 use borrow.Author.Tests.{eqb-true}
 use lib.Dec.{eqb}
 use lib.ListN.{length, length-append}
@@ -226,7 +226,7 @@ state-more d l o k s x behind =
 turned : (m : Next) (l : List ℕ) (n : Next) → among 10 l ≡ false → Held m → line_turn m l ≡ some n → Turned m l n
 unfolding line_turn spelled no_taxa before_taxon head_spelled spell_taxa before_label before_order before_states
 turned datatype_line l n clean held h =
-    turned_by datatype_line (taken "datatype=" type-of type_word type-spelled taxa_line l n clean h) (record { held = tt; bytes = λ behind. refl })
+    turned_by datatype_line (taken "datatype=" type_of type_word type-spelled taxa_line l n clean h) (record { held = tt; bytes = λ behind. refl })
 turned (taxa_line t) l n clean held h =
     let a = taken "taxa=" count_of decimal count-spelled (characters_line t) l n clean h in
     turned_by (taxa_line t) a (record { held = (count-known a.text a.got a.read).1; bytes = λ behind. refl })

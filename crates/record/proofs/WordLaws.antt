@@ -11,7 +11,7 @@ use Rattle.record.proofs.DecimalLaws.{is_digit, undecimal-decimal, decimal-undec
 use Rattle.record.specs.Decimal.{decimal, undecimal}
 use Rattle.block.specs.Sound.{sound_symbols, most_symbols, distinct}
 use Rattle.record.specs.Spell.{type_word, order_word}
-use Rattle.record.specs.Unspell.{type-of, order_of, most, count_of}
+use Rattle.record.specs.Unspell.{type_of, order_of, most, count_of}
 use borrow.Author.Tests.{ne_eqb, le-leb, leb-true}
 use lib.Dec.{leb}
 use lib.ListN.{length}
@@ -33,8 +33,8 @@ module _ {A : Type 0} (enc : A → List ℕ) (x y : A) (v : List ℕ) (a : A) wh
       go false e false f g = absurd (none-ne-some a g)
 
 -- Data types and orderings
-pub type-read : (t : DataType) → type-of (type_word t) ≡ some t
-unfolding type-of type_word bytes same pick
+pub type-read : (t : DataType) → type_of (type_word t) ≡ some t
+unfolding type_of type_word bytes same pick
 type-read DataType.Standard = refl
 type-read DataType.Dna = refl
 
@@ -43,8 +43,8 @@ unfolding type_word bytes among
 type-clean DataType.Standard = refl
 type-clean DataType.Dna = refl
 
-pub type-spelled : (v : List ℕ) (t : DataType) → among 10 v ≡ false → type-of v ≡ some t → type_word t ≡ v
-unfolding type-of type_word
+pub type-spelled : (v : List ℕ) (t : DataType) → among 10 v ≡ false → type_of v ≡ some t → type_word t ≡ v
+unfolding type_of type_word
 type-spelled v t clean h = word-spelled type_word DataType.Standard DataType.Dna v t h
 
 pub order-read : (o : CharacterOrdering) → order_of (order_word o) ≡ some o

@@ -95,8 +95,8 @@ unspell_cell (b ∷ r) =
 unfoldable pub unspell_cells : List ℕ → Option (List Cell)
 unspell_cells v = parts unspell_cell (byte " ") [] v
 
-unfoldable pub type-of : List ℕ → Option DataType
-type-of v =
+unfoldable pub type_of : List ℕ → Option DataType
+type_of v =
     pick (same v (bytes "STANDARD")) (some DataType.Standard)
     (pick (same v (bytes "DNA")) (some DataType.Dna)
     none)
@@ -165,7 +165,7 @@ with_states d l o (suc n) s = state_line d l o (suc n) s
 
 -- One line more.
 unfoldable pub line_turn : Next → List ℕ → Option Next
-line_turn datatype_line l = bind (value "datatype=" l) (λ v. made taxa_line (type-of v))
+line_turn datatype_line l = bind (value "datatype=" l) (λ v. made taxa_line (type_of v))
 line_turn (taxa_line t) l = bind (value "taxa=" l) (λ v. made (characters_line t) (count_of v))
 line_turn (characters_line t n) l = bind (value "characters=" l) (λ v. made (symbols_line t n) (count_of v))
 line_turn (symbols_line t n k) l = made (no_taxa t n k) (value "symbols=" l)

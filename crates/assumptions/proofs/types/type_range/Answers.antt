@@ -1,6 +1,6 @@
 use Prim.Native.Nat.{ℕ, ◌+◌, ◌-◌, ◌≤◌, min}
 use Rattle.assumptions.proofs.RangeTyped.{Ranging, Striding, striding-start, striding-past, striding-typed, striding-twice, striding-last, striding-turn}
-use Rattle.assumptions.specs.TypesHeld.{type-number, unless_twice}
+use Rattle.assumptions.specs.TypesHeld.{type_number, unless_twice}
 use Rattle.block.specs.declared.kinds.Range.{Range}
 use Rattle.block.specs.declared.model.CharacterOrdering.{CharacterOrdering}
 use Rattle.lexer.proofs.Basics.{or_left, or_right}
@@ -15,7 +15,7 @@ use native.Mathlib.Omega.{arith}
 use Rattle.assumptions.proofs.types.type_range.Goals as goal
 
 -- the characters up to this one are done where it was typed, for any range that the loop may be at
-done-any : (o : CharacterOrdering) (r : Range) (at count : ℕ) (before : List ℕ) → at + count ≤ length before → (work after : List ℕ) (k value last : ℕ) (b : Bool) → Striding o r at count before work k → value ≡ type-number o → last ≡ min r.last count → k ≤ last → b ≡ eqb k 0 || eqb (get_or work (at + (k - 1)) 0) 0 → after ≡ pick (ltb 0 k && b) (set work (at + (k - 1)) value) work → b ≡ true → Ranging o r at count before after k
+done-any : (o : CharacterOrdering) (r : Range) (at count : ℕ) (before : List ℕ) → at + count ≤ length before → (work after : List ℕ) (k value last : ℕ) (b : Bool) → Striding o r at count before work k → value ≡ type_number o → last ≡ min r.last count → k ≤ last → b ≡ eqb k 0 || eqb (get_or work (at + (k - 1)) 0) 0 → after ≡ pick (ltb 0 k && b) (set work (at + (k - 1)) value) work → b ≡ true → Ranging o r at count before after k
 done-any o r at count before fits work after k value last b w v m l free stored t = striding-typed o r at count before fits work after k b w (rw m at l) free (rw v at stored) t
 
 -- the next number is in reach

@@ -2,7 +2,7 @@
 -- measure is what is left up to the last. Assumes nothing.
 use Prim.Native.Nat.{◌+◌, ◌-◌, min}
 use Rattle.assumptions.proofs.RangeTyped.{Striding}
-use Rattle.assumptions.specs.TypesHeld.{type-number}
+use Rattle.assumptions.specs.TypesHeld.{type_number}
 use Rattle.block.specs.declared.kinds.Range.{Range}
 use Rattle.block.specs.declared.model.CharacterOrdering.{CharacterOrdering}
 use lib.ListN.{length}
@@ -11,7 +11,7 @@ use Rattle.assumptions.proofs.types.type_range.Given as goal
 
 abbrev pub invariant-loop-k : goal.invariant-loop-k
 invariant-loop-k l = (length l.work ≡ length l.initial.work)
-    × ((o : CharacterOrdering) (r : Range) → l.value ≡ type-number o → l.last ≡ min r.last l.count → l.stride ≡ r.stride → l.initial.k ≡ r.first → Striding o r l.at l.count l.initial.work l.work l.k)
+    × ((o : CharacterOrdering) (r : Range) → l.value ≡ type_number o → l.last ≡ min r.last l.count → l.stride ≡ r.stride → l.initial.k ≡ r.first → Striding o r l.at l.count l.initial.work l.work l.k)
 
 abbrev pub decreases-loop-k : goal.decreases-loop-k
 decreases-loop-k l = l.last + 1 - l.k
