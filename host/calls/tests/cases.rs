@@ -51,7 +51,7 @@ fn its_files() {
 }
 
 #[test]
-#[cfg_attr(not(program_cases), ignore = "no program; `rt check cases` makes it")]
+#[cfg_attr(not(program_cases), ignore = "no program; tools/build makes it")]
 fn generated_questions() {
     for kind in KINDS {
         let questions = (0..).map(|number| Question::generated(kind, 44, number));
@@ -63,7 +63,7 @@ fn generated_questions() {
 }
 
 #[test]
-#[cfg_attr(not(program_cases), ignore = "no program; `rt check cases` makes it")]
+#[cfg_attr(not(program_cases), ignore = "no program; tools/build makes it")]
 fn ends_of_the_file() {
     let text = |byte: u8, length: usize| Question::Text(vec![byte; length]);
     let lookup = |name: usize, record: usize| Question::Lookup {
@@ -97,7 +97,7 @@ fn ends_of_the_file() {
 
 /// No byte that says what it is, another one, and a name that is shorter than its length.
 #[test]
-#[cfg_attr(not(program_cases), ignore = "no program; `rt check cases` makes it")]
+#[cfg_attr(not(program_cases), ignore = "no program; tools/build makes it")]
 fn no_questions() {
     let frames = [&b""[..], b"x", b"Tx", b"l", b"l\x01", b"l\xffabc"];
     let mut file = Vec::new();
