@@ -107,3 +107,17 @@ fn no_questions() {
     let output = ["no question\n"; 6].join("--\n");
     assert_eq!(run("no", &file), (output.into_bytes(), String::new()));
 }
+
+/// Without its file it prints nothing, says what failed, and ends with status 1.
+#[test]
+#[cfg_attr(not(program_cases), ignore = "no program; tools/build makes it")]
+fn no_file() {
+    let folder = Folder::new("no-file");
+    let mut program = Command::new(common::repository().join("target/bin/cases"));
+    let output = program.current_dir(&folder.0).output();
+    let output = output.expect("the program runs");
+    assert_eq!(output.stdout, b"");
+    let errors = String::from_utf8(output.stderr).expect("UTF-8");
+    assert!(errors.contains("No such file or directory"), "{errors}");
+    assert_eq!(output.status.code(), Some(1));
+}

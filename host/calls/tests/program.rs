@@ -95,7 +95,7 @@ fn lengths() {
 }
 
 /// A read that fails is not taken for the end of the input: nothing is printed, and standard error says
-/// what failed. The status is 0 also then: no program of the kit has another (docs/TRUST.md).
+/// what failed. The status is 0 also then (docs/TRUST.md).
 #[test]
 #[cfg_attr(not(program_nexus), ignore = "no program; tools/build makes it")]
 fn a_read_that_fails() {
