@@ -16,8 +16,8 @@ fn main() {
         condition(&format!("program_{name}"), program.is_file());
         if required && !program.is_file() {
             println!(
-                "cargo::error=target/bin/{name} is not there; `rt check {name}` in the repository \
-                writes it"
+                "cargo::error=target/bin/{name} is not there; `tools/build {name}` in the \
+                repository writes it"
             );
         }
     }

@@ -53,9 +53,9 @@ fn link(archive: &Path) {
 /// What to say where the archive is not there.
 fn not_there() -> String {
     format!(
-        "the archive of the proved calls, {ARCHIVE}, is not there. `rt staticlib nexus_c`, run in \
-        the top folder of the repository, writes it; the first time this takes about 11 minutes, \
-        since everything is proved before it is built. `rt` is the command of the Rattle kit"
+        "the archive of the proved calls, {ARCHIVE}, is not there. `tools/build nexus_c`, run in \
+        the top folder of the repository, writes it; the first time this takes some ten minutes, \
+        since everything is proved before it is built. It needs `rt`, the command of the Rattle kit"
     )
 }
 
@@ -77,21 +77,18 @@ fn other_machine() -> Option<String> {
 
 /// Has the archive proved and written, or says why it is not. cargo shows nothing of it meanwhile.
 fn make(repository: &Path) -> Result<(), String> {
-    let mut command = Command::new("rt");
-    command.args(["staticlib", "nexus_c"]);
+    let mut command = Command::new(repository.join("tools/build"));
+    command.arg("nexus_c");
     command.current_dir(repository).stdin(Stdio::null());
     match command.output() {
         Ok(output) if output.status.success() => Ok(()),
         Ok(output) => {
-            let said = String::from_utf8_lossy(&output.stdout);
+            let printed = [output.stdout, output.stderr].concat();
+            let said = String::from_utf8_lossy(&printed);
             let last = said.lines().last().unwrap_or_default();
             let status = output.status;
-            Err(format!(
-                "`rt staticlib nexus_c` ended with {status}: {last}"
-            ))
+            Err(format!("`tools/build nexus_c` ended with {status}: {last}"))
         }
-        Err(error) => Err(format!(
-            "`rt`, the command of the Rattle kit, cannot be run: {error}"
-        )),
+        Err(error) => Err(format!("`tools/build` cannot be run: {error}")),
     }
 }

@@ -51,7 +51,7 @@ fn its_files() {
 }
 
 #[test]
-#[cfg_attr(not(program_cases), ignore = "no program; `rt check cases` makes it")]
+#[cfg_attr(not(program_cases), ignore = "no program; tools/build makes it")]
 fn generated_questions() {
     for kind in KINDS {
         let questions = (0..).map(|number| Question::generated(kind, 44, number));
@@ -63,7 +63,7 @@ fn generated_questions() {
 }
 
 #[test]
-#[cfg_attr(not(program_cases), ignore = "no program; `rt check cases` makes it")]
+#[cfg_attr(not(program_cases), ignore = "no program; tools/build makes it")]
 fn ends_of_the_file() {
     let text = |byte: u8, length: usize| Question::Text(vec![byte; length]);
     let lookup = |name: usize, record: usize| Question::Lookup {
@@ -97,7 +97,7 @@ fn ends_of_the_file() {
 
 /// No byte that says what it is, another one, and a name that is shorter than its length.
 #[test]
-#[cfg_attr(not(program_cases), ignore = "no program; `rt check cases` makes it")]
+#[cfg_attr(not(program_cases), ignore = "no program; tools/build makes it")]
 fn no_questions() {
     let frames = [&b""[..], b"x", b"Tx", b"l", b"l\x01", b"l\xffabc"];
     let mut file = Vec::new();
@@ -106,4 +106,18 @@ fn no_questions() {
     }
     let output = ["no question\n"; 6].join("--\n");
     assert_eq!(run("no", &file), (output.into_bytes(), String::new()));
+}
+
+/// Without its file it prints nothing, says what failed, and ends with status 1.
+#[test]
+#[cfg_attr(not(program_cases), ignore = "no program; tools/build makes it")]
+fn no_file() {
+    let folder = Folder::new("no-file");
+    let mut program = Command::new(common::repository().join("target/bin/cases"));
+    let output = program.current_dir(&folder.0).output();
+    let output = output.expect("the program runs");
+    assert_eq!(output.stdout, b"");
+    let errors = String::from_utf8(output.stderr).expect("UTF-8");
+    assert!(errors.contains("No such file or directory"), "{errors}");
+    assert_eq!(output.status.code(), Some(1));
 }

@@ -53,7 +53,7 @@ fn checked(input: &[u8]) -> Vec<u8> {
 }
 
 #[test]
-#[cfg_attr(not(program_nexus), ignore = "no program; `rt check nexus` makes it")]
+#[cfg_attr(not(program_nexus), ignore = "no program; tools/build makes it")]
 fn the_example() {
     let text = example::TEXT.as_bytes();
     assert_eq!(checked(text), example::RECORD.as_bytes());
@@ -62,7 +62,7 @@ fn the_example() {
 }
 
 #[test]
-#[cfg_attr(not(program_nexus), ignore = "no program; `rt check nexus` makes it")]
+#[cfg_attr(not(program_nexus), ignore = "no program; tools/build makes it")]
 fn refusals() {
     let middle = example::TEXT.replace('?', "X");
     let late = format!("{}BEGIN", example::TEXT);
@@ -78,7 +78,7 @@ fn refusals() {
 }
 
 #[test]
-#[cfg_attr(not(program_nexus), ignore = "no program; `rt check nexus` makes it")]
+#[cfg_attr(not(program_nexus), ignore = "no program; tools/build makes it")]
 fn lengths() {
     let mut text = example::TEXT.as_bytes().to_vec();
     text.resize(LONGEST - 1, b' ');
@@ -95,9 +95,9 @@ fn lengths() {
 }
 
 /// A read that fails is not taken for the end of the input: nothing is printed, and standard error says
-/// what failed. The status is 0 also then: no program of the kit has another (docs/TRUST.md).
+/// what failed. The status is 0 also then (docs/TRUST.md).
 #[test]
-#[cfg_attr(not(program_nexus), ignore = "no program; `rt check nexus` makes it")]
+#[cfg_attr(not(program_nexus), ignore = "no program; tools/build makes it")]
 fn a_read_that_fails() {
     let folder = File::open(common::repository()).expect("a folder");
     let output = program().stdin(folder).output().expect("the program runs");
@@ -108,7 +108,7 @@ fn a_read_that_fails() {
 
 /// So it is with a write that fails.
 #[test]
-#[cfg_attr(not(program_nexus), ignore = "no program; `rt check nexus` makes it")]
+#[cfg_attr(not(program_nexus), ignore = "no program; tools/build makes it")]
 fn a_write_that_fails() {
     let folder = Folder::new("full");
     let text = File::open(folder.file("text", example::TEXT.as_bytes())).expect("a text");
@@ -122,7 +122,7 @@ fn a_write_that_fails() {
 
 /// The longest record: as many cells of several states as the input has room for.
 #[test]
-#[cfg_attr(not(program_nexus), ignore = "no program; `rt check nexus` makes it")]
+#[cfg_attr(not(program_nexus), ignore = "no program; tools/build makes it")]
 fn a_long_record() {
     let text = |cells: usize| {
         format!(
@@ -139,7 +139,7 @@ fn a_long_record() {
 }
 
 #[test]
-#[cfg_attr(not(program_nexus), ignore = "no program; `rt check nexus` makes it")]
+#[cfg_attr(not(program_nexus), ignore = "no program; tools/build makes it")]
 fn names_beyond_ascii() {
     let text = example::TEXT
         .replace("a_b", "'Bärlauch żółć'")
@@ -153,7 +153,7 @@ fn names_beyond_ascii() {
 }
 
 #[test]
-#[cfg_attr(not(program_nexus), ignore = "no program; `rt check nexus` makes it")]
+#[cfg_attr(not(program_nexus), ignore = "no program; tools/build makes it")]
 fn pages_with_labels_and_types() {
     let text = "\u{feff}#NEXUS
 [A comment [in a comment].]
@@ -196,7 +196,7 @@ END;
 }
 
 #[test]
-#[cfg_attr(not(program_nexus), ignore = "no program; `rt check nexus` makes it")]
+#[cfg_attr(not(program_nexus), ignore = "no program; tools/build makes it")]
 fn generated_texts() {
     let fits = |text: &Vec<u8>| {
         let beyond = matches!(answer::read(text, ENOUGH, BUFFER), Answer::Beyond(_));

@@ -18,9 +18,9 @@ const CRATE: usize = 200_000;
 /// The goals of one crate.
 const GOALS: usize = 500;
 
-/// A buffer that takes most records and forms of generated questions. antt shows a goal of up to
-/// 16,384 bytes whole, and each byte of the buffer takes eight.
-const MUCH_ROOM: usize = 1000;
+/// A buffer that takes many records and forms of generated questions. antt shows a value of up to
+/// 24 lines whole, and a record of this length with its buffer fills them.
+const MUCH_ROOM: usize = 270;
 
 /// What the definition gives, or why that is not shown.
 pub type Given = Result<Value, String>;
@@ -80,13 +80,11 @@ fn failed(
     let (start, mut passed) = (Instant::now(), 0);
     while !groups.is_empty() {
         let batch: Vec<Vec<usize>> = groups.drain(..jobs.min(groups.len())).collect();
-        let mut names = Vec::new();
-        for group in &batch {
-            names.push(scratch.add(&theorems(cases, group))?);
-        }
-        let output = scratch.check(&names, jobs)?;
-        for (group, name) in batch.into_iter().zip(names) {
-            let judged = judge(&output, &name, group);
+        let crates: Vec<Vec<String>> = batch.iter().map(|group| theorems(cases, group)).collect();
+        let added = scratch.add(&crates)?;
+        let output = scratch.check(&added, jobs)?;
+        for (group, name) in batch.into_iter().zip(&added.names) {
+            let judged = judge(&output, name, group);
             passed += judged.passed;
             failed.extend(judged.failed);
             groups.extend(judged.again);
@@ -195,8 +193,8 @@ fn shown(
     let mut shown = BTreeMap::new();
     for asked in asked.chunks(GOALS) {
         let declare = |(number, question): &(usize, Question)| hole(*number, question, runners);
-        let name = scratch.add(&modules(&runners.head(), asked, declare))?;
-        shown.extend(goals(&scratch.goals(&name)?));
+        let added = scratch.add(&[modules(&runners.head(), asked, declare)])?;
+        shown.extend(goals(&scratch.goals(&added)?));
     }
     Ok(shown)
 }
@@ -230,7 +228,8 @@ mod tests {
 
     #[test]
     fn cases_that_no_error_names_are_checked_again() {
-        let output = "/V0.antt:1:6: error: `c2`: differs\nrt: v NOT PROVED (exit 1, 1 s)\n";
+        let output = "== v\n./specs/V0.antt:1:6: error: `c2`: differs\n\
+                      == summary\nv: failed (1)\n";
         let judged = judge(output, "v", vec![1, 2, 3]);
         assert_eq!(judged.passed, 0);
         assert_eq!(judged.failed, [(2, "differs".to_string())]);
@@ -239,7 +238,7 @@ mod tests {
 
     #[test]
     fn without_a_name_each_half_is_checked_again() {
-        let output = "rattle: no verdict\nrt: v NOT PROVED (exit 3, 1 s)\n";
+        let output = "== v\nrattle: no verdict\n== summary\nv: failed (3)\n";
         let judged = judge(output, "v", vec![1, 2, 3]);
         assert_eq!(judged.again, [vec![1], vec![2, 3]]);
         let judged = judge(output, "v", vec![1]);
@@ -249,7 +248,8 @@ mod tests {
 
     #[test]
     fn a_proved_crate_passes() {
-        let judged = judge("rt: v proved (1 s)\n", "v", vec![1, 2]);
+        let proved = "== v\nlogic=proved functions=0\n== summary\nv: ok\n";
+        let judged = judge(proved, "v", vec![1, 2]);
         assert_eq!((judged.passed, judged.failed.len()), (2, 0));
         let judged = judge("rt: bad\n", "v", vec![1, 2]);
         assert_eq!((judged.passed, judged.failed.len()), (0, 2));

@@ -4,9 +4,8 @@ use crate::question::{Case, Question};
 
 /// The imports of a module.
 pub const HEAD: &str = "\
-use mathlib.Core.List.{List, [], _∷_}
-use mathlib.Core.Path.{_≡_, refl}
-use Rattle·record.specs.Run.{run·read, run·write, run·lookup}
+use Rattle.std.specs.Prelude.{List, [], ◌∷◌, ◌≡◌, refl}
+use Rattle.record.specs.Run.{run_read, run_write, run_lookup}
 ";
 
 /// The theorem that the definition gives what is expected.
@@ -40,34 +39,34 @@ impl Runners {
 
     fn of(self, question: &Question) -> &'static str {
         match (self, question) {
-            (Self::Once, Question::Read { .. }) => "once·read",
-            (Self::Once, Question::Write { .. }) => "once·write",
+            (Self::Once, Question::Read { .. }) => "once_read",
+            (Self::Once, Question::Write { .. }) => "once_write",
             _ => question.runner(),
         }
     }
 }
 
 const ONCE: &str = "\
-use Prim.Native.Nat.{ℕ}
-use Rattle·record.specs.Calls
-use Rattle·record.specs.Run.{buffer}
+use Rattle.std.specs.Prelude.{ℕ}
+use Rattle.record.specs.Calls
+use Rattle.record.specs.Run.{buffer}
 
 unfoldable once : Calls.Result → ℕ → List (List ℕ)
-unfolding run·read
+unfolding run_read
 once result room =
     let after = Calls.leaves result (buffer room) in
     Calls.printed (Calls.answer result room) after ∷ after ∷ []
 
-unfoldable once·read : ℕ → ℕ → List ℕ → List (List ℕ)
+unfoldable once_read : ℕ → ℕ → List ℕ → List (List ℕ)
 unfolding once
-once·read work room text =
-    let result = Calls.read·result text work in
+once_read work room text =
+    let result = Calls.read_result text work in
     once result room
 
-unfoldable once·write : ℕ → List ℕ → List (List ℕ)
+unfoldable once_write : ℕ → List ℕ → List (List ℕ)
 unfolding once
-once·write room record·bytes =
-    let result = Calls.write·result record·bytes in
+once_write room record_bytes =
+    let result = Calls.write_result record_bytes in
     once result room
 ";
 
@@ -81,11 +80,11 @@ mod tests {
         let question = Question::Lookup { name, record };
         let case = question.clone().asked(String::new()).expect("a case");
         let theorem = theorem(7, &case);
-        let expected = "c7 : run·lookup (97 ∷ []) [] ≡ 31 ∷ 0 ∷ 0 ∷ []\n\
-                        unfolding run·lookup\nc7 = refl\n";
+        let expected = "c7 : run_lookup (97 ∷ []) [] ≡ 31 ∷ 0 ∷ 0 ∷ []\n\
+                        unfolding run_lookup\nc7 = refl\n";
         assert_eq!(theorem, expected);
         let hole = hole(7, &question, Runners::Once);
-        assert!(hole.starts_with("c7 : run·lookup (97 ∷ []) [] ≡ []\n"));
+        assert!(hole.starts_with("c7 : run_lookup (97 ∷ []) [] ≡ []\n"));
         assert!(hole.ends_with("c7 = ?h\n"));
     }
 }

@@ -36,9 +36,9 @@ impl Question {
     /// The runner of Run.antt that it is put to.
     pub fn runner(&self) -> &'static str {
         match self {
-            Self::Read { .. } => "run·read",
-            Self::Write { .. } => "run·write",
-            Self::Lookup { .. } => "run·lookup",
+            Self::Read { .. } => "run_read",
+            Self::Write { .. } => "run_write",
+            Self::Lookup { .. } => "run_lookup",
         }
     }
 
@@ -171,7 +171,7 @@ mod tests {
             name: b"a".to_vec(),
             record: Vec::new(),
         };
-        assert_eq!(lookup.runner(), "run·lookup");
+        assert_eq!(lookup.runner(), "run_lookup");
         assert_eq!(lookup.arguments(), "(97 ∷ []) []");
         assert_eq!(lookup.words(), "lookup of \"a\" in \"\"");
     }

@@ -31,37 +31,38 @@ pub enum End {
 }
 
 pub fn end(output: &str, name: &str) -> End {
-    let Some((said, before)) = last_words(output, name) else {
+    let Some((verdict, said)) = verdict(output, name) else {
         let last = output.lines().last().unwrap_or("rt printed nothing");
         return End::Broken(last.to_string());
     };
-    if said.starts_with("proved") {
+    if verdict == "ok" && said.iter().any(|line| line.starts_with("logic=proved ")) {
         return End::Proved;
     }
-    let why = before.iter().find(|line| line.contains("no verdict"));
-    let why = why.or_else(|| before.iter().find(|line| line.contains("error")));
-    let reason = format!("{said}: {}", why.or(before.last()).unwrap_or(&""));
-    if said.contains("(exit 2,") {
-        End::Broken(reason)
-    } else {
-        End::NotProved(reason)
+    let why = said.iter().find(|line| line.contains("no verdict"));
+    let why = why.or_else(|| said.iter().find(|line| line.contains("error")));
+    let reason = format!("{verdict}: {}", why.or(said.last()).unwrap_or(&""));
+    match verdict {
+        "failed (1)" | "failed (3)" => End::NotProved(reason),
+        _ => End::Broken(reason),
     }
 }
 
-/// rt's verdict on a crate, and the lines about it that stand before.
-fn last_words<'a>(output: &'a str, name: &str) -> Option<(&'a str, Vec<&'a str>)> {
-    let mut before = Vec::new();
+/// rt's verdict on a crate, which stands in its summary, and the lines about it that stand before,
+/// under the crate's own head.
+fn verdict<'a>(output: &'a str, name: &str) -> Option<(&'a str, Vec<&'a str>)> {
+    let (mut said, mut verdict) = (Vec::new(), None);
+    let mut head = "";
     for line in output.lines() {
-        let verdict = line
-            .strip_prefix("rt: ")
-            .and_then(|said| said.split_once(' '));
-        match verdict.filter(|(_, said)| said.starts_with("proved") || said.starts_with("NOT ")) {
-            Some((of, said)) if of == name => return Some((said, before)),
-            Some(_) => before.clear(),
-            None => before.push(line),
+        if let Some(next) = line.strip_prefix("== ") {
+            head = next;
+        } else if head == name {
+            said.push(line);
+        } else if head == "summary" {
+            let (of, found) = line.split_once(": ").unwrap_or_default();
+            verdict = verdict.or(Some(found).filter(|_| of == name));
         }
     }
-    None
+    Some((verdict?, said))
 }
 
 /// What the goal of each case shows, or why it shows nothing.
@@ -89,7 +90,8 @@ pub fn goals(output: &str) -> BTreeMap<usize, Result<Value, String>> {
 pub const TOO_MANY_STEPS: &str = "computing it takes more steps than antt's display has";
 
 fn goal_value(block: &str) -> Result<Value, String> {
-    if let Some((_, term)) = block.split_once("(unfolded: Path ") {
+    let unfolded = block.split_once("(unfolded:");
+    if let Some(term) = unfolded.and_then(|(_, term)| term.trim_start().strip_prefix("Path ")) {
         if term.contains('…') {
             return Err("antt's display cut it".to_string());
         }
@@ -194,16 +196,23 @@ mod tests {
     use super::*;
 
     const CHECK: &str = "\
-rt: record proved (unchanged since it was last proved)
-/s/crates/vectors0/specs/V0.antt:11:6: error: `c1`: as printed, the two types differ only where
+== record
+== vectors1
+note: no function with a body is declared, so nothing was lowered
+logic=proved functions=0 sum=d native=nat
+== vectors0
+./specs/V0.antt:11:6: error: `c1`: as printed, the two types differ only where
   computed as far as they go, the two types differ only where one has `50` and `49`
-/s/crates/vectors0/specs/V0.antt:17:1: note: a trial run was refused too. (in `c3`)
-/s/crates/vectors0/specs/V0.antt:19:6: error: `c3`: expected type `x`
-/s/crates/vectors0/specs/V0.antt:20:6: error: `once`: expected type `x`
+./specs/V0.antt:17:1: note: a trial run was refused too. (in `c3`)
+./specs/V0.antt:19:6: error: `c3`: expected type `x`
+./specs/V0.antt:20:6: error: `once`: expected type `x`
 logic=not-proved
-rt: vectors0 NOT PROVED (exit 1, 1 s)
-rt: vectors1 proved (4 s)
-rt: FAILED: vectors0
+== summary
+record: ok
+vectors0: failed (1)
+vectors1: ok
+(1: not proved or not passed, 2: rattle failed, 3: antt could not tell)
+2 of 3 crates ok
 ";
 
     #[test]
@@ -220,30 +229,37 @@ rt: FAILED: vectors0
         let End::NotProved(reason) = end(CHECK, "vectors0") else {
             panic!("it is not proved")
         };
-        assert!(reason.starts_with("NOT PROVED (exit 1, 1 s): /s/crates/vectors0/"));
-        let silent = End::Broken("rt: FAILED: vectors0".to_string());
+        assert!(reason.starts_with("failed (1): ./specs/V0.antt:11"));
+        // Nothing about a crate is no proof, and neither is a verdict without one.
+        let silent = End::Broken("2 of 3 crates ok".to_string());
         assert_eq!(end(CHECK, "vectors2"), silent);
-        let broken = "rt: vectors0 NOT PROVED (exit 2, 0 s)\n";
+        let unsaid = End::Broken("ok: ".to_string());
+        assert_eq!(end(CHECK, "record"), unsaid);
+        let broken = "== vectors0\n== summary\nvectors0: failed (2)\n";
         assert!(matches!(end(broken, "vectors0"), End::Broken(_)));
+        let left = "== summary\nvectors0: not run, since record failed\n";
+        assert!(matches!(end(left, "vectors0"), End::Broken(_)));
     }
 
     const GOALS: &str = "\
-/s/V0.antt:10:1: `c1` is not admitted: has-holes
-/s/V0.antt:12:7: goal ?h in `c1`
-    given Υ run·read
-  ⊢ run·read
+./specs/V0.antt:10:1: `c1` is not admitted: has-holes
+./specs/V0.antt:12:7: goal ?h in `c1`
+    unfolding run_read
+  ⊢ run_read
       780
       (35 ∷
         []) ≡
       []
-    (unfolded: Path (List (List Prim.Native.Nat.ℕ)) ((97 ∷ 10 ∷ []) ∷ [] ∷ []) [])
-/s/V0.antt:14:1: `c2` is not admitted: has-holes
-/s/V0.antt:16:7: goal ?h in `c2`
-  ⊢ run·read 780 3 [] ≡ []
+    (unfolded:
+      Path (List (List Prim.Native.Nat.ℕ)) ((97 ∷
+        10 ∷ []) ∷ [] ∷ []) [])
+./specs/V0.antt:14:1: `c2` is not admitted: has-holes
+./specs/V0.antt:16:7: goal ?h in `c2`
+  ⊢ run_read 780 3 [] ≡ []
     (normal form not shown: computing it took more than 200000 steps — lift the type)
-/s/V0.antt:20:7: goal ?h in `c3`
-    (unfolded: Path (List ℕ) (0 ∷ 62 ∷ 7 ∷ []) [])
-/s/V0.antt:24:7: goal ?h in `c4`
+./specs/V0.antt:20:7: goal ?h in `c3`
+  ⊢ run_lookup [] [] ≡ []  (unfolded: Path (List ℕ) (0 ∷ 62 ∷ 7 ∷ []) [])
+./specs/V0.antt:24:7: goal ?h in `c4`
     (unfolded: Path (List ℕ) (0 ∷ …[168 bytes]… 7 ∷ []) [])
 holes=4
 ";

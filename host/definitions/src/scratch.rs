@@ -1,5 +1,6 @@
 //! A repository outside of this one that holds the definitions' crates, already proved, and
-//! crates of cases over them.
+//! crates of cases over them. The crates that are checked side by side stand in one folder,
+//! crates/cases0 and so on.
 
 use std::fs;
 use std::io;
@@ -16,7 +17,15 @@ pub struct Scratch {
     lines: Vec<String>,
     /// What a crate of cases rests on.
     rests_on: String,
+    /// How many folders of crates there are, and how many crates.
+    folders: usize,
     crates: usize,
+}
+
+/// Crates that are checked side by side: their folder, and their names.
+pub struct Group {
+    folder: PathBuf,
+    pub names: Vec<String>,
 }
 
 impl Scratch {
@@ -26,8 +35,9 @@ impl Scratch {
             .map_err(|error| format!("crates.txt: {error}"))?;
         let lines = lines_below(&listed, RECORD);
         let names: Vec<&str> = lines.iter().filter_map(|line| name_of(line)).collect();
-        let output = rt(repository, &["check", RECORD], 1)?;
-        if !output.contains("rt: ok") {
+        let proved = repository.join("crates").join(RECORD);
+        let (output, well) = rt(&proved, &["lib"])?;
+        if !well {
             return Err(format!("{output}the definitions are not proved"));
         }
         let scratch = Self {
@@ -35,6 +45,7 @@ impl Scratch {
             kept: keep.is_some(),
             rests_on: names.iter().rev().map(|name| format!(" {name}")).collect(),
             lines: lines.iter().map(|line| line.to_string()).collect(),
+            folders: 0,
             crates: 0,
         };
         for name in names {
@@ -45,33 +56,43 @@ impl Scratch {
         Ok(scratch)
     }
 
+    /// Copies a crate's files, and the library that was built of it.
     fn copy_crate(&self, repository: &Path, name: &str) -> io::Result<()> {
-        let parts = [
-            format!("crates/{name}"),
-            format!("target/rlib/{name}.rlib"),
-            format!("target/stamp/{name}"),
-        ];
-        for part in parts {
+        let folder = Path::new("crates").join(name);
+        for part in ["src", "specs", "proofs", "out/rlib"] {
+            let part = folder.join(part);
             copy(&repository.join(&part), &self.folder.join(&part))?;
         }
         Ok(())
     }
 
-    /// Writes a crate with these modules, and gives its name.
-    pub fn add(&mut self, modules: &[String]) -> Result<String, String> {
-        let name = format!("vectors{}", self.crates);
-        self.crates += 1;
-        self.lines.push(format!("{name}:{}", self.rests_on));
-        self.write_crate(&name, modules)
-            .map_err(|error| format!("the crate {name} could not be written: {error}"))?;
-        Ok(name)
+    /// Writes crates, each with these modules.
+    pub fn add(&mut self, crates: &[Vec<String>]) -> Result<Group, String> {
+        let folder = format!("cases{}", self.folders);
+        self.folders += 1;
+        let mut group = Group {
+            folder: self.folder.join("crates").join(&folder),
+            names: Vec::new(),
+        };
+        for modules in crates {
+            let name = format!("vectors{}", self.crates);
+            self.crates += 1;
+            let line = format!("{folder}/{name}:{}", self.rests_on);
+            self.lines.push(line);
+            self.write_crate(&group.folder.join(&name), modules)
+                .map_err(|error| format!("the crate {name} could not be written: {error}"))?;
+            group.names.push(name);
+        }
+        Ok(group)
     }
 
-    fn write_crate(&self, name: &str, modules: &[String]) -> io::Result<()> {
-        let folder = self.folder.join("crates").join(name);
+    fn write_crate(&self, folder: &Path, modules: &[String]) -> io::Result<()> {
         fs::create_dir_all(folder.join("src"))?;
         fs::create_dir_all(folder.join("specs"))?;
-        fs::write(folder.join("src/lib.rt"), "// Cases alone.\n")?;
+        fs::write(
+            folder.join("src/lib.rt"),
+            "// Cases alone.\n\n#![tactic(auto)]\n",
+        )?;
         let mut root = String::new();
         for (number, module) in modules.iter().enumerate() {
             root += &format!("pub mod V{number}\n");
@@ -82,15 +103,18 @@ impl Scratch {
     }
 
     /// What rt prints of these crates, so many at a time.
-    pub fn check(&self, names: &[String], jobs: usize) -> Result<String, String> {
-        let names = names.iter().map(String::as_str);
-        let words: Vec<&str> = ["check"].into_iter().chain(names).collect();
-        rt(&self.folder, &words, jobs)
+    pub fn check(&self, group: &Group, jobs: usize) -> Result<String, String> {
+        let jobs = jobs.to_string();
+        Ok(rt(&group.folder, &["all", "check", "--jobs", &jobs])?.0)
     }
 
-    /// What rt prints of a crate with holes.
-    pub fn goals(&self, name: &str) -> Result<String, String> {
-        rt(&self.folder, &["dev", name, "--allow-holes"], 1)
+    /// What rt prints of crates with holes.
+    pub fn goals(&self, group: &Group) -> Result<String, String> {
+        let mut printed = String::new();
+        for name in &group.names {
+            printed += &rt(&group.folder.join(name), &["check", "--allow-holes"])?.0;
+        }
+        Ok(printed)
     }
 }
 
@@ -103,18 +127,17 @@ impl Drop for Scratch {
     }
 }
 
-/// What rt prints, in whole lines.
-fn rt(folder: &Path, words: &[&str], jobs: usize) -> Result<String, String> {
+/// What rt prints, and whether all was well.
+fn rt(folder: &Path, words: &[&str]) -> Result<(String, bool), String> {
     let output = Command::new("rt")
         .args(words)
         .current_dir(folder)
-        .env("RT_CUT", "0")
-        .env("RT_JOBS", jobs.to_string())
         .stdin(Stdio::null())
         .output()
         .map_err(|error| format!("rt could not be started: {error}"))?;
     let printed = [output.stdout, output.stderr].concat();
-    Ok(String::from_utf8_lossy(&printed).into_owned())
+    let printed = String::from_utf8_lossy(&printed).into_owned();
+    Ok((printed, output.status.success()))
 }
 
 /// The folder to keep, which must be empty, or a new one for temporary files.

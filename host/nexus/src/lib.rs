@@ -1,5 +1,5 @@
 //! The proved NEXUS reader, for Rust. Its functions are those of the archive that
-//! `rt staticlib nexus_c` writes; what they answer is proved, and written down in
+//! `tools/build nexus_c` writes; what they answer is proved, and written down in
 //! crates/record/specs/Calls.antt. Where the archive was not there when this crate was built, a call
 //! panics and says so.
 //!

@@ -18,11 +18,15 @@ fn printed() -> String {
     String::from_utf8(output.stdout).expect("UTF-8")
 }
 
-/// How many lines of the files below a folder with this ending are of a kind.
+/// How many lines of the files below a folder with this ending are of a kind, but for what rt made
+/// in folders out.
 fn lines(folder: &Path, ending: &str, kind: fn(&str) -> bool) -> usize {
     let entries = fs::read_dir(folder).expect("a folder");
     let counts = entries.map(|entry| {
         let path = entry.expect("an entry").path();
+        if path.is_dir() && path.ends_with("out") {
+            return 0;
+        }
         if path.is_dir() {
             return lines(&path, ending, kind);
         }
@@ -40,7 +44,7 @@ fn the_tool_counts() {
     let printed = printed();
     let crates = fs::read_to_string(repository("crates.txt")).expect("crates.txt");
     let crates = crates.lines().filter(|line| !line.starts_with('#'));
-    let crates = crates.filter_map(|line| line.split(':').next());
+    let crates = crates.filter_map(|line| line.split([':', ' ']).next());
     for name in crates.chain(["all"]) {
         let row = |line: &&str| line.split_whitespace().next() == Some(name);
         let row = printed.lines().find(row);

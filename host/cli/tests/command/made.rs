@@ -1,5 +1,5 @@
-//! tools/nexus makes the archive where it is not there, and again where a source is newer. In the
-//! place of `rt` and `cargo` stand programs that only say what they were asked.
+//! tools/nexus makes the archive where it is not there, and again where a source is newer, by
+//! tools/build. In the place of `rt` and `cargo` stand programs that only say what they were asked.
 
 use std::fs::{self, File, Permissions};
 use std::os::unix::fs::PermissionsExt;
@@ -9,6 +9,7 @@ use std::time::{Duration, SystemTime};
 use crate::run::{Done, Folder, finished, plain};
 
 const SCRIPT: &str = include_str!("../../../../tools/nexus");
+const BUILD: &str = include_str!("../../../../tools/build");
 
 const ARCHIVE: &str = "target/staticlib/libnexus_c.a";
 
@@ -23,7 +24,7 @@ const SOURCES: [&str; 6] = [
 ];
 
 /// What is said on standard error where the archive is made.
-const MADE: &str = "rt: check read write lookup\nrt: staticlib nexus_c\n";
+const MADE: &str = "rt: lib\n";
 
 /// A repository with nothing but what tools/nexus looks at.
 fn repository(name: &str) -> Folder {
@@ -33,13 +34,15 @@ fn repository(name: &str) -> Folder {
         fs::set_permissions(path, Permissions::from_mode(0o755)).expect("a program");
     };
     program("tools/nexus", SCRIPT);
+    program("tools/build", BUILD);
     program(
         "bin/rt",
-        "#!/bin/sh\necho \"rt: $*\"\n[ ! -f broken ] || exit 1\n\
-        [ \"$1\" = check ] || { mkdir -p target/staticlib && echo made > target/staticlib/libnexus_c.a; }\n",
+        "#!/bin/sh\necho \"rt: $*\"\n[ ! -f ../../broken ] || exit 1\n\
+        mkdir -p out && echo made > out/libnexus_c.a\n",
     );
     program("bin/cargo", "#!/bin/sh\n");
     program("host/target/release/nexus", "#!/bin/sh\necho \"ran $*\"\n");
+    folder.put("crates/nexus_c/out/kept", "");
     folder.put("crates/read/src/lib.rt", "");
     folder.put("crates/read/proofs/Laws.antt", "");
     folder.put("crates.txt", "");
@@ -75,7 +78,7 @@ fn a_newer_source_is_built() {
     assert!(is_made(&folder));
     assert!(!is_made(&folder));
     for newer in SOURCES {
-        for source in SOURCES.iter().chain(&["crates"]) {
+        for source in SOURCES.iter().chain(&["crates", "crates/nexus_c"]) {
             age(&folder.0.join(source), 300);
         }
         age(&folder.0.join(ARCHIVE), 200);
@@ -84,6 +87,19 @@ fn a_newer_source_is_built() {
         assert!(is_made(&folder), "{newer}");
         assert!(!is_made(&folder), "{newer}");
     }
+}
+
+/// What rt keeps of a crate is no source.
+#[test]
+fn what_rt_keeps_is_no_source() {
+    let folder = repository("made-kept");
+    assert!(is_made(&folder));
+    folder.put("crates/read/out/kept", "");
+    for source in SOURCES.iter().chain(&["crates", "crates/nexus_c"]) {
+        age(&folder.0.join(source), 300);
+    }
+    age(&folder.0.join(ARCHIVE), 200);
+    assert!(!is_made(&folder));
 }
 
 /// Where it cannot be made, no older one is used.
@@ -96,7 +112,7 @@ fn nothing_else_is_run() {
     for _ in 0..2 {
         let done = run(&folder);
         assert_eq!((done.status, done.out.as_str()), (2, ""));
-        assert!(done.err.contains("rt: check read"), "{done:?}");
+        assert!(done.err.contains("rt: lib"), "{done:?}");
         let _ = fs::remove_file(folder.0.join(ARCHIVE));
     }
 }

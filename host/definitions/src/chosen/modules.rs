@@ -64,13 +64,15 @@ fn imports(theorems: &[Theorem]) -> String {
     let used = |word: &str| theorems.iter().any(|t| t.words.contains(&word));
     let mut lines = String::new();
     for (module, words) in [
-        ("mathlib.Core.List", &["[]", "_∷_", "_++_"][..]),
-        ("mathlib.Core.Path", &["_≡_", "refl"]),
-        ("Rattle·lexer.specs.Base", &["bytes"]),
-        ("Rattle·record.specs.Run", &["run·lookup"]),
         (
-            "Rattle·vectors·specs.specs.Asked",
-            &["read", "read·with·little", "write", "answered", "refused"],
+            "Rattle.std.specs.Prelude",
+            &["[]", "◌∷◌", "◌++◌", "◌≡◌", "refl"][..],
+        ),
+        ("Rattle.lexer.specs.Base", &["bytes"]),
+        ("Rattle.record.specs.Run", &["run_lookup"]),
+        (
+            "Rattle.vectors.specs.Asked",
+            &["read", "read_with_little", "write", "answered", "refused"],
         ),
     ] {
         let words: Vec<&str> = words.iter().copied().filter(|word| used(word)).collect();

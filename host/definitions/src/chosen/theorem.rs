@@ -24,19 +24,35 @@ pub fn theorem(number: usize, asked: &Asked) -> Result<Theorem, String> {
     let text = format!(
         "-- {shows}{mark}\nc{number} :\n    {left}\n    ≡ {right}\nunfolding {unfolding}\nc{number} = refl\n"
     );
-    let mut words = vec!["_≡_", "refl"];
+    let mut words = vec!["◌≡◌", "refl"];
+    let used = emptied(left) + &emptied(right);
     for (name, sign) in [
         ("[]", "[]"),
-        ("_∷_", " ∷ "),
-        ("_++_", "\" ++ ("),
+        ("◌∷◌", " ∷ "),
+        ("◌++◌", "\" ++ ("),
         ("bytes", "bytes \""),
     ] {
-        if left.contains(sign) || right.contains(sign) {
+        if used.contains(sign) {
             words.push(name);
         }
     }
     words.extend(sides.unfolding);
     Ok(Theorem { text, words })
+}
+
+/// A term without what stands in its texts, which names nothing.
+fn emptied(term: &str) -> String {
+    let mut emptied = String::new();
+    let (mut inside, mut escaped) = (false, false);
+    for c in term.chars() {
+        let ends = c == '"' && !escaped;
+        if ends || !inside {
+            emptied.push(c);
+        }
+        inside ^= ends;
+        escaped = c == '\\' && !escaped;
+    }
+    emptied
 }
 
 /// Whose the oracle's answer to a call is.
@@ -71,7 +87,7 @@ fn sides(call: &Call) -> Result<Sides, String> {
         } => {
             let work = work_needed(text) - u64::from(*little_work);
             let runner = if *little_work {
-                "read·with·little"
+                "read_with_little"
             } else {
                 "read"
             };
@@ -126,9 +142,9 @@ fn looked_up(name: &[u8], record: &[u8]) -> Sides {
     let three = numbers(&lines).expect("an answer of three lines");
     let numbers: String = three.iter().map(|number| format!("{number} ∷ ")).collect();
     Sides {
-        left: format!("run·lookup {} {}", argument(name), argument(record)),
+        left: format!("run_lookup {} {}", argument(name), argument(record)),
         right: format!("{numbers}[]"),
-        unfolding: vec!["run·lookup"],
+        unfolding: vec!["run_lookup"],
     }
 }
 
@@ -166,7 +182,24 @@ mod tests {
     fn a_lookup_has_three_numbers() {
         let (name, record) = (b"a".to_vec(), Vec::new());
         let theorem = shown(Call::Lookup { name, record });
-        assert!(theorem.contains("run·lookup (bytes \"a\") []\n    ≡ 31 ∷ 0 ∷ 0 ∷ []\n"));
+        assert!(theorem.contains("run_lookup (bytes \"a\") []\n    ≡ 31 ∷ 0 ∷ 0 ∷ []\n"));
+    }
+
+    #[test]
+    fn texts_name_nothing() {
+        assert_eq!(
+            emptied(r#"bytes "a[]\"[]\\" ++ (0 ∷ [])"#),
+            r#"bytes "" ++ (0 ∷ [])"#
+        );
+        let words = |record: &[u8]| {
+            let (lent, record) = (Lent::OneMore, record.to_vec());
+            let (shows, call) = (String::new(), Call::Write { lent, record });
+            theorem(1, &Asked { shows, call }).expect("a theorem").words
+        };
+        let named = ["◌≡◌", "refl", "bytes", "write", "refused"];
+        assert_eq!(words(b"a[] \" ++ ("), named);
+        let named = ["◌≡◌", "refl", "[]", "◌∷◌", "write", "refused"];
+        assert_eq!(words(b"\xff"), named);
     }
 
     #[test]
