@@ -3,7 +3,6 @@
 use std::fs;
 use std::path::Path;
 
-use oracle::answer::{self, ENOUGH, Whose};
 use oracle::frames::read_frame;
 
 use crate::question::{Case, Question, numbers, work_needed};
@@ -66,42 +65,41 @@ const NO_LOOKUP: &str =
 
 /// The given answer is what is expected, with work memory and buffer long enough.
 fn case(kind: Kind, frames: &[Vec<u8>], origin: String) -> Result<Case, String> {
-    let (first, given) = (frames[0].clone(), &frames[frames.len() - 1]);
-    let room = if is_refusal(given) {
+    let (first, answer) = (frames[0].clone(), &frames[frames.len() - 1]);
+    let room = if is_refusal(answer) {
         3
     } else {
-        given.len() + 1
+        answer.len() + 1
     };
-    let whose = match kind {
-        Kind::Texts => answer::told(&first, ENOUGH, ENOUGH).whose,
-        Kind::Records | Kind::Lookups => Whose::Rust,
-    };
-    let question = match kind {
-        Kind::Texts => Question::Read {
-            work: work_needed(&first),
-            room,
-            text: first,
-        },
-        Kind::Records => Question::Write {
-            room,
-            record: first,
-        },
-        Kind::Lookups => Question::Lookup {
-            name: first,
-            record: frames[1].clone(),
-        },
-    };
-    let expected = match kind {
-        Kind::Texts | Kind::Records => Value::of_call(given, room),
+    let (question, expected) = match kind {
+        Kind::Texts => {
+            let work = work_needed(&first);
+            let text = first;
+            let question = Question::Read { work, room, text };
+            (question, Value::of_call(answer, room))
+        }
+        Kind::Records => {
+            let record = first;
+            (
+                Question::Write { room, record },
+                Value::of_call(answer, room),
+            )
+        }
         Kind::Lookups => {
-            let three = numbers(given).ok_or(format!("{origin}: {NO_LOOKUP}"))?;
-            Value::Numbers(three)
+            let three = numbers(answer).ok_or(format!("{origin}: {NO_LOOKUP}"))?;
+            let record = frames[1].clone();
+            (
+                Question::Lookup {
+                    name: first,
+                    record,
+                },
+                Value::Numbers(three),
+            )
         }
     };
     Ok(Case {
         origin,
         question,
-        whose,
         expected,
     })
 }

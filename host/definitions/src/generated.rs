@@ -113,11 +113,10 @@ fn reached(tally: &Tally) -> String {
         .map(|(row, _)| row.site)
         .collect();
     let mut said = format!(
-        "texts: {} read, {refused} refused, {} skipped as beyond the reader; {} answers are ours\n\
+        "texts: {} read, {refused} refused, {} skipped as beyond the reader\n\
          messages: {} of the {} rows of the table hit",
         tally.read,
         tally.beyond,
-        tally.ours,
         TABLE.len() - missed.len(),
         TABLE.len()
     );

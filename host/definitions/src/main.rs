@@ -77,7 +77,7 @@ fn cases(options: &Options) -> Result<Vec<Case>, String> {
 fn report(number: usize, case: &Case, failure: &Failure) {
     println!("case {number} failed: {}", case.origin);
     println!("  question    {}", case.question.words());
-    println!("  expected    {} ({})", case.expected.words(), case.whose);
+    println!("  expected    {}", case.expected.words());
     println!("  definition  {}", given(&failure.given));
     if let Some(with_room) = &failure.with_room {
         println!("  with room   {}", given(with_room));

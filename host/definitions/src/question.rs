@@ -1,6 +1,6 @@
 //! A question to a runner of the definitions, and what the oracle answers.
 
-use oracle::answer::{self, Answer, Whose};
+use oracle::answer::{self, Answer};
 
 use crate::value::{Value, antt_bytes, escaped};
 
@@ -27,8 +27,6 @@ pub struct Case {
     /// Where the question comes from.
     pub origin: String,
     pub question: Question,
-    /// Whose answer is expected.
-    pub whose: Whose,
     pub expected: Value,
 }
 
@@ -90,12 +88,9 @@ impl Question {
 
     /// The question with the oracle's answer; none where the text is beyond the reader.
     pub fn asked(self, origin: String) -> Option<Case> {
-        let mut whose = Whose::Rust;
         let expected = match &self {
             Self::Read { work, room, text } => {
-                let told = answer::told(text, *work, *room as u64);
-                whose = told.whose;
-                Self::called(told.answer, *room)?
+                Self::called(answer::read(text, *work, *room as u64), *room)?
             }
             Self::Write { room, record } => {
                 Self::called(answer::write(record, *room as u64), *room)?
@@ -108,7 +103,6 @@ impl Question {
         Some(Case {
             origin,
             question: self,
-            whose,
             expected,
         })
     }

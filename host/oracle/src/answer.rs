@@ -1,15 +1,11 @@
 //! The answers of document 01: read, write and lookup, with their refusals in order.
 
-use std::fmt;
-
 use crate::bounds::{Beyond, beyond};
-use crate::data::Matrix;
 use crate::form::form;
 use crate::lexer::{Kind, lex};
 use crate::lookup::lookup as find;
 use crate::messages;
 use crate::nexus::{self, Error};
-use crate::ours;
 use crate::record::{spell, unspell};
 
 /// The longest text, and the longest written form.
@@ -33,71 +29,23 @@ pub enum Answer {
     Beyond(Beyond),
 }
 
-/// Whose an answer is.
-#[derive(Clone, Copy, Debug, Eq, PartialEq)]
-pub enum Whose {
-    /// The Rust's, with what document 01 puts on top of it.
-    Rust,
-    /// Ours, not the Rust's: a request takes the question out of the comparison with the Rust.
-    Ours,
-}
-
-impl fmt::Display for Whose {
-    fn fmt(&self, f: &mut fmt::Formatter<'_>) -> fmt::Result {
-        f.pad(match self {
-            Self::Rust => "the Rust's",
-            Self::Ours => "ours, not the Rust's",
-        })
-    }
-}
-
-/// An answer, and whose it is.
-#[derive(Clone, Debug, Eq, PartialEq)]
-pub struct Told {
-    pub whose: Whose,
-    pub answer: Answer,
-}
-
-impl From<Answer> for Told {
-    /// The answer as the Rust's.
-    fn from(answer: Answer) -> Self {
-        let whose = Whose::Rust;
-        Self { whose, answer }
-    }
-}
-
 /// The record of a text.
 pub fn read(text: &[u8], work: u64, buffer: u64) -> Answer {
-    told(text, work, buffer).answer
-}
-
-/// The record of a text, and whose answer it is.
-pub fn told(text: &[u8], work: u64, buffer: u64) -> Told {
     if text.len() > TEXT_LIMIT {
-        return refused(1).into();
+        return refused(1);
     }
     if work < 4 * text.len() as u64 + 64 {
-        return refused(2).into();
+        return refused(2);
     }
     let Ok(text) = std::str::from_utf8(text) else {
-        return refused(3).into();
+        return refused(3);
     };
-    if let Some(reading) = ours::parse(text) {
-        let (whose, answer) = (Whose::Ours, spelled(reading, buffer));
-        return Told { whose, answer };
-    }
     if let Some(beyond) = beyond(text) {
-        return Answer::Beyond(beyond).into();
+        return Answer::Beyond(beyond);
     }
-    let reading = nexus::parse(text).map_err(|error| refusal(&error));
-    spelled(reading, buffer).into()
-}
-
-/// The record of what a text was read as.
-fn spelled(reading: Result<Matrix, Refusal>, buffer: u64) -> Answer {
-    match reading {
+    match nexus::parse(text) {
         Ok(reading) => within(spell(&reading), buffer),
-        Err(refusal) => Answer::Refused(refusal),
+        Err(error) => Answer::Refused(refusal(&error)),
     }
 }
 

@@ -22,7 +22,6 @@ pub mod frames;
 pub mod generate;
 pub mod lookup;
 pub mod messages;
-pub mod ours;
 pub mod record;
 pub mod tally;
 pub mod tokens;

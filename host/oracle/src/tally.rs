@@ -4,7 +4,6 @@ use crate::bounds::beyond;
 use crate::lexer::{Kind, Token, lex};
 use crate::messages::{NO_NAME, TABLE, row_of};
 use crate::nexus::{Error, parse};
-use crate::ours;
 
 const NO_HEADER: &str = "expected #NEXUS";
 
@@ -126,8 +125,6 @@ pub struct Tally {
     pub not_utf8: usize,
     /// Texts that were not given to the reader.
     pub beyond: usize,
-    /// Texts whose answer is ours, not the Rust's, read or refused. They reach no row.
-    pub ours: usize,
     pub rows: Vec<usize>,
 }
 
@@ -140,7 +137,6 @@ impl Default for Tally {
             read: 0,
             not_utf8: 0,
             beyond: 0,
-            ours: 0,
             rows: vec![0; TABLE.len()],
         }
     }
@@ -155,11 +151,6 @@ impl Tally {
             self.not_utf8 += 1;
             return;
         };
-        if let Some(reading) = ours::parse(text) {
-            self.ours += 1;
-            self.read += usize::from(reading.is_ok());
-            return;
-        }
         if beyond(text).is_some() {
             self.beyond += 1;
             return;
@@ -189,14 +180,13 @@ impl Tally {
         }
         let texts = self.texts.max(1);
         out.push_str(&format!(
-            "texts {}, read {} ({}.{:02} percent), not UTF-8 {}, beyond the reader {}, ours {}\n",
+            "texts {}, read {} ({}.{:02} percent), not UTF-8 {}, beyond the reader {}\n",
             self.texts,
             self.read,
             self.read * 100 / texts,
             self.read * 10_000 / texts % 100,
             self.not_utf8,
-            self.beyond,
-            self.ours
+            self.beyond
         ));
         out.push_str(&format!(
             "bytes on average {}, at most {}\n",

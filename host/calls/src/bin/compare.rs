@@ -8,7 +8,7 @@ use std::thread;
 use std::time::Instant;
 
 use calls::question::{KINDS, Kind};
-use calls::{Checker, Difference, Question, Tally, explained, under_valgrind};
+use calls::{Checker, Difference, Met, Question, explained, under_valgrind};
 use nexus::archive::{LINKED, NOT_LINKED};
 
 const USAGE: &str = "\
@@ -95,11 +95,31 @@ struct Found {
     difference: Difference,
 }
 
-/// What was met so far, and for how many numbers.
+/// What was met so far of each kind.
+#[derive(Clone, Copy, Default)]
+struct Count {
+    taken: u64,
+    refused: u64,
+    beyond: u64,
+}
+
 #[derive(Default)]
-struct Done {
+struct Tally {
     numbers: u64,
-    tally: Tally,
+    counts: [Count; KINDS.len()],
+    calls: u64,
+}
+
+impl Tally {
+    fn add(&mut self, other: &Self) {
+        self.numbers += other.numbers;
+        self.calls += other.calls;
+        for (count, other) in self.counts.iter_mut().zip(&other.counts) {
+            count.taken += other.taken;
+            count.refused += other.refused;
+            count.beyond += other.beyond;
+        }
+    }
 }
 
 /// Checks all questions, or up to one that differs; of several that are found at once, the first.
@@ -121,7 +141,7 @@ fn work(
     options: &Options,
     next: &AtomicU64,
     stop: &AtomicBool,
-    sender: Sender<Result<Done, Box<Found>>>,
+    sender: Sender<Result<Tally, Box<Found>>>,
 ) {
     let mut checker = Checker::default();
     while !stop.load(Relaxed) {
@@ -130,75 +150,92 @@ fn work(
             return;
         }
         let numbers = from..options.numbers.min(from + BLOCK);
-        let done = block(&mut checker, options, numbers);
-        stop.fetch_or(done.is_err(), Relaxed);
-        sender.send(done).expect("the main thread listens");
+        let tally = block(&mut checker, options, numbers);
+        stop.fetch_or(tally.is_err(), Relaxed);
+        sender.send(tally).expect("the main thread listens");
     }
 }
 
-/// What is met for these numbers.
 fn block(
     checker: &mut Checker,
     options: &Options,
     numbers: std::ops::Range<u64>,
-) -> Result<Done, Box<Found>> {
-    let count = numbers.end - numbers.start;
+) -> Result<Tally, Box<Found>> {
+    let mut tally = Tally::default();
+    let before = checker.calls;
     for number in numbers {
         for &kind in &options.kinds {
             let question = Question::generated(kind, options.seed, number);
-            if let Err(difference) = question.check(checker) {
-                return Err(Box::new(Found {
-                    kind,
-                    number,
-                    question,
-                    difference,
-                }));
+            let count = &mut tally.counts[kind as usize];
+            match question.check(checker) {
+                Ok(Met::Taken) => count.taken += 1,
+                Ok(Met::Refused(_)) => count.refused += 1,
+                Ok(Met::Beyond) => count.beyond += 1,
+                Err(difference) => {
+                    return Err(Box::new(Found {
+                        kind,
+                        number,
+                        question,
+                        difference,
+                    }));
+                }
             }
         }
+        tally.numbers += 1;
     }
-    Ok(Done {
-        numbers: count,
-        tally: std::mem::take(&mut checker.tally),
-    })
+    tally.calls = checker.calls - before;
+    Ok(tally)
 }
 
 /// Adds up what the threads have met, and shows how far they are.
-fn follow(options: &Options, receiver: Receiver<Result<Done, Box<Found>>>) -> Option<Box<Found>> {
+fn follow(options: &Options, receiver: Receiver<Result<Tally, Box<Found>>>) -> Option<Box<Found>> {
     let mut progress = Progress::new(options.numbers);
-    let mut done = Done::default();
+    let mut tally = Tally::default();
     let mut found: Option<Box<Found>> = None;
     for met in receiver {
         match met {
-            Ok(met) => {
-                done.numbers += met.numbers;
-                done.tally += &met.tally;
-            }
+            Ok(met) => tally.add(&met),
             Err(new) => {
                 let earlier = found.take().filter(|found| found.number < new.number);
                 found = earlier.or(Some(new));
             }
         }
-        progress.show(done.numbers);
+        progress.show(tally.numbers);
     }
     progress.end();
     if found.is_none() {
-        print(options, &done);
+        print(options, &tally);
     }
     found
 }
 
-fn print(options: &Options, done: &Done) {
-    let (numbers, seed) = (done.numbers, options.seed);
+fn print(options: &Options, tally: &Tally) {
     for &kind in &options.kinds {
-        let met = done.tally.of(kind).words(kind);
-        println!("{numbers} {}s of seed {seed}: {met}", word(kind));
+        let count = tally.counts[kind as usize];
+        let taken = match kind {
+            Kind::Text => "read",
+            Kind::Record => "written",
+            Kind::Lookup => "found",
+        };
+        let beyond = match kind {
+            Kind::Text => format!(", {} skipped as beyond the oracle", count.beyond),
+            _ => String::new(),
+        };
+        println!(
+            "{} {}s of seed {}: {} {taken}, {} refused{beyond}",
+            tally.numbers,
+            word(kind),
+            options.seed,
+            count.taken,
+            count.refused,
+        );
     }
     let under = if under_valgrind() {
         " under valgrind"
     } else {
         ""
     };
-    println!("{} calls{under}, none differs", done.tally.calls);
+    println!("{} calls{under}, none differs", tally.calls);
 }
 
 /// How far a run is: a bar on a terminal, and elsewhere a line for each tenth.

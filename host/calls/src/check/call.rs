@@ -2,12 +2,11 @@
 
 use std::fmt;
 
-use oracle::answer::{self, Answer, Whose};
+use oracle::answer::{self, Answer};
 
 use super::functions::Functions;
 use super::memory::Handed;
 use super::{Checker, Difference, Met};
-use crate::question::Kind;
 
 /// Bytes that a call reads and must leave as they are, and what they are: "the text".
 pub type Input<'q> = (&'static str, &'q [u8]);
@@ -106,9 +105,6 @@ impl Outcome {
 
 /// A call with its question.
 pub trait Call {
-    /// What it is asked.
-    const KIND: Kind;
-
     /// What it is called where it differs.
     const NAME: &'static str;
 
@@ -133,11 +129,6 @@ pub trait Call {
 
     /// What the oracle says of the question.
     fn met(&self) -> Met;
-
-    /// Whose answer that is: the Rust's, unless a request takes the question out.
-    fn whose(&self) -> Whose {
-        Whose::Rust
-    }
 
     /// What the oracle says of the call with so much memory.
     fn outcome(&self, lengths: Lengths) -> Outcome;

@@ -7,7 +7,6 @@ use super::difference::{Difference, shown};
 use super::functions::Functions;
 use super::memory::Handed;
 use super::{Checker, Met};
-use crate::question::Kind;
 
 /// A name that is to be found in a record.
 struct Finding<'q> {
@@ -29,7 +28,6 @@ impl<'q> Finding<'q> {
 }
 
 impl Call for Finding<'_> {
-    const KIND: Kind = Kind::Lookup;
     const NAME: &'static str = "lookup";
     const KEY: u32 = 0x0b5e_55ed;
     const NUMBERS: &'static [&'static str] = &["the number"];
@@ -73,7 +71,7 @@ impl Call for Finding<'_> {
 
     /// The call that gives the stretch itself: it is that of the record, and no copy.
     fn plain(&self, checker: &mut Checker) -> Result<(), Difference> {
-        checker.tally.calls += 1;
+        checker.calls += 1;
         let given = nexus::lookup(self.record, self.name).map_err(|refusal| refusal.number);
         let stretch = |Stretch { start, length }| &self.record[start..start + length];
         let right = self.found.map(stretch);

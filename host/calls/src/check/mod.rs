@@ -16,8 +16,6 @@ pub use functions::{Functions, Lookup, Read, Write};
 
 use oracle::answer::Answer;
 
-use crate::tally::Tally;
-
 /// What the oracle says of a question.
 #[derive(Clone, Copy, Debug, Eq, PartialEq)]
 pub enum Met {
@@ -44,8 +42,7 @@ pub struct Checker {
     functions: Functions,
     /// Work memory as the last question has left it.
     left: Vec<u32>,
-    /// What was met, and how many calls were made.
-    pub tally: Tally,
+    pub calls: u64,
 }
 
 impl Checker {

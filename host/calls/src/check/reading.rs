@@ -1,32 +1,29 @@
 //! The call that reads.
 
 use nexus::{longest_record, work_needed};
-use oracle::answer::{self, Answer, ENOUGH, Refusal, Told, Whose};
+use oracle::answer::{self, Answer, ENOUGH, Refusal};
 
 use super::call::{Amount, Call, Input, Lengths, Outcome};
 use super::difference::compared;
 use super::functions::Functions;
 use super::memory::Handed;
 use super::{Checker, Difference, Met};
-use crate::question::Kind;
 
 /// A text that is to be read.
 struct Reading<'q> {
     text: &'q [u8],
-    /// What the oracle says where nothing is short, and whose answer that is.
+    /// What the oracle says where nothing is short.
     full: Answer,
-    whose: Whose,
 }
 
 impl<'q> Reading<'q> {
-    fn of(text: &'q [u8], told: Told) -> Self {
-        let (full, whose) = (told.answer, told.whose);
-        Self { text, full, whose }
+    fn of(text: &'q [u8]) -> Self {
+        let full = answer::read(text, ENOUGH, ENOUGH);
+        Self { text, full }
     }
 }
 
 impl Call for Reading<'_> {
-    const KIND: Kind = Kind::Text;
     const NAME: &'static str = "read";
     const KEY: u32 = 0x5a17_c0de;
     const NUMBERS: &'static [&'static str] = &["the number"];
@@ -81,10 +78,6 @@ impl Call for Reading<'_> {
         Met::of(&self.full)
     }
 
-    fn whose(&self) -> Whose {
-        self.whose
-    }
-
     fn outcome(&self, lengths: Lengths) -> Outcome {
         let work = lengths.work.unwrap_or(0);
         if work < work_needed(self.text) {
@@ -119,23 +112,17 @@ impl Reading<'_> {
 impl Checker {
     /// All calls for a text.
     pub fn check(&mut self, text: &[u8]) -> Result<Met, Difference> {
-        self.check_told(text, answer::told(text, ENOUGH, ENOUGH))
-    }
-
-    /// All calls for a text whose answer, where nothing is short, is this.
-    pub fn check_told(&mut self, text: &[u8], told: Told) -> Result<Met, Difference> {
-        self.run(&Reading::of(text, told), Amount::Many)
+        self.run(&Reading::of(text), Amount::Many)
     }
 
     /// Fewer calls, for texts that take long.
     pub fn check_long(&mut self, text: &[u8]) -> Result<Met, Difference> {
-        let told = answer::told(text, ENOUGH, ENOUGH);
-        self.run(&Reading::of(text, told), Amount::Few)
+        self.run(&Reading::of(text), Amount::Few)
     }
 
     /// The call that lends memory itself.
     pub(super) fn plain_read(&mut self, text: &[u8]) -> Answer {
-        self.tally.calls += 1;
+        self.calls += 1;
         let record = nexus::read(text).map(nexus::Record::into_bytes);
         record.map_or_else(refused, Answer::Bytes)
     }

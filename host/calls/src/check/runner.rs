@@ -10,14 +10,9 @@ impl Checker {
     /// memory as the question before has left it; and those that lend memory themselves.
     pub(super) fn run<C: Call>(&mut self, call: &C, amount: Amount) -> Result<Met, Difference> {
         let met = call.met();
-        if met != Met::Beyond {
-            self.make(call, amount)?;
+        if met == Met::Beyond {
+            return Ok(met);
         }
-        self.tally.add(C::KIND, met, call.whose());
-        Ok(met)
-    }
-
-    fn make<C: Call>(&mut self, call: &C, amount: Amount) -> Result<(), Difference> {
         let read: usize = call.inputs().iter().map(|(_, bytes)| bytes.len()).sum();
         let rubbish = Rubbish(C::KEY ^ read as u32);
         for lengths in call.lengths(amount) {
@@ -27,7 +22,8 @@ impl Checker {
         if call.enough().work.is_some() {
             self.call_on_left(call, rubbish)?;
         }
-        call.plain(self)
+        call.plain(self)?;
+        Ok(met)
     }
 
     /// One call, with rubbish in all memory, and around it.
@@ -57,7 +53,7 @@ impl Checker {
 
     /// Memory for the next call, at other addresses than for the last.
     fn memory<C: Call>(&self, call: &C, lengths: Lengths, rubbish: Rubbish) -> Memory {
-        Memory::new(call, lengths, self.tally.calls as usize % 8, rubbish)
+        Memory::new(call, lengths, self.calls as usize % 8, rubbish)
     }
 
     /// Makes the call, and compares what it answers and leaves, and all that it must leave as it is.
@@ -68,7 +64,7 @@ impl Checker {
         memory: &mut Memory,
         words: impl FnOnce() -> String,
     ) -> Result<(), Difference> {
-        self.tally.calls += 1;
+        self.calls += 1;
         let returned = call.make(&self.functions, memory.handed());
         let expected = call.outcome(lengths);
         memory.open(expected.bytes.len());
@@ -84,7 +80,7 @@ impl Checker {
         let names = [C::NUMBERS, C::PLACES].concat();
         Err(Difference {
             call: words(),
-            expected: format!("{} ({})", expected.words(&names), call.whose()),
+            expected: expected.words(&names),
             given: format!("{}; {}", given.words(&names), wrong.join("; ")),
         })
     }

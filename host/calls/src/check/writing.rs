@@ -11,7 +11,6 @@ use super::functions::Functions;
 use super::memory::Handed;
 use super::reading::refused;
 use super::{Checker, Difference, Met};
-use crate::question::Kind;
 
 /// A record that is to be written.
 struct Writing<'q> {
@@ -42,7 +41,6 @@ impl<'q> Writing<'q> {
 }
 
 impl Call for Writing<'_> {
-    const KIND: Kind = Kind::Record;
     const NAME: &'static str = "write";
     const KEY: u32 = 0x3c0f_fee5;
     const NUMBERS: &'static [&'static str] = &["the number"];
@@ -109,7 +107,7 @@ impl Checker {
 
     /// The call that lends memory itself.
     fn plain_write(&mut self, record: &[u8]) -> Answer {
-        self.tally.calls += 1;
+        self.calls += 1;
         let record = Record::from_bytes(record.to_vec());
         let form = record.and_then(|record| record.write());
         form.map_or_else(refused, Answer::Bytes)

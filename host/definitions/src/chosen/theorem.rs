@@ -1,7 +1,7 @@
 //! A chosen question with the oracle's answer, as a theorem.
 
 use definitions::questions::{Asked, Call, Lent};
-use oracle::answer::{self, Answer, ENOUGH, Whose};
+use oracle::answer::{self, Answer};
 
 use super::spelled::antt;
 use crate::question::{numbers, work_needed};
@@ -20,9 +20,8 @@ pub fn theorem(number: usize, asked: &Asked) -> Result<Theorem, String> {
     let sides = sides(&asked.call).map_err(|error| format!("{}: {error}", asked.shows))?;
     let (shows, left, right) = (&asked.shows, &sides.left, &sides.right);
     let unfolding = sides.unfolding.join(" ");
-    let mark = mark(whose(&asked.call));
     let text = format!(
-        "-- {shows}{mark}\nc{number} :\n    {left}\n    ≡ {right}\nunfolding {unfolding}\nc{number} = refl\n"
+        "-- {shows}\nc{number} :\n    {left}\n    ≡ {right}\nunfolding {unfolding}\nc{number} = refl\n"
     );
     let mut words = vec!["◌≡◌", "refl"];
     let used = emptied(left) + &emptied(right);
@@ -53,22 +52,6 @@ fn emptied(term: &str) -> String {
         escaped = c == '\\' && !escaped;
     }
     emptied
-}
-
-/// Whose the oracle's answer to a call is.
-fn whose(call: &Call) -> Whose {
-    match call {
-        Call::Read { text, .. } => answer::told(text, ENOUGH, ENOUGH).whose,
-        Call::Write { .. } | Call::Lookup { .. } => Whose::Rust,
-    }
-}
-
-/// What the comment of a theorem says besides what it shows.
-fn mark(whose: Whose) -> String {
-    match whose {
-        Whose::Rust => String::new(),
-        Whose::Ours => format!(" (The answer is {whose}.)"),
-    }
 }
 
 /// The two sides of the equation, and the definitions that they open.
@@ -200,12 +183,6 @@ mod tests {
         assert_eq!(words(b"a[] \" ++ ("), named);
         let named = ["◌≡◌", "refl", "[]", "◌∷◌", "write", "refused"];
         assert_eq!(words(b"\xff"), named);
-    }
-
-    #[test]
-    fn an_answer_of_ours_is_marked() {
-        assert_eq!(mark(Whose::Rust), "");
-        assert_eq!(mark(Whose::Ours), " (The answer is ours, not the Rust's.)");
     }
 
     #[test]
