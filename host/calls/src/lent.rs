@@ -1,7 +1,5 @@
 //! Memory that is lent to a call, between memory that is not.
 
-use std::ops::Range;
-
 use crate::valgrind::{State, mark};
 
 /// How many elements on each side are not lent.
@@ -43,56 +41,53 @@ impl Element for u8 {
 }
 
 pub struct Lent<T> {
-    /// What it is, as "the text".
-    name: &'static str,
-    /// What is lent and what is beside it, and what this held before.
     all: Vec<T>,
-    before: Vec<T>,
     from: usize,
     length: usize,
+    rubbish: Rubbish,
 }
 
 impl<T: Element> Lent<T> {
     /// So many elements, full of rubbish; `shift` moves them, so that bytes stand at any address.
-    /// Valgrind is told that nothing may hang on what they hold, and that what is beside them is closed.
-    pub fn new(name: &'static str, length: usize, shift: usize, rubbish: Rubbish) -> Self {
+    pub fn new(length: usize, shift: usize, rubbish: Rubbish) -> Self {
         let from = BESIDE + shift;
-        let before = (0..from + length + BESIDE).map(|at| T::of(rubbish, at));
-        let mut lent = Self::of(name, before.collect(), from, length);
-        mark(lent.slice(), State::Undefined);
-        lent
-    }
-
-    /// These elements, with rubbish beside them.
-    pub fn holding(name: &'static str, elements: &[T], shift: usize, rubbish: Rubbish) -> Self {
-        let (from, to) = (BESIDE + shift, BESIDE + shift + elements.len());
-        let rubbish = |places: Range<usize>| places.map(move |at| T::of(rubbish, at));
-        let mut before: Vec<T> = rubbish(0..from).collect();
-        before.extend(elements);
-        before.extend(rubbish(to..to + BESIDE));
-        Self::of(name, before, from, elements.len())
-    }
-
-    fn of(name: &'static str, before: Vec<T>, from: usize, length: usize) -> Self {
-        let lent = Self {
-            name,
-            all: before.clone(),
-            before,
+        let all = (0..from + length + BESIDE).map(|at| T::of(rubbish, at));
+        Self {
+            all: all.collect(),
             from,
             length,
-        };
-        lent.mark_beside(State::Closed);
+            rubbish,
+        }
+    }
+
+    /// The same, with something in it.
+    pub fn holding(elements: &[T], shift: usize, rubbish: Rubbish) -> Self {
+        let mut lent = Self::new(elements.len(), shift, rubbish);
+        lent.slice().copy_from_slice(elements);
         lent
     }
 
-    /// What is lent, to be written to.
+    /// One element of rubbish, for a number that a call sets. Valgrind is told that nothing may hang on
+    /// what it holds, and that what is beside it is closed.
+    pub fn one(rubbish: Rubbish) -> Self {
+        let mut lent = Self::new(1, 0, rubbish);
+        lent.close_beside();
+        lent.make_undefined();
+        lent
+    }
+
     pub fn slice(&mut self) -> &mut [T] {
         &mut self.all[self.from..self.from + self.length]
     }
 
-    /// What it holds now.
-    pub fn held(&self) -> &[T] {
-        &self.all[self.from..self.from + self.length]
+    /// Tells valgrind that what is not lent is closed.
+    pub fn close_beside(&self) {
+        self.mark_beside(State::Closed);
+    }
+
+    /// Tells valgrind that nothing may hang on what is lent.
+    pub fn make_undefined(&mut self) {
+        mark(self.slice(), State::Undefined);
     }
 
     /// Tells valgrind that all may be read but the first so many elements, which are as they are.
@@ -107,20 +102,15 @@ impl<T: Element> Lent<T> {
     }
 
     /// What has changed on the sides of what is lent, in words.
-    pub fn changed_beside(&self) -> Vec<String> {
+    pub fn changed_beside(&self, what: &str) -> Vec<String> {
         let sides = [
             ("before", self.kept_before()),
             ("behind", self.kept_behind()),
         ];
         let changed = sides.into_iter().filter(|(_, kept)| !kept);
         changed
-            .map(|(side, _)| format!("memory {side} {} has changed", self.name))
+            .map(|(side, _)| format!("memory {side} {what} has changed"))
             .collect()
-    }
-
-    /// That it has changed, where it has, in words.
-    pub fn changed(&self) -> Option<String> {
-        (!self.kept_from(0)).then(|| format!("{} has changed", self.name))
     }
 
     /// Is everything before what is lent as it was?
@@ -135,11 +125,14 @@ impl<T: Element> Lent<T> {
 
     /// Is what is lent, from here on, as it was?
     pub fn kept_from(&self, at: usize) -> bool {
-        self.kept(self.from + at.min(self.length), self.from + self.length)
+        self.kept(self.from + at, self.from + self.length)
     }
 
     fn kept(&self, from: usize, to: usize) -> bool {
-        self.all[from..to] == self.before[from..to]
+        let held = self.all[from..to].iter().enumerate();
+        held.fold(true, |kept, (at, element)| {
+            kept & (*element == T::of(self.rubbish, from + at))
+        })
     }
 }
 
@@ -151,7 +144,7 @@ mod tests {
     fn every_change_is_seen() {
         let rubbish = Rubbish(0x1234_5678);
         for at in 0..2 * BESIDE + 8 {
-            let mut lent: Lent<u8> = Lent::new("bytes", 5, 3, rubbish);
+            let mut lent: Lent<u8> = Lent::new(5, 3, rubbish);
             lent.all[at] ^= 1;
             let lent_at = at.checked_sub(BESIDE + 3);
             assert_eq!(lent.kept_before(), lent_at.is_some());

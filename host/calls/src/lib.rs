@@ -14,7 +14,7 @@ pub mod texts;
 mod traps;
 mod valgrind;
 
-pub use check::{Checker, Difference, Functions, Lookup, Met, Read, Write};
+pub use check::{Checker, Difference, Met, Read};
 pub use folder::Folder;
 pub use question::Question;
 pub use smallest::explained;

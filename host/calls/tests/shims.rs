@@ -1,14 +1,14 @@
 //! A read call that sets its numbers wrongly is found out: by the check of a text, and by the program
-//! of C. tests/shims.c has two such calls, and one that is right, which passes both. tests/wrong.c has
-//! calls that answer or leave something else wrong, which the check of a question finds.
+//! of C. tests/shims.c has two such calls, and one that is right, which passes both.
 
 mod common;
 
+use std::ffi::{CString, c_char, c_int, c_void};
+use std::os::unix::ffi::OsStrExt;
 use std::path::{Path, PathBuf};
 use std::process::Command;
 
-use calls::{Checker, Folder, Functions, Question};
-use common::library::Library;
+use calls::{Checker, Folder, Read};
 use common::repository;
 use inputs::example;
 
@@ -20,45 +20,6 @@ const CALLS: [(&str, Option<&str>); 3] = [
         "read_wide_number",
         Some("memory behind the number has changed"),
     ),
-];
-
-/// The calls of tests/wrong.c, and what the check says of each.
-const WRONG: [(&str, &str); 23] = [
-    ("read_other_text", "the text has changed"),
-    ("read_before_text", "memory before the text has changed"),
-    ("read_behind_buffer", "memory behind the buffer has changed"),
-    ("read_before_buffer", "memory before the buffer has changed"),
-    ("read_behind_work", "memory behind work memory has changed"),
-    (
-        "read_behind_record",
-        "the buffer behind the answer has changed",
-    ),
-    (
-        "read_refused_buffer",
-        "the buffer behind the answer has changed",
-    ),
-    ("read_one_more", "the answer is another"),
-    ("read_other_byte", "the bytes are others"),
-    ("read_behind_line", "memory behind the line has changed"),
-    ("read_other_column", "the answer is another"),
-    ("write_wide_number", "memory behind the number has changed"),
-    ("write_other_record", "the record has changed"),
-    (
-        "write_behind_buffer",
-        "memory behind the buffer has changed",
-    ),
-    (
-        "write_refused_buffer",
-        "the buffer behind the answer has changed",
-    ),
-    ("write_one_less", "the answer is another"),
-    ("write_other_byte", "the bytes are others"),
-    ("lookup_wide_number", "memory behind the number has changed"),
-    ("lookup_other_record", "the record has changed"),
-    ("lookup_other_name", "the name has changed"),
-    ("lookup_behind_name", "memory behind the name has changed"),
-    ("lookup_behind_start", "memory behind the start has changed"),
-    ("lookup_one_less", "the answer is another"),
 ];
 
 /// A text that is read and one that is refused at a place, and what is printed of them.
@@ -79,23 +40,62 @@ fn archive() -> PathBuf {
     repository().join("target/staticlib/libnexus_c.a")
 }
 
-/// The library that is made of a file of this folder.
-fn loaded(folder: &Path, name: &str) -> Library {
-    let library = folder.join("library.so");
-    let mut command = common::compiler("cc", "c99");
-    command.args(["-shared", "-fPIC", "-o"]).arg(&library);
-    common::compile(command.arg(source(name)).arg(archive()));
-    Library::new(&library)
+type Call = unsafe extern "C" fn(
+    text: *const u8,
+    text_length: usize,
+    work: *mut u32,
+    work_length: usize,
+    buffer: *mut u8,
+    buffer_length: usize,
+    number: *mut u32,
+    line: *mut usize,
+    column: *mut usize,
+) -> usize;
+
+// SAFETY: the C library has these functions, with these types.
+unsafe extern "C" {
+    fn dlopen(file: *const c_char, flags: c_int) -> *mut c_void;
+    fn dlsym(library: *mut c_void, name: *const c_char) -> *mut c_void;
+}
+
+/// The call of this name in a library that was made of tests/shims.c.
+fn loaded(library: &Path, name: &str) -> Box<Read> {
+    const RTLD_NOW: c_int = 2;
+    let path = CString::new(library.as_os_str().as_bytes()).expect("a path");
+    let name = CString::new(name).expect("a name");
+    // SAFETY: nothing is done as the library is loaded, and it stays loaded; what has the name is of
+    // this type.
+    let call = unsafe {
+        let library = dlopen(path.as_ptr(), RTLD_NOW);
+        assert!(!library.is_null(), "{path:?} cannot be loaded");
+        let call = dlsym(library, name.as_ptr());
+        assert!(!call.is_null(), "{path:?} has no {name:?}");
+        std::mem::transmute::<*mut c_void, Call>(call)
+    };
+    Box::new(move |text, work, buffer, number, line, column| {
+        let (text, length) = (text.as_ptr(), text.len());
+        let (work, numbers) = (work.as_mut_ptr(), work.len());
+        let (buffer, room) = (buffer.as_mut_ptr(), buffer.len());
+        // SAFETY: as for `nexus_read`; where a wrong call writes besides, the check has memory too.
+        unsafe {
+            call(
+                text, length, work, numbers, buffer, room, number, line, column,
+            )
+        }
+    })
 }
 
 #[test]
 #[cfg_attr(not(archive), ignore = "no archive; tools/test-calls makes it")]
 fn the_check_of_a_text() {
     let folder = Folder::new("shims-loaded");
-    let library = loaded(&folder.0, "shims.c");
+    let library = folder.0.join("shims.so");
+    let mut command = common::compiler("cc", "c99");
+    command.args(["-shared", "-fPIC", "-o"]).arg(&library);
+    common::compile(command.arg(source("shims.c")).arg(archive()));
     for (name, fault) in CALLS {
         for (text, _) in texts() {
-            let mut checker = Checker::of(library.in_place(name));
+            let mut checker = Checker::of(loaded(&library, name));
             let said = checker.check(text.as_bytes()).err();
             let said = said.map(|difference| difference.given);
             let right = match (&said, fault) {
@@ -106,50 +106,6 @@ fn the_check_of_a_text() {
             assert!(right, "{name}: {said:?}");
         }
     }
-}
-
-/// Questions to each call, of which one is taken and one refused.
-fn questions() -> Vec<Question> {
-    let [(text, _), (wrong, _)] = texts();
-    let record = example::RECORD.as_bytes().to_vec();
-    let lookup = |name: &[u8]| Question::Lookup {
-        name: name.to_vec(),
-        record: record.clone(),
-    };
-    vec![
-        Question::Text(text.into_bytes()),
-        Question::Text(wrong.into_bytes()),
-        Question::Record(record.clone()),
-        Question::Record(record[1..].to_vec()),
-        lookup(b"C"),
-        lookup(b"D"),
-    ]
-}
-
-/// What is wrong in a call is found on one question or more, and nothing else is.
-#[test]
-#[cfg_attr(not(archive), ignore = "no archive; tools/test-calls makes it")]
-fn the_check_of_each_call() {
-    let folder = Folder::new("shims-wrong");
-    let library = loaded(&folder.0, "wrong.c");
-    for (name, fault) in WRONG {
-        let mut checker = Checker::of(library.in_place(name));
-        let checked = questions()
-            .into_iter()
-            .map(|question| question.check(&mut checker));
-        let found: Vec<String> = checked.filter_map(|met| Some(met.err()?.given)).collect();
-        assert!(!found.is_empty(), "{name}");
-        for given in found {
-            let (_, said) = given.split_once("; ").expect("what is wrong");
-            assert_eq!(said, fault, "{name}");
-        }
-    }
-    let mut right = Checker::of(Functions::default());
-    assert!(
-        questions()
-            .iter()
-            .all(|question| question.check(&mut right).is_ok())
-    );
 }
 
 #[test]

@@ -4,8 +4,6 @@ use std::fmt;
 
 use oracle::answer::Answer;
 
-use super::call::Outcome;
-
 /// A call whose answer is not the oracle's, or that has left something else behind.
 #[derive(Clone, Debug, Eq, PartialEq)]
 pub struct Difference {
@@ -23,17 +21,21 @@ impl fmt::Display for Difference {
     }
 }
 
-impl Outcome {
-    /// It in words, by the names of the numbers that the call sets.
-    pub fn words(&self, names: &[&str]) -> String {
-        let set = names.iter().zip(&self.set);
-        let set: String = set.map(|(name, set)| format!(", {name} {set}")).collect();
-        format!(
-            "returns {}{set}, leaves {}",
-            self.returned,
-            shown(&self.bytes)
-        )
+/// A difference, where something is wrong.
+pub fn judged(
+    call: impl FnOnce() -> String,
+    expected: impl FnOnce() -> String,
+    given: impl fmt::Debug,
+    wrong: Vec<String>,
+) -> Result<(), Difference> {
+    if wrong.is_empty() {
+        return Ok(());
     }
+    Err(Difference {
+        call: call(),
+        expected: expected(),
+        given: format!("{given:?}; {}", wrong.join("; ")),
+    })
 }
 
 /// A difference, where the answers to a plain call differ.
@@ -48,7 +50,7 @@ pub fn compared(call: &str, expected: &Answer, given: &Answer) -> Result<(), Dif
     })
 }
 
-fn words(answer: &Answer) -> String {
+pub fn words(answer: &Answer) -> String {
     match answer {
         Answer::Bytes(bytes) => format!("{} bytes: {}", bytes.len(), shown(bytes)),
         Answer::Refused(refusal) => format!("{refusal:?}"),

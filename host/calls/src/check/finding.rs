@@ -1,80 +1,112 @@
-//! The lookup.
+//! The check of one lookup.
 
+use nexus::archive::nexus_lookup;
 use oracle::lookup::{Stretch, lookup};
 
-use super::call::{Amount, Call, Input, Lengths, Outcome};
-use super::difference::{Difference, shown};
-use super::functions::Functions;
-use super::memory::Handed;
+use super::difference::{Difference, judged, shown};
 use super::{Checker, Met};
+use crate::lent::{Lent, Rubbish};
 
-/// A name that is to be found in a record.
-struct Finding<'q> {
-    name: &'q [u8],
-    record: &'q [u8],
-    /// What the oracle says.
-    found: Result<Stretch, u32>,
+/// What a call has answered.
+#[derive(Clone, Copy, Debug, Eq, PartialEq)]
+struct Given {
+    length: usize,
+    start: usize,
+    number: u32,
 }
 
-impl<'q> Finding<'q> {
-    fn of(name: &'q [u8], record: &'q [u8]) -> Self {
-        let found = lookup(name, record);
+impl Given {
+    fn of(answer: Result<Stretch, u32>) -> Self {
+        let (stretch, number) = match answer {
+            Ok(stretch) => (stretch, 0),
+            Err(number) => {
+                let (start, length) = (0, 0);
+                (Stretch { start, length }, number)
+            }
+        };
         Self {
-            name,
-            record,
-            found,
+            length: stretch.length,
+            start: stretch.start,
+            number,
         }
     }
 }
 
-impl Call for Finding<'_> {
-    const NAME: &'static str = "lookup";
-    const KEY: u32 = 0x0b5e_55ed;
-    const NUMBERS: &'static [&'static str] = &["the number"];
-    const PLACES: &'static [&'static str] = &["the start"];
-
-    fn inputs(&self) -> Vec<Input<'_>> {
-        vec![("the record", self.record), ("the name", self.name)]
-    }
-
-    fn lengths(&self, _: Amount) -> Vec<Lengths> {
-        vec![self.enough()]
-    }
-
-    fn enough(&self) -> Lengths {
-        Lengths::default()
-    }
-
-    fn make(&self, functions: &Functions, mut lent: Handed<'_>) -> usize {
-        let (record, name) = (lent.input(), lent.input());
-        (functions.lookup)(record, name, lent.number(), lent.place())
-    }
-
-    fn met(&self) -> Met {
-        match self.found {
+impl Checker {
+    /// All calls that look up a name in a record: with two kinds of rubbish, and the plain one.
+    pub fn check_lookup(&mut self, name: &[u8], record: &[u8]) -> Result<Met, Difference> {
+        let expected = lookup(name, record);
+        let rubbish = Rubbish(0x0b5e_55ed ^ (record.len() + name.len()) as u32);
+        for rubbish in [rubbish, rubbish.complement()] {
+            self.lookup_call(name, record, Given::of(expected), rubbish)?;
+        }
+        self.plain_lookup(name, record, expected)?;
+        Ok(match expected {
             Ok(_) => Met::Taken,
             Err(number) => Met::Refused(number),
-        }
+        })
     }
 
-    fn outcome(&self, _: Lengths) -> Outcome {
-        let (returned, set) = match self.found {
-            Ok(stretch) => (stretch.length, vec![0, stretch.start]),
-            Err(number) => (0, vec![number as usize, 0]),
+    /// One call, with rubbish in both numbers, and around all memory.
+    fn lookup_call(
+        &mut self,
+        name: &[u8],
+        record: &[u8],
+        expected: Given,
+        rubbish: Rubbish,
+    ) -> Result<(), Difference> {
+        let shift = self.calls as usize % 8;
+        let mut held = Lent::holding(record, shift, rubbish);
+        let mut asked = Lent::holding(name, 7 - shift, rubbish);
+        let mut number = Lent::<u32>::one(rubbish);
+        let mut start = Lent::<usize>::one(rubbish);
+        held.close_beside();
+        asked.close_beside();
+        self.calls += 1;
+        let length = nexus_lookup(
+            held.slice(),
+            asked.slice(),
+            &mut number.slice()[0],
+            &mut start.slice()[0],
+        );
+        let given = Given {
+            length,
+            start: start.slice()[0],
+            number: number.slice()[0],
         };
-        Outcome {
-            returned,
-            set,
-            bytes: Vec::new(),
+        held.open_behind(record.len());
+        asked.open_behind(name.len());
+        number.open_behind(1);
+        start.open_behind(1);
+
+        let mut wrong = Vec::new();
+        if given != expected {
+            wrong.push("the answer is another".to_string());
         }
+        if held.slice() != record {
+            wrong.push("the record has changed".to_string());
+        }
+        if asked.slice() != name {
+            wrong.push("the name has changed".to_string());
+        }
+        wrong.extend(held.changed_beside("the record"));
+        wrong.extend(asked.changed_beside("the name"));
+        wrong.extend(number.changed_beside("the number"));
+        wrong.extend(start.changed_beside("the start"));
+        let call = || format!("lookup, {rubbish:?}");
+        judged(call, || format!("{expected:?}"), given, wrong)
     }
 
     /// The call that gives the stretch itself: it is that of the record, and no copy.
-    fn plain(&self, checker: &mut Checker) -> Result<(), Difference> {
-        checker.calls += 1;
-        let given = nexus::lookup(self.record, self.name).map_err(|refusal| refusal.number);
-        let stretch = |Stretch { start, length }| &self.record[start..start + length];
-        let right = self.found.map(stretch);
+    fn plain_lookup(
+        &mut self,
+        name: &[u8],
+        record: &[u8],
+        expected: Result<Stretch, u32>,
+    ) -> Result<(), Difference> {
+        self.calls += 1;
+        let given = nexus::lookup(record, name).map_err(|refusal| refusal.number);
+        let right = expected.map(|Stretch { start, length }| &record[start..start + length]);
         let same = match (given, right) {
             (Ok(given), Ok(right)) => std::ptr::eq(given, right),
             (given, right) => given == right,
@@ -88,12 +120,5 @@ impl Call for Finding<'_> {
             expected: words(right),
             given: words(given),
         })
-    }
-}
-
-impl Checker {
-    /// All calls that look up a name in a record.
-    pub fn check_lookup(&mut self, name: &[u8], record: &[u8]) -> Result<Met, Difference> {
-        self.run(&Finding::of(name, record), Amount::Many)
     }
 }

@@ -1,20 +1,14 @@
-//! The check of one question: what the calls answer and leave is what the oracle says. `call` says
-//! what a call is, and `runner` makes it with memory of many lengths and contents; `reading` describes
+//! The check of one question: what the calls answer and leave is what the oracle says. `reading` has
 //! the call that reads, `writing` the one that writes, `finding` the lookup.
 
-mod call;
 mod difference;
 mod finding;
-mod functions;
-mod memory;
 mod reading;
-mod runner;
 mod writing;
 
 pub use difference::Difference;
-pub use functions::{Functions, Lookup, Read, Write};
 
-use oracle::answer::Answer;
+use nexus::archive::nexus_read;
 
 /// What the oracle says of a question.
 #[derive(Clone, Copy, Debug, Eq, PartialEq)]
@@ -26,31 +20,31 @@ pub enum Met {
     Beyond,
 }
 
-impl Met {
-    fn of(answer: &Answer) -> Self {
-        match answer {
-            Answer::Bytes(_) => Self::Taken,
-            Answer::Refused(refusal) => Self::Refused(refusal.number),
-            Answer::Beyond(_) => Self::Beyond,
-        }
-    }
-}
+/// The call that reads, or another that is to be held against the oracle in its place: what it is
+/// lent are the text, work memory, the buffer, and the three numbers.
+pub type Read = dyn Fn(&[u8], &mut [u32], &mut [u8], &mut u32, &mut usize, &mut usize) -> usize;
 
 /// Checks questions, one after another.
-#[derive(Default)]
 pub struct Checker {
-    functions: Functions,
-    /// Work memory as the last question has left it.
+    read: Box<Read>,
+    /// Work memory as the last text has left it.
     left: Vec<u32>,
     pub calls: u64,
 }
 
 impl Checker {
-    /// One that makes these calls where it lends memory.
-    pub fn of(functions: Functions) -> Self {
+    /// One that makes this call where it lends memory to the call that reads.
+    pub fn of(read: Box<Read>) -> Self {
         Self {
-            functions,
-            ..Self::default()
+            read,
+            left: Vec::new(),
+            calls: 0,
         }
+    }
+}
+
+impl Default for Checker {
+    fn default() -> Self {
+        Self::of(Box::new(nexus_read))
     }
 }

@@ -1,7 +1,5 @@
-//! What several tests need: programs and libraries that are compiled, and run or loaded.
+//! What several tests need: programs that are compiled and run.
 #![allow(dead_code)]
-
-pub mod library;
 
 use std::io::{ErrorKind, Write};
 use std::path::{Path, PathBuf};
