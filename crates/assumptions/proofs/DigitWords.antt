@@ -1,11 +1,12 @@
 -- Words of digits alone that are told by their bytes at once: the number that one spells, and the one part of a list that it is. Assumes nothing.
+use Rattle.std.specs.Prelude.{Result}
 use Prim.Native.Nat.{ℕ, zero, suc, ◌+◌, ◌*◌, ◌-◌, ◌≤◌, ◌<◌}
 use Rattle.assumptions.proofs.ListWalks.{then-done}
 use Rattle.assumptions.proofs.PartLaws.{plain-told}
 use Rattle.assumptions.specs.ListCode.{Follows}
 use Rattle.assumptions.specs.ListParts.{Spells, told}
 use Rattle.assumptions.specs.ToldWords.{told_number}
-use Rattle.assumptions.specs.declared.characters.WordAnswer.{WordAnswer}
+use Rattle.assumptions.specs.declared.characters.Listed as Code
 use Rattle.block.specs.CharacterList.{part, parts, to_dash, cut_from, Listed, part_turn, list_turn}
 use Rattle.block.specs.Outcome.{fold}
 use Rattle.block.specs.Typeset.{Types}
@@ -18,6 +19,7 @@ use Rattle.lexer.specs.ByteBlocks.{is_plain}
 use Rattle.lexer.specs.Lexing.{token_at}
 use Rattle.lexer.specs.PlainWords.{is_ends}
 use Rattle.lexer.specs.Words.{Numbered, digits, is, largest, positive, unsigned, is_word}
+use Rattle.lexer.specs.declared.Fault.{Fault}
 use borrow.Author.Tests.{leb-true, leb-false, le-leb, lt-leb, ne_eqb}
 use lib.Dec.{eqb, leb}
 use lib.ListN.{length, get_or, take, drop, drop_of_length-le}
@@ -190,5 +192,5 @@ module _ (count : ℕ) (w : Numbered) (n : ℕ) (s : Spells w.token n) where
   unfolding list_turn parts pick fold
   list-turn-number l = rw (spelled-word, one-part w w.token.text some-digits) (then-done (part_turn count l (part w w.token.text)))
 
-  pub number-follows : (o : CharacterOrdering) (ts us : Types) (l : Listed) (r : WordAnswer) → Follows o ts us (part_turn count l (part w w.token.text)) r → Follows o ts us (list_turn count l w) r
+  pub number-follows : (o : CharacterOrdering) (ts us : Types) (l : Listed) (r : Result Code.Listed (Fault ℕ)) → Follows o ts us (part_turn count l (part w w.token.text)) r → Follows o ts us (list_turn count l w) r
   number-follows o ts us l r f = rw (list-turn-number l) f

@@ -3,6 +3,8 @@ use Prim.Native.Nat.{ℕ, zero, suc, ◌+◌, ◌-◌, ◌≤◌, ◌<◌}
 use Rattle.assumptions.specs.ToldWords.{told_keyword, told_type}
 use Rattle.block.specs.Typeset.{ordering}
 use Rattle.block.specs.declared.model.CharacterOrdering.{CharacterOrdering}
+use Rattle.std.specs.Char.{is_ascii_alphabetic}
+use Rattle.std.proofs.Math.Bool.{or_comm}
 use Rattle.lexer.proofs.Basics.{and-false, and_left, and_right, by-test, or-true}
 use Rattle.lexer.proofs.ListLaws.{drop-next}
 use Rattle.lexer.proofs.WordsTold.{PlainTo, plain-start, plain_turn, word-told}
@@ -92,13 +94,18 @@ module _ (text key : List ℕ) (at k : ℕ) (h : at < length text) where
 
   -- `x` and `y` are the two bytes in lower case
   module _ (more : k < length key) (x y : ℕ) (ex : x ≡ lower c) (ey : y ≡ lower (get_or key k 0)) where
-    pub keyword-on : letter && eqb x y ≡ true → told_keyword (drop k key) (drop at text) ≡ told_keyword (drop (k + 1) key) (drop (at + 1) text)
-    unfolding told_keyword pick
-    keyword-on t = let goes : letter && eqb (lower c) (lower (get_or key k 0)) ≡ true = rw (ex, ey) at t in rw (drop-next key k more, drop-next text at h, goes) refl
+    -- `alpha` is what the library says of a letter
+    module _ (alpha : Bool) (ea : is_ascii_alphabetic c ≡ alpha) where
+      letter-is : letter ≡ alpha
+      letter-is = or_comm (leb 97 c && leb c 122) (leb 65 c && leb c 90) ∙ ea
 
-    pub keyword-off : letter && eqb x y ≡ false → told_keyword (drop k key) (drop at text) ≡ false
-    unfolding told_keyword pick
-    keyword-off f = let stops : letter && eqb (lower c) (lower (get_or key k 0)) ≡ false = rw (ex, ey) at f in rw (drop-next key k more, drop-next text at h, stops) refl
+      pub keyword-on : alpha && eqb x y ≡ true → told_keyword (drop k key) (drop at text) ≡ told_keyword (drop (k + 1) key) (drop (at + 1) text)
+      unfolding told_keyword pick
+      keyword-on t = let goes : letter && eqb (lower c) (lower (get_or key k 0)) ≡ true = rw (letter-is, ← ex, ← ey) t in rw (drop-next key k more, drop-next text at h, goes) refl
+
+      pub keyword-off : alpha && eqb x y ≡ false → told_keyword (drop k key) (drop at text) ≡ false
+      unfolding told_keyword pick
+      keyword-off f = let stops : letter && eqb (lower c) (lower (get_or key k 0)) ≡ false = rw (letter-is, ← ex, ← ey) f in rw (drop-next key k more, drop-next text at h, stops) refl
 
 -- A word that is told to be a keyword is it.
 module _ (text key : List ℕ) (start : ℕ) where
@@ -111,12 +118,12 @@ module _ (text key : List ℕ) (start : ℕ) where
       let there : start + k + 1 ≡ start + (k + 1) = omega arith in
       by-test (letter && same)
       (λ y.
-      let more : told_keyword (drop (k + 1) key) (drop (start + (k + 1)) text) ≡ true = rw there at (sym (keyword-on text key (start + k) k h (omega arith) (lower c) (lower (get_or key k 0)) refl refl y) ∙ t) in
+      let more : told_keyword (drop (k + 1) key) (drop (start + (k + 1)) text) ≡ true = rw there at (sym (keyword-on text key (start + k) k h (omega arith) (lower c) (lower (get_or key k 0)) refl refl letter (sym (or_comm (leb 97 c && leb c 122) (leb 65 c && leb c 90))) y) ∙ t) in
       by-test (ltb (start + (k + 1)) (length text))
       (λ w.
       keyword-from left (k + 1) (omega arith) (ltb-true (start + (k + 1)) (length text) w) (matching-turn text key start k s h (omega arith) (and_left letter same y) (eqb-true (lower c) (lower (get_or key k 0)) (and_right letter same y))) more long)
       (λ w. let past = ltb-false (start + (k + 1)) (length text) w in absurd (false≢true (sym (keyword-over (k + 1) past) ∙ more))))
-      (λ n. absurd (false≢true (sym (keyword-off text key (start + k) k h (omega arith) (lower c) (lower (get_or key k 0)) refl refl n) ∙ t)))
+      (λ n. absurd (false≢true (sym (keyword-off text key (start + k) k h (omega arith) (lower c) (lower (get_or key k 0)) refl refl letter (sym (or_comm (leb 97 c && leb c 122) (leb 65 c && leb c 90))) n) ∙ t)))
     where
       keyword-over : (k : ℕ) → length text ≤ start + k → told_keyword (drop k key) (drop (start + k) text) ≡ false
       keyword-over k past = rw (drop_of_length-le text past) (keyword-short (drop k key) [] (omega arith))

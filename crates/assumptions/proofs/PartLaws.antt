@@ -1,26 +1,26 @@
 -- What is told of a part: of a dash in a word, of another part of a word, and of a token that is no word. Assumes nothing.
+use Rattle.std.specs.Prelude as Std
+use Rattle.std.specs.Prelude.{Some, None, is_some}
+use Rattle.std.proofs.Common.{◌⊎◌, inl, inr}
+use Rattle.std.proofs.lemmas.Option.{some_pair_parts}
 use Prim.Native.Nat.{ℕ}
 use Rattle.assumptions.proofs.PartWalks.{to-dash-on}
 use Rattle.assumptions.specs.ListParts.{told, first_part, digits_value, Parted, PartedHere, PartEnd}
-use Rattle.assumptions.specs.declared.parts.NextPart.{NextPart}
 use Rattle.assumptions.specs.declared.parts.Part as Code
 use Rattle.block.specs.CharacterList.{Part, part, to_dash, cut_from, is_dash, is_stride, is_all, character_number}
-use Rattle.lexer.proofs.Basics.{by-test, and-true, and-false}
-use Rattle.lexer.specs.contracts.Kind as tags
-use Rattle.lexer.proofs.Yielded.{YieldsByte}
+use Rattle.lexer.proofs.Basics.{by-test}
+use Rattle.lexer.proofs.Yielded.{Yields, YieldsByte}
 use Rattle.lexer.specs.Base.{pick, bytes, same, is_empty}
 use Rattle.lexer.specs.Bytes.{left}
 use Rattle.lexer.specs.Words.{Numbered, is, punct, number, positive, unsigned, digits, largest, is_word, is_quoted, is_string, is_mark}
 use Rattle.lexer.specs.declared.Cursor.{Cursor}
 use Rattle.lexer.specs.declared.Kind.{Kind}
 use borrow.Author.Tests.{ne_eqb}
-use denote.Enum.Declared.{tag_of}
 use lib.Dec.{eqb, leb}
-use mathlib.Core.Bool.{Bool, true, false, ◌&&◌, ◌||◌, false≢true}
+use mathlib.Core.Bool.{Bool, true, false, ◌&&◌, ◌||◌, not, false≢true, true≢false}
 use mathlib.Core.List.{List, [], ◌∷◌}
 use mathlib.Core.Path.{◌≡◌, refl, sym, ap, ◌∙◌}
 use native.Mathlib.Omega.{arith}
-use types.Run.{OneOf, miss}
 
 -- A word is no mark, and in no quotes.
 word-unmarked : (b : ℕ) (k : Kind) → is_word k ≡ true → is_mark b k ≡ false
@@ -44,34 +44,38 @@ word-unquoted Kind.OpenQuote h = refl
 word-unquoted Kind.OpenComment h = refl
 
 -- What the arm of a `match` says: in quotes, and not.
-pub tags-quoted : (k : Kind) → OneOf (1 ∷ 2 ∷ []) (tag_of tags.the_type k) → true ≡ is_quoted k || is_string k
+pub quoted-kind : (k : Kind) → (k ≡ Kind.Quoted) ⊎ (k ≡ Kind.String) → true ≡ is_quoted k || is_string k
 unfolding is_quoted is_string
-tags-quoted Kind.Word o = absurd (miss (1 ∷ 2 ∷ []) 0 tt o)
-tags-quoted Kind.Quoted o = refl
-tags-quoted Kind.String o = refl
-tags-quoted (Kind.Punctuation b) o = absurd (miss (1 ∷ 2 ∷ []) 3 tt o)
-tags-quoted Kind.Newline o = absurd (miss (1 ∷ 2 ∷ []) 4 tt o)
-tags-quoted Kind.OpenQuote o = absurd (miss (1 ∷ 2 ∷ []) 5 tt o)
-tags-quoted Kind.OpenComment o = absurd (miss (1 ∷ 2 ∷ []) 6 tt o)
+quoted-kind k (inl e) = rw e
+quoted-kind k (inr e) = rw e
 
-pub tags-unquoted : (k : Kind) → OneOf (0 ∷ 3 ∷ 4 ∷ 5 ∷ 6 ∷ []) (tag_of tags.the_type k) → false ≡ is_quoted k || is_string k
+pub other-kind : (k : Kind) → (k ≡ Kind.Quoted → ⊥) → (k ≡ Kind.String → ⊥) → false ≡ is_quoted k || is_string k
 unfolding is_quoted is_string
-tags-unquoted Kind.Word o = refl
-tags-unquoted Kind.Quoted o = absurd (miss (0 ∷ 3 ∷ 4 ∷ 5 ∷ 6 ∷ []) 1 tt o)
-tags-unquoted Kind.String o = absurd (miss (0 ∷ 3 ∷ 4 ∷ 5 ∷ 6 ∷ []) 2 tt o)
-tags-unquoted (Kind.Punctuation b) o = refl
-tags-unquoted Kind.Newline o = refl
-tags-unquoted Kind.OpenQuote o = refl
-tags-unquoted Kind.OpenComment o = refl
+other-kind Kind.Word q s = refl
+other-kind Kind.Quoted q s = absurd (q refl)
+other-kind Kind.String q s = absurd (s refl)
+other-kind (Kind.Punctuation b) q s = refl
+other-kind Kind.Newline q s = refl
+other-kind Kind.OpenQuote q s = refl
+other-kind Kind.OpenComment q s = refl
+
+pub other-word : (k : Kind) → (k ≡ Kind.Word → ⊥) → is_word k ≡ false
+unfolding is_word
+other-word Kind.Word h = absurd (h refl)
+other-word Kind.Quoted h = refl
+other-word Kind.String h = refl
+other-word (Kind.Punctuation b) h = refl
+other-word Kind.Newline h = refl
+other-word Kind.OpenQuote h = refl
+other-word Kind.OpenComment h = refl
 
 -- A text of one byte, and a longer one
-pub same-one : (a b : ℕ) (l r : List ℕ) → l ≡ a ∷ r → r ≡ [] → eqb a b ≡ same l (b ∷ [])
+pub same-alone : (text : List ℕ) (a b : ℕ) (l : List ℕ) (d : Cursor) (r : Std.Option (ℕ × Cursor)) (q : Bool) → l ≡ a ∷ left text d → Yields text d.at (left text d) r → is_some r ≡ not q → eqb a b && q ≡ same l (b ∷ [])
 unfolding same
-same-one a b l r here none = rw (here, none) (sym (and-true (eqb a b)))
-
-pub same-longer : (a b c : ℕ) (l r s : List ℕ) → l ≡ a ∷ r → r ≡ c ∷ s → false ≡ same l (b ∷ [])
-unfolding same
-same-longer a b c l r s here more = rw (here, more) (sym (and-false (eqb a b)))
+same-alone text a b l d None true here y e = rw (here, y.end refl)
+same-alone text a b l d None false here y e = absurd (false≢true e)
+same-alone text a b l d (Some (c, f)) true here y e = absurd (true≢false e)
+same-alone text a b l d (Some (c, f)) false here y e = rw (here, (y.byte c f refl).here)
 
 -- A part ends at a dash.
 pub dash-ends : (b : ℕ) (l r : List ℕ) → l ≡ b ∷ r → eqb b 45 ≡ is_empty (to_dash l)
@@ -119,14 +123,14 @@ part-positive b l r n here o e =
 
 -- The next part of a word
 module _ (text : List ℕ) (count : ℕ) (w : Numbered) (c : Cursor) where
-  parted-more : {q : Code.Part} {d : Cursor} → PartedHere text count w c q d → Parted text count w c (NextPart.Part q d)
+  parted-more : {q : Code.Part} {d : Cursor} → PartedHere text count w c q d → Parted text count w c (Some (q, d))
   parted-more {q} {d} p =
       record {
-        more = λ q' d' e. let f : q ≡ q' = cc in let g : d ≡ d' = cc in rw (← f, ← g) p;
+        more = λ q' d' e. let f = some_pair_parts _ _ _ _ e in rw (← f.0, ← f.1) p;
         end = λ e. let z : ◌≡◌ {A = ℕ} 0 1 = cc in absurd (omega arith);
       }
 
-  pub parted-end : left text c ≡ [] → Parted text count w c NextPart.End
+  pub parted-end : left text c ≡ [] → Parted text count w c None
   unfolding cut_from
   parted-end h = record { more = λ q d e. let z : ◌≡◌ {A = ℕ} 0 1 = cc in absurd (omega arith); end = λ _. rw h }
 
@@ -144,14 +148,14 @@ module _ (text : List ℕ) (count : ℕ) (w : Numbered) (c : Cursor) where
     tests x dash k n = record { index = x; dash = dash; stride = false; all = all; character = k; number = n }
 
     -- a dash is a part of its own
-    pub parted-dash : b ≡ 45 → Parted text count w c (NextPart.Part (record { index = index; dash = true; stride = false; all = all; character = 0; number = 0 }) d)
+    pub parted-dash : b ≡ 45 → Parted text count w c (Some ((record { index = index; dash = true; stride = false; all = all; character = 0; number = 0 }), d))
     parted-dash o =
         let f = first-dash b (left text d) y.here o in
         parted-more (record { here = f.1; tests = rw f.0 (ap (λ (x : ℕ). tests x true 0 0) (sym i) ∙ sym (dash-told count w all a h)); ahead = y.ahead; within = y.within })
 
     -- any other goes up to the next dash
     pub parted-plain : (b ≡ 45 → ⊥) → (n k : ℕ) (e : Cursor) → n ≡ pick (eqb b 43) (digits_value (left text d)) (digits_value (left text c)) → k ≡ pick (eqb b 46 && is_empty (to_dash (left text d))) count (pick (leb n count) n 0) → PartEnd text d e
-        → Parted text count w c (NextPart.Part (record { index = index; dash = false; stride = false; all = all; character = k; number = n }) e)
+        → Parted text count w c (Some ((record { index = index; dash = false; stride = false; all = all; character = k; number = n }), e))
     parted-plain o n k e num char end =
         let f = first_plain b (left text d) y.here o in
         let p = part-positive b (left text c) (left text d) n y.here o num in

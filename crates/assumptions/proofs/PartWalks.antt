@@ -70,9 +70,6 @@ pub record Ending (text : List ℕ) (c d : Cursor) : Type 0 where
   pub onward : c.at ≤ d.at
   pub within : c.at ≤ length text → d.at ≤ length text
 
-pub ending-start : (text : List ℕ) (c : Cursor) → Ending text c c
-ending-start text c = record { rest = λ w. refl; onward = omega arith; within = λ h. h }
-
 module _ (text : List ℕ) (c d : Cursor) (k : Ending text c d) where
   module _ (b : ℕ) (e : Cursor) (y : YieldsByte text d.at (left text d) b e) where
     pub ending-turn : (b ≡ 45 → ⊥) → Ending text c e

@@ -188,7 +188,7 @@ module _ (o : CharacterOrdering) (r : Range) (at count : ℕ) (before : List ℕ
 
     pub striding-twice : (k : ℕ) (b : Bool) → Striding o r at count before work k → k ≤ min r.last count
         → b ≡ eqb k 0 || eqb (get_or work (at + (k - 1)) 0) 0 → after ≡ pick (ltb 0 k && b) (set work (at + (k - 1)) (type_number o)) work
-        → b ≡ false → (take at after ≡ take at before) × (none ≡ typed_range o r 1 (types_held before at count))
+        → b ≡ false → record { front : take at after ≡ take at before; typed : none ≡ typed_range o r 1 (types_held before at count) }
     unfolding pick
     striding-twice zero b s within free stored f = not-both f free
     striding-twice (suc n) b s within free stored f =
@@ -197,7 +197,7 @@ module _ (o : CharacterOrdering) (r : Range) (at count : ℕ) (before : List ℕ
         let some : eqb (suc n) 0 ≡ false = ne_eqb (suc n) 0 (λ e. omega arith) in
         let full : eqb (get_or work (at + n) 0) 0 ≡ false = sym (rw (this, some) at free) ∙ f in
         let same : after ≡ work = rw (f, lt-ltb 0 (suc n) (omega arith)) at stored in
-        (ap (take at) same ∙ s.done.front, ranging-twice o r at count before work n (rw front at s.done) (omega arith) (in-range-on r (suc n) s.from (omega arith) s.on) (eqb-false (get_or work (at + n) 0) 0 full))
+        record { front = ap (take at) same ∙ s.done.front; typed = ranging-twice o r at count before work n (rw front at s.done) (omega arith) (in-range-on r (suc n) s.from (omega arith) s.on) (eqb-false (get_or work (at + n) 0) 0 full) }
 
   -- behind a number of the range
   module _ (work : List ℕ) (k : ℕ) (from : r.first ≤ k) (on : (k - r.first) % r.stride ≡ 0) (within : k ≤ min r.last count) (d : Ranging o r at count before work k) where

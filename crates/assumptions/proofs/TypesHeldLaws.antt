@@ -1,15 +1,16 @@
 -- Laws of the types that work memory holds. Assumes nothing.
-use Prim.Native.Nat.{ℕ, zero, suc, ◌+◌, ◌≤◌, ◌<◌}
+use Prim.Native.Nat.{ℕ, zero, suc, ◌+◌, ◌-◌, ◌≤◌, ◌<◌}
 use Rattle.assumptions.specs.TypesHeld.{type_number, type_of, types_held}
 use Rattle.block.specs.Typeset.{Types}
 use Rattle.block.specs.declared.model.CharacterOrdering.{CharacterOrdering}
-use lib.ListN.{length, get_or, take, set, replicate, length-set, replicate-append-replicate}
-use lib.Seq.{get_or-set_same, get_or-set_other, take-set-le}
+use lib.ListN.{length, get_or, take, drop, set, length-take, length-drop, length-replicate, replicate}
+use Rattle.std.proofs.lemmas.List.{get_or-append_right, get_or_append_left, get_or-replicate}
+use borrow.Rule.Slice.PartMut.{put_mid}
+use lib.Seq.{get_or-set_same, get_or-set_other}
 use mathlib.Core.List.{List, [], ◌∷◌, ◌++◌}
-use mathlib.Core.Option.{Option, none, some}
+use mathlib.Core.Option.{none, some}
 use mathlib.Core.Path.{◌≡◌, refl, ap, ◌∙◌}
 use native.Mathlib.Nat.{add-zero}
-use native.Mathlib.Numerals.{add-one}
 use native.Mathlib.Omega.{arith}
 
 -- The number of a type stands for it.
@@ -55,28 +56,21 @@ held-set-next work at n v h =
     held_more (set work (at + n) v) at n
     ∙ rw (held-set-behind work (at + n) v at n (omega arith), get_or-set_same work (at + n) v 0 h)
 
--- The walk that clears them: so many have no type.
-pub record Clearing (at count : ℕ) (before work : List ℕ) (k : ℕ) : Type 0 where
-  pub below : k ≤ count
-  pub size : length work ≡ length before
-  pub front : take at work ≡ take at before
-  pub clear : types_held work at k ≡ replicate k none
+-- Where the numbers are 0, no character has a type.
+held-clear : (work : List ℕ) (at n : ℕ) → ((i : ℕ) → at ≤ i → i < at + n → get_or work i 0 ≡ 0) → types_held work at n ≡ replicate n none
+unfolding types_held type_of
+held-clear work at zero h = refl
+held-clear work at (suc n) h =
+    rw (h at (omega arith) (omega arith), held-clear work (suc at) n (λ i l u. h i (omega arith) (omega arith)))
 
-module _ (at count : ℕ) (before : List ℕ) where
-  pub clearing-start : Clearing at count before before 0
-  unfolding types_held
-  clearing-start = record { below = omega arith; size = refl; front = refl; clear = refl }
-
-  module _ (work : List ℕ) (k : ℕ) (c : Clearing at count before work k) where
-    pub clearing-turn : k < count → at + count ≤ length before → Clearing at count before (set work (at + k) 0) (k + 1)
-    unfolding type_of
-    clearing-turn h fits =
-        record {
-          below = omega arith;
-          size = length-set work (at + k) 0 ∙ c.size;
-          front = take-set-le at work (at + k) 0 (omega arith) ∙ c.front;
-          clear = rw (add-one k) (held-set-next work at k 0 (omega (arith, c.size)) ∙ rw (c.clear, replicate-append-replicate {A = Option CharacterOrdering} k 1 none, add-one k));
-        }
-
-    pub clearing-end : count ≤ k → (take at work ≡ take at before) × (types_held work at count ≡ replicate count none)
-    clearing-end h = let all : k ≡ count = omega (arith, c.below) in (c.front, rw all at c.clear)
+-- The types behind a part of work memory that is cleared.
+pub cleared : (work part : List ℕ) (at k count : ℕ) → k ≡ count → at + count ≤ length work → part ≡ replicate (length (take k (drop at work))) 0 → types_held (put_mid at k work part) at count ≡ replicate count none
+cleared work part at k count e fits p =
+    let size : length (take k (drop at work)) ≡ count = omega (arith, length-take k (drop at work), length-drop at work) in
+    let zeros : part ≡ replicate count 0 = p ∙ rw size in
+    held-clear (put_mid at k work part) at count
+    (λ i l u.
+    rw zeros
+    (get_or-append_right (take at work) (replicate count 0 ++ drop k (drop at work)) at i 0 (omega (arith, length-take at work)) l
+    ∙ get_or_append_left (replicate count 0) (drop k (drop at work)) 0 (i - at) (omega (arith, length-replicate {A = ℕ} count 0))
+    ∙ get_or-replicate count (i - at) 0 0 (omega arith)))

@@ -1,12 +1,14 @@
 -- A VECTOR: its words are counted, and each is a type. Assumes nothing.
 use Prim.Native.Nat.{ℕ, zero, suc, ◌+◌, ◌≤◌, ◌<◌}
 use Rattle.assumptions.proofs.TypesHeldLaws.{type-of-number, held-set-next}
-use Rattle.assumptions.proofs.TypesetWalks.{next-front, at-end, at_done}
-use Rattle.assumptions.specs.NextWord.{Next}
+use Rattle.assumptions.proofs.TypesetWalks.{at-end, at-newline, at_done}
+use Rattle.assumptions.proofs.NextWordLaws.{found_here}
+use Rattle.block.proofs.WalkLaws.{words-newline, words-end}
+use Rattle.assumptions.specs.NextWord.{Found}
 use Rattle.assumptions.specs.TypesHeld.{type_number, types_held}
 use Rattle.assumptions.specs.TypesetWalk.{typeset_from, typeset_at, set_of}
-use Rattle.block.specs.Commands.{words}
-use Rattle.block.specs.Outcome.{done, refused, then, fold}
+use Rattle.block.specs.Commands.{words, newline}
+use Rattle.block.specs.Outcome.{done, refused, then, fold, need}
 use Rattle.block.specs.Typeset.{Types, types, ordering, vector_word, vector_end, typeset_turn, typeset_end}
 use Rattle.block.specs.declared.model.CharacterOrdering.{CharacterOrdering}
 use Rattle.lexer.proofs.RangeLaws.{word_kept}
@@ -14,14 +16,27 @@ use Rattle.lexer.specs.Base.{pick}
 use Rattle.lexer.specs.Stored.{word_of, range}
 use Rattle.lexer.specs.Words.{Numbered}
 use Rattle.lexer.specs.declared.refusal.Refusal.{Refusal}
+use Rattle.lexer.specs.declared.Fault.{Fault}
 use borrow.Author.Tests.{eq-eqb, ne_eqb}
 use lib.ListN.{length, take, set, length-append, length-set}
 use lib.Seq.{take-set-le}
+use mathlib.Core.Bool.{true, false}
 use mathlib.Core.List.{List, [], ◌∷◌, ◌++◌}
 use mathlib.Core.Option.{Option, none, some}
 use mathlib.Core.Path.{◌≡◌, refl, sym, ap, ◌∙◌}
 use native.Mathlib.Numerals.{add-one}
 use native.Mathlib.Omega.{arith}
+
+-- A value that must be there is there, or none is.
+need-done : (x : Option CharacterOrdering) (m : Refusal) (i : ℕ) (o : CharacterOrdering) → done o ≡ need x m i → x ≡ some o
+unfolding need
+need-done none m i o e = cc
+need-done (some a) m i o e = cc
+
+need-refused : (x : Option CharacterOrdering) (m : Refusal) (i : ℕ) (q : Refusal) (j : ℕ) → refused q j ≡ need x m i → (x ≡ none) × ((q ≡ m) × (j ≡ i))
+unfolding need
+need-refused none m i q j e = (refl, (cc, cc))
+need-refused (some a) m i q j e = (cc, (cc, cc))
 
 -- how many types there are with one more
 length_more : (ts : Types) (o : Option CharacterOrdering) → length (ts ++ (o ∷ [])) ≡ suc (length ts)
@@ -87,44 +102,59 @@ module _ (text : List ℕ) (head from to at n : ℕ) (before : List ℕ) where
   unfolding types_held
   vectoring-start e = record { size = refl; front = refl; count = omega arith; rest = refl }
 
-  module _ (below : to ≤ at) (work : List ℕ) (i k j : ℕ) (v : Vectoring text head from to at n before work i k) (x : Next text work i to j) where
-    next : Next text before i to j
-    next = next-front text work before at v.front to below i j x
+  module _ (below : to ≤ at) (work : List ℕ) (i k : ℕ) (v : Vectoring text head from to at n before work i k) where
+    same_word : i < to → word_of text work i ≡ word_of text before i
+    same_word h = word_kept text work before at v.front i (omega arith)
 
-    pub vectoring-room : j < to → k < n
-    vectoring-room h = let more : length (words (range text before i to)) ≡ suc (length (words (range text before (j + 1) to))) = ap length (next.here h) in omega (arith, v.count)
-
-    word : j < to → word_of text work j ≡ word_of text before j
-    word h = word_kept text work before at v.front j (omega arith)
-
-    pub vectoring-turn : (o : CharacterOrdering) → j < to → at + n ≤ length before → ordering (word_of text work j) ≡ some o → Vectoring text head from to at n before (set work (at + k) (type_number o)) (j + 1) (k + 1)
-    unfolding typeset_turn vector_word
-    vectoring-turn o h fits e =
-        let more : length (words (range text before i to)) ≡ suc (length (words (range text before (j + 1) to))) = ap length (next.here h) in
-        let room = vectoring-room h in
-        let here : ordering (word_of text before j) ≡ some o = rw (word h) at e in
-        let held : types_held (set work (at + k) (type_number o)) at (k + 1) ≡ types_held work at k ++ (some o ∷ []) = rw (add-one k) (held-set-next work at k (type_number o) (omega (arith, v.size)) ∙ rw (type-of-number o)) in
+    pub vectoring-newline : i < to → newline (word_of text work i) ≡ true → Vectoring text head from to at n before work (i + 1) k
+    vectoring-newline h e =
+        let here : newline (word_of text before i) ≡ true = rw (same_word h) at e in
         record {
-          size = length-set work (at + k) (type_number o) ∙ v.size;
-          front = take-set-le at work (at + k) (type_number o) (omega arith) ∙ v.front;
-          count = omega (arith, v.count);
-          rest = rw held (at_done (set_of n head) text before to (types (types_held work at k) none) next (types (types_held work at k ++ (some o ∷ [])) none) h (rw here) ∙ v.rest);
+          size = v.size;
+          front = v.front;
+          count = omega (arith, ap length (words-newline text before i to h here), v.count);
+          rest = at-newline (set_of n head) text before to (types (types_held work at k) none) i h here ∙ v.rest;
         }
 
-    pub vectoring-over : j < to → 1 ≤ n → ordering (word_of text work j) ≡ none → refused Refusal.TypeSet j ≡ typeset_at (set_of n head) text before to (types [] none) from
-    unfolding typeset_turn vector_word typeset_at word_of
-    vectoring-over h l e =
-        let more : length (words (range text before i to)) ≡ suc (length (words (range text before (j + 1) to))) = ap length (next.here h) in
-        let here : ordering (word_of text before j) ≡ none = rw (word h) at e in
-        let held = types_held work at k in
-        let size : length (held ++ (none ∷ [])) + length (words (range text before (j + 1) to)) ≡ n = omega (arith, v.count, length_more held none, types-length work at k) in
-        sym (vector-bad n head (held ++ (none ∷ [])) j (words (range text before (j + 1) to)) size l)
-        ∙ at_done (set_of n head) text before to (types held none) next (types (held ++ (none ∷ [])) (some j)) h (rw here)
-        ∙ v.rest
+    module _ (h : i < to) (z : newline (word_of text work i) ≡ false) where
+      found : Found text before i to i
+      found = let here : newline (word_of text before i) ≡ false = rw (same_word h) at z in found_here text before to i h here
 
-    pub vectoring-end : to ≤ j → 1 ≤ n → done (types_held work at n) ≡ typeset_at (set_of n head) text before to (types [] none) from
+      more : length (words (range text before i to)) ≡ suc (length (words (range text before (i + 1) to)))
+      more = ap length found.here
+
+      pub vectoring-room : k < n
+      vectoring-room = omega (arith, v.count, more)
+
+      pub vectoring-turn : (o : CharacterOrdering) → at + n ≤ length before → done o ≡ need (ordering (word_of text work i)) Refusal.TypeSet i → Vectoring text head from to at n before (set work (at + k) (type_number o)) (i + 1) (k + 1)
+      unfolding typeset_turn vector_word
+      vectoring-turn o fits e =
+          let room = vectoring-room in
+          let here : ordering (word_of text before i) ≡ some o = need-done _ _ _ _ (rw (same_word h) at e) in
+          let held : types_held (set work (at + k) (type_number o)) at (k + 1) ≡ types_held work at k ++ (some o ∷ []) = rw (add-one k) (held-set-next work at k (type_number o) (omega (arith, v.size)) ∙ rw (type-of-number o)) in
+          record {
+            size = length-set work (at + k) (type_number o) ∙ v.size;
+            front = take-set-le at work (at + k) (type_number o) (omega arith) ∙ v.front;
+            count = omega (arith, v.count, more);
+            rest = rw held (at_done (set_of n head) text before to (types (types_held work at k) none) found (types (types_held work at k ++ (some o ∷ [])) none) (rw here) ∙ v.rest);
+          }
+
+      pub vectoring-over : (f : Fault ℕ) → 1 ≤ n → refused f.0 f.1 ≡ need (ordering (word_of text work i)) Refusal.TypeSet i → refused f.0 f.1 ≡ typeset_at (set_of n head) text before to (types [] none) from
+      unfolding typeset_turn vector_word typeset_at word_of need
+      vectoring-over f l e =
+          let p = need-refused _ _ _ _ _ (rw (same_word h) at e) in
+          let here : ordering (word_of text before i) ≡ none = p.0 in
+          let held = types_held work at k in
+          let size : length (held ++ (none ∷ [])) + length (words (range text before (i + 1) to)) ≡ n = omega (arith, v.count, more, length_more held none, types-length work at k) in
+          rw (p.1.0, p.1.1)
+          (sym (vector-bad n head (held ++ (none ∷ [])) i (words (range text before (i + 1) to)) size l)
+          ∙ at_done (set_of n head) text before to (types held none) found (types (held ++ (none ∷ [])) (some i)) (rw here)
+          ∙ v.rest)
+
+    pub vectoring-end : to ≤ i → 1 ≤ n → done (types_held work at n) ≡ typeset_at (set_of n head) text before to (types [] none) from
     unfolding typeset_end
     vectoring-end h l =
-        let over : length (words (range text before i to)) ≡ 0 = ap length (next.past h) in
+        let past = words-end text before i to h in
+        let over : length (words (range text before i to)) ≡ 0 = ap length past in
         let all : k ≡ n = omega (arith, v.count) in
-        sym (vector-end-good n head (types_held work at n) (types-length work at n) l) ∙ rw all at (at-end (set_of n head) text before to (types (types_held work at k) none) next h ∙ v.rest)
+        sym (vector-end-good n head (types_held work at n) (types-length work at n) l) ∙ rw all at (at-end (set_of n head) text before to (types (types_held work at k) none) i past ∙ v.rest)

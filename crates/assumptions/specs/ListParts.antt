@@ -1,6 +1,5 @@
 -- The parts of a character list as the code has them: tests of a part, and the parts of a word one by one.
-use Rattle.std.specs.Prelude.{ℕ, ◌≤◌, ◌<◌, leb, eqb, length, true, false, List, [], ◌∷◌, ◌≡◌}
-use Rattle.assumptions.specs.declared.parts.NextPart.{NextPart}
+use Rattle.std.specs.Prelude.{ℕ, ◌≤◌, ◌<◌, leb, eqb, length, true, false, List, [], ◌∷◌, ◌≡◌, Some, None, Option}
 use Rattle.assumptions.specs.declared.parts.Part as Code
 use Rattle.block.specs.CharacterList.{Part, part, to_dash, cut_from, is_dash, is_stride, is_all, character_number}
 use Rattle.lexer.specs.Base.{pick, byte}
@@ -39,9 +38,9 @@ pub record PartedHere (text : List ℕ) (count : ℕ) (w : Numbered) (c : Cursor
   pub within : d.at ≤ length text
 
 -- The next part of a word from a cursor on, or none.
-pub record Parted (text : List ℕ) (count : ℕ) (w : Numbered) (c : Cursor) (r : NextPart) : Type 0 where
-  pub more : (q : Code.Part) (d : Cursor) → r ≡ NextPart.Part q d → PartedHere text count w c q d
-  pub end : r ≡ NextPart.End → cut_from w false (left text c) ≡ []
+pub record Parted (text : List ℕ) (count : ℕ) (w : Numbered) (c : Cursor) (r : Option (Code.Part × Cursor)) : Type 0 where
+  pub more : (q : Code.Part) (d : Cursor) → r ≡ Some (q, d) → PartedHere text count w c q d
+  pub end : r ≡ None → cut_from w false (left text c) ≡ []
 
 -- The end of a part that has begun: what is left behind it begins with a dash, or is nothing.
 pub record PartEnd (text : List ℕ) (c r : Cursor) : Type 0 where

@@ -13,7 +13,7 @@ told_number n (b ∷ r) =
     let more = told_number (n * 10 + (b - 48)) r in
     pick (leb 48 b && leb b 57) (pick (leb 1844674407370955160 n) 0 more) (pick (is_ends b) n 0)
 
--- Do these bytes begin with the letters of a keyword, in either case, and a byte that ends a is_word
+-- Do these bytes begin with the letters of a keyword, in either case, and a byte behind them that ends a word?
 unfoldable pub told_keyword : List ℕ → List ℕ → Bool
 told_keyword k [] = false
 told_keyword [] (b ∷ r) = is_ends b

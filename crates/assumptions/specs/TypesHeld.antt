@@ -1,8 +1,5 @@
 -- The types of a set as work memory holds them, a number for each character: 0 none, 1 UNORD, 2 ORD; and what the code's answers about types mean.
 use Rattle.std.specs.Prelude.{ℕ, zero, suc, get_or, Bool, List, [], ◌∷◌}
-use Rattle.assumptions.specs.declared.assumptions.OptionsAnswer.{OptionsAnswer}
-use Rattle.assumptions.specs.declared.assumptions.TypeWord.{TypeWord}
-use Rattle.block.specs.Outcome.{Outcome, done, refused}
 use Rattle.block.specs.Typeset.{Types}
 use Rattle.block.specs.declared.model.CharacterOrdering.{CharacterOrdering}
 use Rattle.lexer.specs.Base.{pick}
@@ -23,15 +20,6 @@ type_of (suc (suc n)) = some CharacterOrdering.Ordered
 unfoldable pub types_held : List ℕ → ℕ → ℕ → Types
 types_held work at zero = []
 types_held work at (suc n) = let more = types_held work (suc at) n in type_of (get_or work at 0) ∷ more
-
--- A type word, or none.
-unfoldable pub type_word : TypeWord → Option CharacterOrdering
-type_word (TypeWord.Type o) = some o
-type_word TypeWord.None = none
-
-unfoldable pub options_answer : OptionsAnswer → Outcome CharacterOrdering
-options_answer (OptionsAnswer.Type o) = done o
-options_answer (OptionsAnswer.Refused n i) = refused n i
 
 -- The types so far, unless a character was typed twice.
 unfoldable pub unless_twice : Bool → Types → Option Types

@@ -1,8 +1,5 @@
 -- TYPESET from a mode on, and what the code's answers on the way mean.
-use Rattle.std.specs.Prelude.{ℕ, replicate, List, []}
-use Rattle.assumptions.specs.declared.assumptions.FormAnswer.{FormAnswer}
-use Rattle.assumptions.specs.declared.assumptions.FormWord.{FormWord}
-use Rattle.assumptions.specs.declared.assumptions.Placed.{Placed}
+use Rattle.std.specs.Prelude.{ℕ, replicate, List, [], Some, None, Ok, Err, Option, Result}
 use Rattle.block.specs.Commands.{words}
 use Rattle.block.specs.Outcome.{Outcome, done, refused, then, fold}
 use Rattle.block.specs.Typeset.{Types, Typing, close, types, type, Typeset, typeset_turn, typeset_end}
@@ -11,6 +8,7 @@ use Rattle.lexer.specs.Stored.{range}
 use Rattle.lexer.specs.Words.{Numbered}
 use Rattle.lexer.specs.declared.refusal.Refusal.{Refusal}
 use Rattle.std.proofs.Math.Option.{none}
+use Rattle.lexer.specs.declared.Fault.{Fault}
 
 unfoldable pub set_of : ℕ → ℕ → Typeset
 set_of n h = record { characters = n; head = h }
@@ -28,16 +26,12 @@ unfoldable pub after_equals : ℕ → Form → Typing
 after_equals n Form.Standard = type (replicate n none)
 after_equals n Form.Vector = types [] none
 
--- It goes on at an index, or ends.
-unfoldable pub placed_then : Placed → (ℕ → Outcome Types) → Outcome Types
-placed_then (Placed.At i) f = f i
-placed_then (Placed.Refused n i) f = refused n i
-
-unfoldable pub form_then : FormAnswer → (Form → ℕ → Outcome Types) → Outcome Types
-form_then (FormAnswer.Form m i) f = f m i
-form_then (FormAnswer.Refused n i) f = refused n i
+-- It goes on at an index, with a form, or ends.
+unfoldable pub form_then : Result (Form × ℕ) (Fault ℕ) → (Form → ℕ → Outcome Types) → Outcome Types
+form_then (Ok (m, i)) f = f m i
+form_then (Err e) f = refused e.0 e.1
 
 -- The word of a form, with its index, or none.
-unfoldable pub form_word : FormWord → ℕ → Outcome Typing
-form_word (FormWord.Form f) i = done (close f i)
-form_word FormWord.None i = refused Refusal.TypeSet i
+unfoldable pub form_word : Option Form → ℕ → Outcome Typing
+form_word (Some f) i = done (close f i)
+form_word None i = refused Refusal.TypeSet i

@@ -1,6 +1,6 @@
 // Character lists of a TYPESET, after assumptions.rs: word by word, part by part, with each range typed as it is complete.
 
-ghost use Rattle.std.specs.Prelude.{ℕ, ◌+◌, ◌<◌, ◌≤◌, length, take, true, List, [], ◌≡◌};
+ghost use Rattle.std.specs.Prelude.{ℕ, ◌+◌, ◌<◌, ◌≤◌, length, take, true, List, [], ◌≡◌, Ok, Some};
 ghost use Rattle.assumptions.specs.ListCode.{Follows, list_then};
 ghost use Rattle.assumptions.specs.ListParts.{told};
 ghost use Rattle.assumptions.specs.TypesHeld.{types_held, unless_twice};
@@ -8,7 +8,7 @@ ghost use Rattle.assumptions.specs.TypesetWalk.{set_of, typeset_at};
 ghost use Rattle.block.specs.CharacterList as L;
 ghost use Rattle.block.specs.CharacterList.{list_turn, listed, part_turn};
 ghost use Rattle.block.specs.Judged.{judged};
-ghost use Rattle.block.specs.Outcome.{Outcome, need, then};
+ghost use Rattle.block.specs.Outcome.{need};
 ghost use Rattle.block.specs.Typeset.{Types, colon, list, list_ends, on_types, type, typed, typed_range};
 ghost use Rattle.block.specs.declared.kinds.Item as I;
 ghost use Rattle.block.specs.declared.kinds.Range as R;
@@ -16,131 +16,90 @@ ghost use Rattle.lexer.specs.Stored.{word_of};
 ghost use Rattle.lexer.specs.Words.{is_word};
 ghost use Rattle.lexer.specs.declared.refusal.Refusal as T;
 
-use super::assumptions::next_word;
+use super::assumptions::{mark_from, word_ahead};
 use super::items::item_turn;
-use super::parts::{NextPart, Part, number_part, whole_part, word_part};
+use super::parts::{Part, number_part, whole_part, word_part};
 use super::told::word_number;
-use super::types::type_range;
-use block::{CharacterOrdering, Further, Item, Judged, Range, is, punct};
-use lexer::{Kind, Refusal, kind_at, start_of, text_start};
+use super::types::{Held, type_range};
+use block::{CharacterOrdering, Further, Item, Range, is, newline, punct};
+use lexer::{Fault, Kind, Refusal, kind_at, start_of, text_start};
 
-// The first number of a range, or ALL; or the refusal of the token with an index.
+// A list so far: where it is, and whether a character was typed twice. Its ranges are typed already.
 #[derive(Clone, Copy)]
-pub enum FirstItem {
-    Item(Item),
-    Refused(Refusal, usize),
-}
-
-// What one part more comes to, or the refusal of the token with an index.
-#[derive(Clone, Copy)]
-pub enum ItemAnswer {
-    Further(Further),
-    Refused(Refusal, usize),
-}
-
-// Where a list is behind a part or a word, and whether a character was typed twice; or the refusal of the token with an index.
-#[derive(Clone, Copy)]
-pub enum WordAnswer {
-    On(Item, bool),
-    Refused(Refusal, usize),
-}
-
-// A list has ended: the command goes on at an index, or is judged.
-#[derive(Clone, Copy)]
-pub enum ListAnswer {
-    Next(usize),
-    Judged(Judged),
+pub struct Listed {
+    pub item: Item,
+    pub twice: bool,
 }
 
 // Types a range that is complete, unless a character was typed twice before: was one now?
 fn type_next(
     work: &mut [u32],
-    at: usize,
-    count: usize,
+    held: Held,
     ordering: CharacterOrdering,
     twice: bool,
     range: Range,
 ) -> bool
-    requires { at + count ≤ length work.old }
-    ensures front { take at work.new ≡ take at work.old }
-    ensures typed { unless_twice result (types_held work.new at count) ≡ on_types (unless_twice twice (types_held work.old at count)) (typed_range ordering range 1) }
+    requires { held.at + held.count ≤ length work.old }
+    ensures front { take held.at work.new ≡ take held.at work.old }
+    ensures typed { unless_twice result (types_held work.new held.at held.count) ≡ on_types (unless_twice twice (types_held work.old held.at held.count)) (typed_range ordering range 1) }
 {
-    if twice {
-        return true;
-    }
-    !type_range(work, at, count, ordering, range)
+    twice || !type_range(work, held, ordering, range)
 }
 
 // One part more of a list, whose ranges are typed as they are complete.
 fn part_turn(
     work: &mut [u32],
-    at: usize,
-    count: usize,
+    held: Held,
     ordering: CharacterOrdering,
-    item: Item,
-    twice: bool,
+    list: Listed,
     part: Part,
-) -> WordAnswer
-    requires { at + count ≤ length work.old }
-    ensures front { take at work.new ≡ take at work.old }
-    ensures answer { (p : L.Part) → part ≡ told count p → (rs : List R.Range) (ts : Types) → typed ordering rs ts ≡ unless_twice twice (types_held work.old at count) → Follows ordering ts (types_held work.new at count) (part_turn count (listed rs item) p) result }
+) -> Result<Listed, Fault<usize>>
+    requires { held.at + held.count ≤ length work.old }
+    ensures front { take held.at work.new ≡ take held.at work.old }
+    ensures answer { (p : L.Part) → part ≡ told held.count p → (rs : List R.Range) (ts : Types) → typed ordering rs ts ≡ unless_twice list.twice (types_held work.old held.at held.count) → Follows ordering ts (types_held work.new held.at held.count) (part_turn held.count (listed rs list.item) p) result }
 {
-    match item_turn(count as u64, item, part) {
-        ItemAnswer::Further(further) => match further {
-            Further::On(m) => WordAnswer::On(m, twice),
-            Further::Past(range, m) => {
-                let again = type_next(work, at, count, ordering, twice, range);
-                WordAnswer::On(m, again)
-            }
-        },
-        ItemAnswer::Refused(n, i) => WordAnswer::Refused(n, i),
+    match item_turn(held.count as u64, list.item, part)? {
+        Further::On(item) => Ok(Listed { item, ..list }),
+        Further::Past(range, item) => {
+            let twice = type_next(work, held, ordering, list.twice, range);
+            Ok(Listed { item, twice })
+        }
     }
 }
 
 // A list's last word has been judged: was a character typed twice?
-fn judge_twice(twice: bool, word: usize) -> Judged
+fn judge_twice(twice: bool, word: usize) -> Result<(), Fault<usize>>
     ensures { (us : Types) → judged us result ≡ need (unless_twice twice us) T.Refusal.TypeSet word }
 {
     if twice {
-        return Judged::Refused(Refusal::TypeSet, word);
+        return Err(Fault(Refusal::TypeSet, word));
     }
-    Judged::Good
+    Ok(())
 }
 
 // The end of the list of the type word with an index.
 fn list_end(
     work: &mut [u32],
-    at: usize,
-    count: usize,
+    held: Held,
     ordering: CharacterOrdering,
     word: usize,
-    item: Item,
-    twice: bool,
-) -> Judged
-    requires { at + count ≤ length work.old }
-    ensures front { take at work.new ≡ take at work.old }
-    ensures answer { (rs : List R.Range) (ts : Types) → typed ordering rs ts ≡ unless_twice twice (types_held work.old at count) → judged (types_held work.new at count) result ≡ list_ends ts ordering word (listed rs item) }
+    list: Listed,
+) -> Result<(), Fault<usize>>
+    requires { held.at + held.count ≤ length work.old }
+    ensures front { take held.at work.new ≡ take held.at work.old }
+    ensures answer { (rs : List R.Range) (ts : Types) → typed ordering rs ts ≡ unless_twice list.twice (types_held work.old held.at held.count) → judged (types_held work.new held.at held.count) result ≡ list_ends ts ordering word (listed rs list.item) }
 {
-    match item {
-        Item::Number => judge_twice(twice, word),
-        Item::Single(_, first, last, _) => {
+    match list.item {
+        Item::Number => judge_twice(list.twice, word),
+        Item::Single(_, first, last, _) | Item::Pair(first, last, _) => {
             let whole = Range {
                 first,
                 last,
                 stride: 1,
             };
-            judge_twice(type_next(work, at, count, ordering, twice, whole), word)
+            judge_twice(type_next(work, held, ordering, list.twice, whole), word)
         }
-        Item::Pair(first, last, _) => {
-            let whole = Range {
-                first,
-                last,
-                stride: 1,
-            };
-            judge_twice(type_next(work, at, count, ordering, twice, whole), word)
-        }
-        Item::To(_, index) => Judged::Refused(Refusal::CharacterList, index),
-        Item::By(_, _, index) => Judged::Refused(Refusal::CharacterList, index),
+        Item::To(_, index) | Item::By(_, _, index) => Err(Fault(Refusal::CharacterList, index)),
     }
 }
 
@@ -149,36 +108,23 @@ fn cut_word(
     text: &[u8],
     work: &mut [u32],
     i: usize,
-    at: usize,
-    count: usize,
+    held: Held,
     ordering: CharacterOrdering,
-    from: Item,
-    before: bool,
-) -> WordAnswer
-    requires i_lt_at { (i < at) × (at + count ≤ length work.old) }
+    from: Listed,
+) -> Result<Listed, Fault<usize>>
+    requires i_lt_at { (i < held.at) × (held.at + held.count ≤ length work.old) }
     requires i_value { is_word (word_of text.now work.old i).token.kind ≡ true }
-    ensures front { take at work.new ≡ take at work.old }
-    ensures answer { (rs : List R.Range) (ts : Types) → typed ordering rs ts ≡ unless_twice before (types_held work.old at count) → Follows ordering ts (types_held work.new at count) (list_turn count (listed rs from) (word_of text.now work.old i)) result }
+    ensures front { take held.at work.new ≡ take held.at work.old }
+    ensures answer { (rs : List R.Range) (ts : Types) → typed ordering rs ts ≡ unless_twice from.twice (types_held work.old held.at held.count) → Follows ordering ts (types_held work.new held.at held.count) (list_turn held.count (listed rs from.item) (word_of text.now work.old i)) result }
 {
     let all = is(text, work, i, b"ALL");
     let mut c = text_start(text, start_of(work, i));
-    let mut item = from;
-    let mut twice = before;
-    loop {
-        let NextPart::Part(part, d) = word_part(text, i, all, count as u64, c) else {
-            return WordAnswer::On(item, twice);
-        };
-        match part_turn(work, at, count, ordering, item, twice, part) {
-            WordAnswer::On(m, t) => {
-                item = m;
-                twice = t;
-                c = d;
-            }
-            WordAnswer::Refused(n, k) => {
-                return WordAnswer::Refused(n, k);
-            }
-        }
+    let mut list = from;
+    while let Some((part, d)) = word_part(text, i, all, held.count as u64, c) {
+        list = part_turn(work, held, ordering, list, part)?;
+        c = d;
     }
+    Ok(list)
 }
 
 // One word more of a list. Most are numbers that are told by their bytes at once.
@@ -186,43 +132,28 @@ fn list_word(
     text: &[u8],
     work: &mut [u32],
     i: usize,
-    at: usize,
-    count: usize,
+    held: Held,
     ordering: CharacterOrdering,
-    item: Item,
-    twice: bool,
-) -> WordAnswer
-    requires { (i < at) × (at + count ≤ length work.old) }
-    ensures front { take at work.new ≡ take at work.old }
-    ensures answer { (rs : List R.Range) (ts : Types) → typed ordering rs ts ≡ unless_twice twice (types_held work.old at count) → Follows ordering ts (types_held work.new at count) (list_turn count (listed rs item) (word_of text.now work.old i)) result }
+    list: Listed,
+) -> Result<Listed, Fault<usize>>
+    requires { (i < held.at) × (held.at + held.count ≤ length work.old) }
+    ensures front { take held.at work.new ≡ take held.at work.old }
+    ensures answer { (rs : List R.Range) (ts : Types) → typed ordering rs ts ≡ unless_twice list.twice (types_held work.old held.at held.count) → Follows ordering ts (types_held work.new held.at held.count) (list_turn held.count (listed rs list.item) (word_of text.now work.old i)) result }
 {
     let start = start_of(work, i);
     let n = word_number(text, start);
     if n != 0 {
-        let part = number_part(i, count as u64, n);
-        return part_turn(work, at, count, ordering, item, twice, part);
+        let part = number_part(i, held.count as u64, n);
+        return part_turn(work, held, ordering, list, part);
     }
-    match kind_at(text, start) {
-        Kind::Word => cut_word(text, work, i, at, count, ordering, item, twice),
-        _ => {
-            let part = whole_part(text, work, i, count as u64);
-            part_turn(work, at, count, ordering, item, twice, part)
-        }
+    if let Kind::Word = kind_at(text, start) {
+        return cut_word(text, work, i, held, ordering, list);
     }
+    let part = whole_part(text, work, i, held.count as u64);
+    part_turn(work, held, ordering, list, part)
 }
 
-// A list has ended at a comma, behind which the command goes on.
-fn end_at_comma(verdict: Judged, behind: usize) -> ListAnswer
-    ensures place { (j : ℕ) → result ≡ ListAnswer.Next j → j ≡ behind }
-    ensures answer { (us : Types) (f : ℕ → Outcome Types) → list_then us result f ≡ then (judged us verdict) (λ _. f behind) }
-{
-    match verdict {
-        Judged::Good => ListAnswer::Next(behind),
-        Judged::Refused(n, i) => ListAnswer::Judged(Judged::Refused(n, i)),
-    }
-}
-
-// A list, word by word, up to a comma or the end.
+// A list, word by word, up to a comma, behind which the command goes on at an index, or up to the end.
 fn list_walk(
     text: &[u8],
     work: &mut [u32],
@@ -230,38 +161,29 @@ fn list_walk(
     ordering: CharacterOrdering,
     from: usize,
     to: usize,
-    at: usize,
-    count: usize,
-) -> ListAnswer
-    requires { (to ≤ at) × (at + count ≤ length work.old) }
-    ensures front { take at work.new ≡ take at work.old }
-    ensures onward { (j : ℕ) → result ≡ ListAnswer.Next j → (from < j) × (j ≤ to) }
-    ensures answer { (head : ℕ) → list_then (types_held work.new at count) result (typeset_at (set_of count head) text.now work.old to (type (types_held work.new at count))) ≡ typeset_at (set_of count head) text.now work.old to (list (types_held work.old at count) ordering word (listed [] I.Item.Number)) from }
+    held: Held,
+) -> Result<Option<usize>, Fault<usize>>
+    requires { (to ≤ held.at) × (held.at + held.count ≤ length work.old) }
+    ensures front { take held.at work.new ≡ take held.at work.old }
+    ensures onward { (j : ℕ) → result ≡ Ok (Some j) → (from < j) × (j ≤ to) }
+    ensures answer { (head : ℕ) → list_then (types_held work.new held.at held.count) result (typeset_at (set_of held.count head) text.now work.old to (type (types_held work.new held.at held.count))) ≡ typeset_at (set_of held.count head) text.now work.old to (list (types_held work.old held.at held.count) ordering word (listed [] I.Item.Number)) from }
 {
-    let mut item = Item::Number;
-    let mut twice = false;
-    let mut i = from;
-    loop {
-        let j = next_word(text, work, i, to);
-        if to <= j {
-            let end = list_end(work, at, count, ordering, word, item, twice);
-            return ListAnswer::Judged(end);
+    let mut list = Listed {
+        item: Item::Number,
+        twice: false,
+    };
+    for j in from..to {
+        if newline(text, work, j) {
+            continue;
         }
         if punct(text, work, j, b',') {
-            let end = list_end(work, at, count, ordering, word, item, twice);
-            return end_at_comma(end, j + 1);
+            list_end(work, held, ordering, word, list)?;
+            return Ok(Some(j + 1));
         }
-        match list_word(text, work, j, at, count, ordering, item, twice) {
-            WordAnswer::On(m, t) => {
-                item = m;
-                twice = t;
-                i = j + 1;
-            }
-            WordAnswer::Refused(n, k) => {
-                return ListAnswer::Judged(Judged::Refused(n, k));
-            }
-        }
+        list = list_word(text, work, j, held, ordering, list)?;
     }
+    list_end(work, held, ordering, word, list)?;
+    Ok(None)
 }
 
 // The `:` behind the type word with an index, and its list, which is not empty.
@@ -272,27 +194,18 @@ pub fn list_from(
     ordering: CharacterOrdering,
     from: usize,
     to: usize,
-    at: usize,
-    count: usize,
-) -> ListAnswer
-    requires { (to ≤ at) × (at + count ≤ length work.old) }
-    ensures front { take at work.new ≡ take at work.old }
-    ensures onward { (j : ℕ) → result ≡ ListAnswer.Next j → (from < j) × (j ≤ to) }
-    ensures answer { (head : ℕ) → list_then (types_held work.new at count) result (typeset_at (set_of count head) text.now work.old to (type (types_held work.new at count))) ≡ typeset_at (set_of count head) text.now work.old to (colon (types_held work.old at count) ordering word) from }
+    held: Held,
+) -> Result<Option<usize>, Fault<usize>>
+    requires { (to ≤ held.at) × (held.at + held.count ≤ length work.old) }
+    ensures front { take held.at work.new ≡ take held.at work.old }
+    ensures onward { (j : ℕ) → result ≡ Ok (Some j) → (from < j) × (j ≤ to) }
+    ensures answer { (head : ℕ) → list_then (types_held work.new held.at held.count) result (typeset_at (set_of held.count head) text.now work.old to (type (types_held work.new held.at held.count))) ≡ typeset_at (set_of held.count head) text.now work.old to (colon (types_held work.old held.at held.count) ordering word) from }
 {
-    let mark = next_word(text, work, from, to);
-    if to <= mark {
-        return ListAnswer::Judged(Judged::Refused(Refusal::TypeSet, word));
-    }
-    if !punct(text, work, mark, b':') {
-        return ListAnswer::Judged(Judged::Refused(Refusal::TypeSet, word));
-    }
-    let first = next_word(text, work, mark + 1, to);
-    if to <= first {
-        return ListAnswer::Judged(Judged::Refused(Refusal::CharacterList, word));
-    }
+    let empty = Fault(Refusal::CharacterList, word);
+    let start = mark_from(text, work, b':', word, from, to)?;
+    let first = word_ahead(text, work, start, to).ok_or(empty)?;
     if punct(text, work, first, b',') {
-        return ListAnswer::Judged(Judged::Refused(Refusal::CharacterList, word));
+        return Err(empty);
     }
-    list_walk(text, work, word, ordering, mark + 1, to, at, count)
+    list_walk(text, work, word, ordering, start, to, held)
 }

@@ -1,57 +1,56 @@
 // What the parts of a character list come to: numbers, `.` for the last, ALL, ranges, and `\` with a stride.
 
 ghost use Rattle.std.specs.Prelude.{ℕ, ◌≡◌};
-ghost use Rattle.assumptions.specs.ListCode.{first_answer, item_answer};
+ghost use Rattle.block.specs.Outcome.{outcome};
 ghost use Rattle.assumptions.specs.ListParts.{told};
 ghost use Rattle.block.specs.CharacterList as L;
 ghost use Rattle.block.specs.CharacterList.{first_item, item_turn, next_item};
 ghost use Rattle.block.specs.declared.kinds.Item as I;
 
-use super::characters::{FirstItem, ItemAnswer};
 use super::parts::Part;
 use block::{Further, Item, Range};
-use lexer::Refusal;
+use lexer::{Fault, Refusal};
 
 // A list begins, or goes on, with a number or ALL.
-fn first_item(count: u64, part: Part) -> FirstItem
-    ensures { (p : L.Part) → part ≡ told count p → first_answer result ≡ first_item count p }
+fn first_item(count: u64, part: Part) -> Result<Item, Fault<usize>>
+    ensures { (p : L.Part) → part ≡ told count p → outcome result ≡ first_item count p }
 {
     if part.all {
-        return FirstItem::Item(Item::Single(true, 1, count, part.index));
+        return Ok(Item::Single(true, 1, count, part.index));
     }
     let first = part.character;
     if first == 0 {
-        return FirstItem::Refused(Refusal::CharacterList, part.index);
+        return Err(Fault(Refusal::CharacterList, part.index));
     }
-    FirstItem::Item(Item::Single(false, first, first, part.index))
+    Ok(Item::Single(false, first, first, part.index))
 }
 
 // At the front of a list, or behind a stride.
-fn number_turn(count: u64, part: Part) -> ItemAnswer
-    ensures { (p : L.Part) → part ≡ told count p → item_answer result ≡ item_turn count I.Item.Number p }
+fn number_turn(count: u64, part: Part) -> Result<Further, Fault<usize>>
+    ensures { (p : L.Part) → part ≡ told count p → outcome result ≡ item_turn count I.Item.Number p }
 {
-    match first_item(count, part) {
-        FirstItem::Item(m) => ItemAnswer::Further(Further::On(m)),
-        FirstItem::Refused(n, i) => ItemAnswer::Refused(n, i),
-    }
+    Ok(Further::On(first_item(count, part)?))
 }
 
 // Behind a range that is complete.
-fn next_item(count: u64, range: Range, part: Part) -> ItemAnswer
-    ensures { (p : L.Part) → part ≡ told count p → item_answer result ≡ next_item count range p }
+fn next_item(count: u64, range: Range, part: Part) -> Result<Further, Fault<usize>>
+    ensures { (p : L.Part) → part ≡ told count p → outcome result ≡ next_item count range p }
 {
-    match first_item(count, part) {
-        FirstItem::Item(m) => ItemAnswer::Further(Further::Past(range, m)),
-        FirstItem::Refused(n, i) => ItemAnswer::Refused(n, i),
-    }
+    Ok(Further::Past(range, first_item(count, part)?))
 }
 
 // Behind the last number of a range: a stride, or the next.
-fn pair_turn(count: u64, first: u64, last: u64, index: usize, part: Part) -> ItemAnswer
-    ensures { (p : L.Part) → part ≡ told count p → item_answer result ≡ item_turn count (I.Item.Pair first last index) p }
+fn pair_turn(
+    count: u64,
+    first: u64,
+    last: u64,
+    index: usize,
+    part: Part,
+) -> Result<Further, Fault<usize>>
+    ensures { (p : L.Part) → part ≡ told count p → outcome result ≡ item_turn count (I.Item.Pair first last index) p }
 {
     if part.stride {
-        return ItemAnswer::Further(Further::On(Item::By(first, last, index)));
+        return Ok(Further::On(Item::By(first, last, index)));
     }
     let whole = Range {
         first,
@@ -62,51 +61,58 @@ fn pair_turn(count: u64, first: u64, last: u64, index: usize, part: Part) -> Ite
 }
 
 // Behind a first number or ALL: a dash, which ALL does not take, a stride, or the next.
-fn single_turn(count: u64, all: bool, first: u64, last: u64, index: usize, part: Part) -> ItemAnswer
-    ensures { (p : L.Part) → part ≡ told count p → item_answer result ≡ item_turn count (I.Item.Single all first last index) p }
+fn single_turn(
+    count: u64,
+    all: bool,
+    first: u64,
+    last: u64,
+    index: usize,
+    part: Part,
+) -> Result<Further, Fault<usize>>
+    ensures { (p : L.Part) → part ≡ told count p → outcome result ≡ item_turn count (I.Item.Single all first last index) p }
 {
     if part.dash {
         if all {
-            return ItemAnswer::Refused(Refusal::CharacterList, index);
+            return Err(Fault(Refusal::CharacterList, index));
         }
-        return ItemAnswer::Further(Further::On(Item::To(first, index)));
+        return Ok(Further::On(Item::To(first, index)));
     }
     pair_turn(count, first, last, index, part)
 }
 
 // Behind a dash: the last number, which is not below the first.
-fn to_turn(first: u64, index: usize, part: Part) -> ItemAnswer
-    ensures { (count : ℕ) (p : L.Part) → part ≡ told count p → item_answer result ≡ item_turn count (I.Item.To first index) p }
+fn to_turn(first: u64, index: usize, part: Part) -> Result<Further, Fault<usize>>
+    ensures { (count : ℕ) (p : L.Part) → part ≡ told count p → outcome result ≡ item_turn count (I.Item.To first index) p }
 {
     let last = part.character;
     if last == 0 {
-        return ItemAnswer::Refused(Refusal::CharacterList, part.index);
+        return Err(Fault(Refusal::CharacterList, part.index));
     }
     if last < first {
-        return ItemAnswer::Refused(Refusal::CharacterList, index);
+        return Err(Fault(Refusal::CharacterList, index));
     }
-    ItemAnswer::Further(Further::On(Item::Pair(first, last, index)))
+    Ok(Further::On(Item::Pair(first, last, index)))
 }
 
 // Behind a `\`: the stride.
-fn by_turn(first: u64, last: u64, index: usize, part: Part) -> ItemAnswer
-    ensures { (count : ℕ) (p : L.Part) → part ≡ told count p → item_answer result ≡ item_turn count (I.Item.By first last index) p }
+fn by_turn(first: u64, last: u64, index: usize, part: Part) -> Result<Further, Fault<usize>>
+    ensures { (count : ℕ) (p : L.Part) → part ≡ told count p → outcome result ≡ item_turn count (I.Item.By first last index) p }
 {
     let stride = part.number;
     if stride == 0 {
-        return ItemAnswer::Refused(Refusal::CharacterList, part.index);
+        return Err(Fault(Refusal::CharacterList, part.index));
     }
     let range = Range {
         first,
         last,
         stride,
     };
-    ItemAnswer::Further(Further::Past(range, Item::Number))
+    Ok(Further::Past(range, Item::Number))
 }
 
 // One part more.
-pub fn item_turn(count: u64, item: Item, part: Part) -> ItemAnswer
-    ensures { (p : L.Part) → part ≡ told count p → item_answer result ≡ item_turn count item p }
+pub fn item_turn(count: u64, item: Item, part: Part) -> Result<Further, Fault<usize>>
+    ensures { (p : L.Part) → part ≡ told count p → outcome result ≡ item_turn count item p }
 {
     match item {
         Item::Number => number_turn(count, part),

@@ -11,5 +11,5 @@ pub mod told;
 pub mod types;
 pub mod typeset;
 
-pub use assumptions::{OptionsAnswer, TypeWord, options};
+pub use assumptions::options;
 pub use typeset::parse_typeset;

@@ -10,10 +10,10 @@ ghost use Rattle.lexer.specs.Words.{Numbered, is, is_quoted, is_string, is_word}
 ghost use Rattle.std.specs.Prelude.{eqb, leb, ◌||◌, false, true, [], ◌∷◌, ◌≡◌};
 
 use block::{number, punct};
-use lexer::{Cursor, Item, Kind, kind_at, next_byte, start_of, text_start};
+use lexer::{Cursor, Kind, kind_at, next_byte, start_of, text_start};
 
 // What a list goes by: the index of the part's token; whether it is a dash, the mark of a stride, ALL; the number of the character that it names,
-// and the number that it spells, or 0.
+// and the number that it spells. 0 is none for both, as in the definitions `character_number` and `number`.
 #[derive(Clone, Copy)]
 pub struct Part {
     pub index: usize,
@@ -22,13 +22,6 @@ pub struct Part {
     pub all: bool,
     pub character: u64,
     pub number: u64,
-}
-
-// The next part of a word, with the cursor behind it, or none.
-#[derive(Clone, Copy)]
-pub enum NextPart {
-    Part(Part, Cursor),
-    End,
 }
 
 // The number of a character, from 1 to the count: `.` is the last, and quoted text is none.
@@ -53,38 +46,29 @@ fn digits_to_dash(text: &[u8], c: Cursor) -> u64
 {
     let mut n: u64 = 0;
     let mut d = c;
-    loop {
-        match next_byte(text, d) {
-            Item::Byte(b, e) => {
-                if b == 45 {
-                    return n;
-                }
-                let digit = (48 <= b) & (b <= 57);
-                if !digit {
-                    return 0;
-                }
-                let v = (b - 48) as u64;
-                if (18446744073709551615 - v) / 10 < n {
-                    return 0;
-                }
-                n = n * 10 + v;
-                d = e;
-            }
-            Item::End => {
-                return n;
-            }
+    while let Some((b, e)) = next_byte(text, d) {
+        if b == b'-' {
+            return n;
         }
+        let digit = (b'0' <= b) & (b <= b'9');
+        if !digit {
+            return 0;
+        }
+        let v = (b - b'0') as u64;
+        if (u64::MAX - v) / 10 < n {
+            return 0;
+        }
+        n = n * 10 + v;
+        d = e;
     }
+    n
 }
 
 // Is a part at its end here: at a dash, or where nothing is left?
 fn part_ended(text: &[u8], c: Cursor) -> bool
     ensures { result ≡ is_empty (to_dash (left text.now c)) }
 {
-    match next_byte(text, c) {
-        Item::Byte(b, _) => b == 45,
-        Item::End => true,
-    }
+    next_byte(text, c).is_none_or(|(b, _)| b == b'-')
 }
 
 // The end of a part that has begun.
@@ -92,63 +76,56 @@ fn part_end(text: &[u8], c: Cursor) -> Cursor
     ensures { PartEnd text.now c result }
 {
     let mut d = c;
-    loop {
-        match next_byte(text, d) {
-            Item::Byte(b, e) => {
-                if b == 45 {
-                    return d;
-                }
-                d = e;
-            }
-            Item::End => {
-                return d;
-            }
+    while let Some((b, e)) = next_byte(text, d) {
+        if b == b'-' {
+            return d;
         }
+        d = e;
     }
+    d
 }
 
 // The number of a part that begins with the byte b at a cursor, with a `+` in front or without; d is behind the byte.
 fn part_number(text: &[u8], b: u8, c: Cursor, d: Cursor) -> u64
     ensures { result ≡ pick (eqb b 43) (digits_value (left text.now d)) (digits_value (left text.now c)) }
 {
-    if b == 43 {
+    if b == b'+' {
         return digits_to_dash(text, d);
     }
     digits_to_dash(text, c)
 }
 
 // The next part of the word with an index, which is ALL or not.
-pub fn word_part(text: &[u8], index: usize, all: bool, count: u64, c: Cursor) -> NextPart
+pub fn word_part(
+    text: &[u8],
+    index: usize,
+    all: bool,
+    count: u64,
+    c: Cursor,
+) -> Option<(Part, Cursor)>
     ensures { (w : Numbered) → w.index ≡ index → is_word w.token.kind ≡ true → is (bytes "ALL") w ≡ all → Parted text.now count w c result }
 {
-    match next_byte(text, c) {
-        Item::Byte(b, d) => {
-            if b == 45 {
-                let dash = Part {
-                    index,
-                    dash: true,
-                    stride: false,
-                    all,
-                    character: 0,
-                    number: 0,
-                };
-                return NextPart::Part(dash, d);
-            }
-            let n = part_number(text, b, c, d);
-            let dot = (b == 46) & part_ended(text, d);
-            let k = character(count, false, dot, n);
-            let plain = Part {
-                index,
-                dash: false,
-                stride: false,
-                all,
-                character: k,
-                number: n,
-            };
-            NextPart::Part(plain, part_end(text, d))
-        }
-        Item::End => NextPart::End,
+    let (b, d) = next_byte(text, c)?;
+    let dash = Part {
+        index,
+        dash: true,
+        stride: false,
+        all,
+        character: 0,
+        number: 0,
+    };
+    if b == b'-' {
+        return Some((dash, d));
     }
+    let n = part_number(text, b, c, d);
+    let dot = (b == b'.') & part_ended(text, d);
+    let plain = Part {
+        dash: false,
+        character: character(count, false, dot, n),
+        number: n,
+        ..dash
+    };
+    Some((plain, part_end(text, d)))
 }
 
 // A word of digits alone, as the one part that it is.
@@ -169,23 +146,17 @@ pub fn number_part(index: usize, count: u64, n: u64) -> Part
 fn text_is_byte(text: &[u8], c: Cursor, b: u8) -> bool
     ensures { result ≡ same (left text.now c) (b ∷ []) }
 {
-    match next_byte(text, c) {
-        Item::Byte(a, d) => match next_byte(text, d) {
-            Item::Byte(_, _) => false,
-            Item::End => a == b,
-        },
-        Item::End => false,
-    }
+    let Some((a, d)) = next_byte(text, c) else {
+        return false;
+    };
+    (a == b) & next_byte(text, d).is_none()
 }
 
 // Is the token in quotes, single or double?
 fn quoted_at(text: &[u8], start: usize) -> bool
     ensures { result ≡ (is_quoted (token_at text.now start).kind || is_string (token_at text.now start).kind) }
 {
-    match kind_at(text, start) {
-        Kind::Quoted | Kind::String => true,
-        _ => false,
-    }
+    matches!(kind_at(text, start), Kind::Quoted | Kind::String)
 }
 
 // A token that is no word, as the one part that it is.
@@ -196,13 +167,13 @@ pub fn whole_part(text: &[u8], work: &[u32], i: usize, count: u64) -> Part
     let c = text_start(text, start);
     let n = number(text, work, i);
     let quoted = quoted_at(text, start);
-    let k = character(count, quoted, text_is_byte(text, c, 46), n);
+    let dot = text_is_byte(text, c, b'.');
     Part {
         index: i,
-        dash: text_is_byte(text, c, 45),
+        dash: text_is_byte(text, c, b'-'),
         stride: punct(text, work, i, b'\\'),
         all: false,
-        character: k,
+        character: character(count, quoted, dot, n),
         number: n,
     }
 }

@@ -5,27 +5,22 @@ ghost use Rattle.std.specs.Prelude.{drop, ◌≡◌};
 
 use lexer::{ends_word, lower};
 
-// The number that the word at a place spells, if the word is told by its bytes at once and is of digits alone; else 0. It may be 0 also where
-// the number has nearly 64 bits.
+// The number that the word at a place spells, if the word is told by its bytes at once and is of digits alone; else 0, as with
+// `number`. It may be 0 also where the number has nearly 64 bits.
 pub fn word_number(text: &[u8], start: usize) -> u64
     ensures { result ≡ told_number 0 (drop start text.now) }
 {
     let mut n: u64 = 0;
-    let mut i = start;
-    while i < text.len() {
+    for i in start..text.len() {
         let b = text[i];
         let digit = (b'0' <= b) & (b <= b'9');
         if !digit {
-            if ends_word(b) {
-                return n;
-            }
-            return 0;
+            return if ends_word(b) { n } else { 0 };
         }
-        if 1844674407370955160 <= n {
+        if u64::MAX / 10 - 1 <= n {
             return 0;
         }
         n = n * 10 + (b - b'0') as u64;
-        i += 1;
     }
     0
 }
@@ -34,21 +29,14 @@ pub fn word_number(text: &[u8], start: usize) -> u64
 pub fn key_told(text: &[u8], start: usize, keyword: &[u8]) -> bool
     ensures { result ≡ told_keyword keyword.now (drop start text.now) }
 {
-    if text.len() <= start {
+    if text.len().saturating_sub(start) <= keyword.len() {
         return false;
     }
-    if text.len() - start <= keyword.len() {
-        return false;
-    }
-    let mut k = 0;
-    while k < keyword.len() {
+    for k in 0..keyword.len() {
         let b = text[start + k];
-        let small = (b'a' <= b) & (b <= b'z');
-        let capital = (b'A' <= b) & (b <= b'Z');
-        if !((small | capital) & (lower(b) == lower(keyword[k]))) {
+        if !(b.is_ascii_alphabetic() & (lower(b) == lower(keyword[k]))) {
             return false;
         }
-        k += 1;
     }
-    ends_word(text[start + k])
+    ends_word(text[start + keyword.len()])
 }

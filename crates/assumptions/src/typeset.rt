@@ -1,6 +1,6 @@
 // TYPESET: a VECTOR of types, or a list of characters for each type.
 
-ghost use Rattle.std.specs.Prelude.{ℕ, ◌+◌, ◌<◌, ◌≤◌, length, take, replicate, [], ◌≡◌};
+ghost use Rattle.std.specs.Prelude.{ℕ, ◌+◌, ◌<◌, ◌≤◌, length, take, replicate, [], ◌≡◌, Ok, Some};
 ghost use Rattle.assumptions.specs.ListCode.{list_then};
 ghost use Rattle.assumptions.specs.TypesHeld.{types_held};
 ghost use Rattle.assumptions.specs.TypesetWalk.{set_of, typeset_at};
@@ -10,12 +10,12 @@ ghost use Rattle.block.specs.Typeset.{types, type, typeset};
 ghost use Rattle.lexer.specs.Stored.{range};
 ghost use Rattle.std.proofs.Math.Option.{none};
 
-use super::assumptions::{FormAnswer, TypeWord, next_word, ordering};
-use super::characters::{ListAnswer, list_from};
+use super::assumptions::{type_word, word_ahead};
+use super::characters::list_from;
 use super::heads::typeset_head;
-use super::types::{clear_types, type_number};
-use block::{Form, Judged, count_words};
-use lexer::Refusal;
+use super::types::{Held, clear_types, type_number};
+use block::{Form, count_words, newline};
+use lexer::{Fault, Refusal};
 
 // The types of a VECTOR, one for each character, or the first word that is none.
 fn vector_types(
@@ -24,33 +24,23 @@ fn vector_types(
     head: usize,
     from: usize,
     to: usize,
-    at: usize,
-    characters: usize,
-) -> Judged
-    requires to_le_at { (to ≤ at) × (at + characters ≤ length work.old) }
-    requires to_len { length (words (range text.now work.old from to)) ≡ characters }
-    requires le_characters { 1 ≤ characters }
-    ensures front { take at work.new ≡ take at work.old }
-    ensures answer { judged (types_held work.new at characters) result ≡ typeset_at (set_of characters head) text.now work.old to (types [] none) from }
+    held: Held,
+) -> Result<(), Fault<usize>>
+    requires to_le_at { (to ≤ held.at) × (held.at + held.count ≤ length work.old) }
+    requires to_len { length (words (range text.now work.old from to)) ≡ held.count }
+    requires le_characters { 1 ≤ held.count }
+    ensures front { take held.at work.new ≡ take held.at work.old }
+    ensures answer { judged (types_held work.new held.at held.count) result ≡ typeset_at (set_of held.count head) text.now work.old to (types [] none) from }
 {
-    let mut i = from;
     let mut k = 0;
-    loop {
-        let j = next_word(text, work, i, to);
-        if to <= j {
-            return Judged::Good;
+    for j in from..to {
+        if newline(text, work, j) {
+            continue;
         }
-        match ordering(text, work, j) {
-            TypeWord::Type(o) => {
-                work[at + k] = type_number(o);
-                k += 1;
-                i = j + 1;
-            }
-            TypeWord::None => {
-                return Judged::Refused(Refusal::TypeSet, j);
-            }
-        }
+        work[held.at + k] = type_number(type_word(text, work, j)?);
+        k += 1;
     }
+    Ok(())
 }
 
 // A VECTOR: the count is judged before the words.
@@ -60,21 +50,20 @@ fn vector(
     head: usize,
     from: usize,
     to: usize,
-    at: usize,
-    characters: usize,
-) -> Judged
-    requires { (to ≤ at) × (at + characters ≤ length work.old) }
-    ensures front { take at work.new ≡ take at work.old }
-    ensures answer { judged (types_held work.new at characters) result ≡ typeset_at (set_of characters head) text.now work.old to (types [] none) from }
+    held: Held,
+) -> Result<(), Fault<usize>>
+    requires { (to ≤ held.at) × (held.at + held.count ≤ length work.old) }
+    ensures front { take held.at work.new ≡ take held.at work.old }
+    ensures answer { judged (types_held work.new held.at held.count) result ≡ typeset_at (set_of held.count head) text.now work.old to (types [] none) from }
 {
     let count = count_words(text, work, from, to);
     if count == 0 {
-        return Judged::Refused(Refusal::TypeSet, head);
+        return Err(Fault(Refusal::TypeSet, head));
     }
-    if count != characters {
-        return Judged::Refused(Refusal::Count, head);
+    if count != held.count {
+        return Err(Fault(Refusal::Count, head));
     }
-    vector_types(text, work, head, from, to, at, characters)
+    vector_types(text, work, head, from, to, held)
 }
 
 // A type word, its `:` and its list.
@@ -84,22 +73,16 @@ fn one_list(
     head: usize,
     from: usize,
     to: usize,
-    at: usize,
-    characters: usize,
-) -> ListAnswer
-    requires { (to ≤ at) × (at + characters ≤ length work.old) }
-    ensures front { take at work.new ≡ take at work.old }
-    ensures onward { (j : ℕ) → result ≡ ListAnswer.Next j → (from < j) × (j ≤ to) }
-    ensures answer { list_then (types_held work.new at characters) result (typeset_at (set_of characters head) text.now work.old to (type (types_held work.new at characters))) ≡ typeset_at (set_of characters head) text.now work.old to (type (types_held work.old at characters)) from }
+    held: Held,
+) -> Result<Option<usize>, Fault<usize>>
+    requires { (to ≤ held.at) × (held.at + held.count ≤ length work.old) }
+    ensures front { take held.at work.new ≡ take held.at work.old }
+    ensures onward { (j : ℕ) → result ≡ Ok (Some j) → (from < j) × (j ≤ to) }
+    ensures answer { list_then (types_held work.new held.at held.count) result (typeset_at (set_of held.count head) text.now work.old to (type (types_held work.new held.at held.count))) ≡ typeset_at (set_of held.count head) text.now work.old to (type (types_held work.old held.at held.count)) from }
 {
-    let word = next_word(text, work, from, to);
-    if to <= word {
-        return ListAnswer::Judged(Judged::Refused(Refusal::TypeSet, head));
-    }
-    match ordering(text, work, word) {
-        TypeWord::Type(o) => list_from(text, work, word, o, word + 1, to, at, characters),
-        TypeWord::None => ListAnswer::Judged(Judged::Refused(Refusal::TypeSet, word)),
-    }
+    let word = word_ahead(text, work, from, to).ok_or(Fault(Refusal::TypeSet, head))?;
+    let o = type_word(text, work, word)?;
+    list_from(text, work, word, o, word + 1, to, held)
 }
 
 // A list for each type, with commas between them.
@@ -109,24 +92,17 @@ fn lists(
     head: usize,
     from: usize,
     to: usize,
-    at: usize,
-    characters: usize,
-) -> Judged
-    requires { (to ≤ at) × (at + characters ≤ length work.old) }
-    ensures front { take at work.new ≡ take at work.old }
-    ensures answer { judged (types_held work.new at characters) result ≡ typeset_at (set_of characters head) text.now work.old to (type (types_held work.old at characters)) from }
+    held: Held,
+) -> Result<(), Fault<usize>>
+    requires { (to ≤ held.at) × (held.at + held.count ≤ length work.old) }
+    ensures front { take held.at work.new ≡ take held.at work.old }
+    ensures answer { judged (types_held work.new held.at held.count) result ≡ typeset_at (set_of held.count head) text.now work.old to (type (types_held work.old held.at held.count)) from }
 {
     let mut i = from;
-    loop {
-        match one_list(text, work, head, i, to, at, characters) {
-            ListAnswer::Next(j) => {
-                i = j;
-            }
-            ListAnswer::Judged(r) => {
-                return r;
-            }
-        }
+    while let Some(j) = one_list(text, work, head, i, to, held)? {
+        i = j;
     }
+    Ok(())
 }
 
 // The lists of a set without a form, or of the form STANDARD.
@@ -136,15 +112,14 @@ fn standard(
     head: usize,
     from: usize,
     to: usize,
-    at: usize,
-    characters: usize,
-) -> Judged
-    requires { (to ≤ at) × (at + characters ≤ length work.old) }
-    ensures front { take at work.new ≡ take at work.old }
-    ensures answer { judged (types_held work.new at characters) result ≡ typeset_at (set_of characters head) text.now work.old to (type (replicate characters none)) from }
+    held: Held,
+) -> Result<(), Fault<usize>>
+    requires { (to ≤ held.at) × (held.at + held.count ≤ length work.old) }
+    ensures front { take held.at work.new ≡ take held.at work.old }
+    ensures answer { judged (types_held work.new held.at held.count) result ≡ typeset_at (set_of held.count head) text.now work.old to (type (replicate held.count none)) from }
 {
-    clear_types(work, at, characters);
-    lists(text, work, head, from, to, at, characters)
+    clear_types(work, held);
+    lists(text, work, head, from, to, held)
 }
 
 // TYPESET: the type of each character that it names, held from a place of work memory on.
@@ -156,17 +131,19 @@ pub fn parse_typeset(
     to: usize,
     characters: usize,
     at: usize,
-) -> Judged
+) -> Result<(), Fault<usize>>
     requires { (to ≤ at) × (at + characters ≤ length work.old) }
     ensures front { take at work.new ≡ take at work.old }
     ensures size { length work.new ≡ length work.old }
     ensures answer { judged (types_held work.new at characters) result ≡ typeset (record { characters = characters; head = head }) (words (range text.now work.old from to)) }
 {
-    match typeset_head(text, work, head, from, to) {
-        FormAnswer::Form(form, i) => match form {
-            Form::Standard => standard(text, work, head, i, to, at, characters),
-            Form::Vector => vector(text, work, head, i, to, at, characters),
-        },
-        FormAnswer::Refused(n, i) => Judged::Refused(n, i),
+    let held = Held {
+        at,
+        count: characters,
+    };
+    let (form, i) = typeset_head(text, work, head, from, to)?;
+    match form {
+        Form::Standard => standard(text, work, head, i, to, held),
+        Form::Vector => vector(text, work, head, i, to, held),
     }
 }

@@ -13,6 +13,8 @@ use lib.Dec.{ltb}
 use mathlib.Core.Bool.{Bool, true, false, not}
 use mathlib.Core.List.{List, [], ◌∷◌}
 use mathlib.Core.Path.{◌≡◌, refl, sym, ◌∙◌}
+use Rattle.std.specs.Prelude.{max}
+use native.Mathlib.Nat.{max-le, le-max_left, le-max_right}
 use native.Mathlib.Numerals.{add-one}
 use native.Mathlib.Omega.{arith}
 
@@ -38,6 +40,10 @@ module _ (test : Numbered → Bool) (text work : List ℕ) where
     seeking-found h e =
         let count : to - i ≡ suc (to - (i + 1)) = omega arith in
         rw (count, e) at k.rest
+
+    -- At the end of the words a walk stands at the greater of the two indices.
+    pub seeking-over : to ≤ i → max from to ≡ i
+    seeking-over h = grind (arith, le-max_left from to, le-max_right from to, max-le k.since h, k.until)
 
     pub seeking-end : to ≤ i → i ≡ first_where test text work from (to - from)
     unfolding first_where

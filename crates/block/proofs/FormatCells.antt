@@ -1,18 +1,31 @@
 -- The cell of one symbol, choice by choice: missing, the gap, a state or a code of DNA; and what holds of each holds of the cell. Assumes nothing.
 use Prim.Native.Nat.{ℕ, suc, ◌+◌, ◌≤◌, ◌<◌}
 use Rattle.block.specs.Cell as C
+use Rattle.block.specs.Cells.{cell_of}
+use Rattle.block.specs.declared.data.Cell.{Cell}
+use Rattle.std.specs.Prelude.{is_some, Some, None}
+use Rattle.std.specs.Prelude as Std
 use Rattle.block.specs.Chunk.{find_symbol, state_of, state_cell, state_or_code, gap_or, cell}
 use Rattle.block.specs.Dna.{dna_cell}
 use Rattle.block.specs.Format.{Format, equal}
 use Rattle.block.specs.declared.data.DataType.{DataType}
 use Rattle.lexer.proofs.Basics.{chosen}
-use Rattle.lexer.specs.Base.{pick}
+use Rattle.lexer.specs.Base.{pick, given}
 use lib.ListN.{length}
 use mathlib.Core.Bool.{true, false}
 use mathlib.Core.List.{List, [], ◌∷◌}
 use mathlib.Core.Option.{Option, none, some}
-use mathlib.Core.Path.{◌≡◌}
+use mathlib.Core.Path.{◌≡◌, refl}
 use native.Mathlib.Omega.{arith}
+
+-- A cell of the code is given where it means one.
+pub is-cell : (o : Std.Option Cell) → given (cell_of o) ≡ is_some o
+unfolding given cell_of
+is-cell (Some (Cell.State i)) = refl
+is-cell (Some (Cell.Uncertain n)) = refl
+is-cell (Some Cell.Missing) = refl
+is-cell (Some Cell.Gap) = refl
+is-cell None = refl
 
 module _ (f : Format) (b : ℕ) where
   pub standard-cell : (t : DataType) → t ≡ DataType.Standard → state_cell (state_of f b) ≡ state_or_code t f b

@@ -1,4 +1,5 @@
 -- The names of TAXLABELS that were judged, by a table: what a search passes, and one word more. Assumes nothing.
+use Rattle.std.specs.Prelude.{Result, ⊤}
 use Prim.Native.Nat.{ℕ, zero, suc, ◌+◌, ◌-◌, ◌≤◌, ◌<◌}
 use Rattle.block.proofs.NamesWalk.{Naming, naming-kept, naming-start, naming-newline, naming-turn, Searching, searching-newline, searching-turn, searching-found, searching-end}
 use Rattle.block.specs.Commands.{newline, words}
@@ -6,7 +7,6 @@ use Rattle.block.specs.Judged.{judged}
 use Rattle.block.specs.Names.{known, unique_names}
 use Rattle.block.specs.NamesHeld.{name_of, names_of}
 use Rattle.block.specs.NamesKept.{SameName, SlotAlike, NamesKept, NamePut, NamesRoom, NamesJudged}
-use Rattle.block.specs.declared.Judged.{Judged}
 use Rattle.lexer.proofs.Basics.{by-test, not-both, or_left, or_right}
 use Rattle.lexer.proofs.RangeLaws.{range-kept, word_kept}
 use Rattle.lexer.specs.Base.{alike, given}
@@ -21,6 +21,7 @@ use Rattle.slots.specs.Filling.{Cleared, TableFits, slot_of}
 use Rattle.slots.specs.Hashes.{hash}
 use Rattle.slots.specs.Trie.{Led, letters}
 use Rattle.slots.specs.declared.Table.{Table}
+use Rattle.lexer.specs.declared.Fault.{Fault}
 use borrow.Author.Tests.{eqb-true, eqb-false, leb-true, leb-false, ltb-true, ltb-false}
 use lib.Dec.{eqb, leb, ltb}
 use lib.ListN.{length, get_or, take, get_or-eq_default}
@@ -228,7 +229,7 @@ module _ {text before : List ℕ} {from to : ℕ} {t : Table} (room : NamesRoom 
         }
 
     -- What was judged by the words as they are now was judged by those that were there.
-    pub names-judged : {r : Judged} → judged (names_of (words (range text work from to))) r ≡ unique_names (words (range text work from to)) → NamesJudged text before work from to t.base r
+    pub names-judged : {r : Result ⊤ (Fault ℕ)} → judged (names_of (words (range text work from to))) r ≡ unique_names (words (range text work from to)) → NamesJudged text before work from to t.base r
     names-judged e = record { size = k.size; front = k.front; names = rw (range-kept text work before t.base k.front from to room.front) at e }
 
 -- A table was cleared behind the words: it has room, and what was judged with it was judged by the words that were there.
@@ -243,7 +244,7 @@ module _ {before work : List ℕ} {to base place : ℕ} {t : Table} (behind : to
         few = λ l. few (omega (arith, fits.begins, clear.size));
       }
 
-  pub cleared-judged : {text after : List ℕ} {from : ℕ} {r : Judged} → NamesJudged text work after from to t.base r → NamesJudged text before after from to base r
+  pub cleared-judged : {text after : List ℕ} {from : ℕ} {r : Result ⊤ (Fault ℕ)} → NamesJudged text work after from to t.base r → NamesJudged text before after from to base r
   cleared-judged {text} {after} {from} k =
       let front : take place after ≡ take place before = rw fits.begins at k.front ∙ clear.front in
       record {

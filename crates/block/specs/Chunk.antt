@@ -32,7 +32,7 @@ unfoldable pub gap_or : Format → Option ℕ → ℕ → Option Cell
 gap_or f none b = state_or_code f.data_type f b
 gap_or f (some g) b = let other = state_or_code f.data_type f b in pick (equal f g b) (some gap) other
 
--- The cell of one symbol: missing and gap are tried first.
+-- The cell of one symbol: missing's comes first, then the gap's, then those of the states.
 unfoldable pub cell : Format → ℕ → Option Cell
 cell f b = let other = gap_or f f.gap b in pick (equal f f.missing b) (some missing) other
 

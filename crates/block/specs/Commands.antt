@@ -9,7 +9,7 @@ pub data Command : Type 0 where
   empty : ℕ → Command
   unended : ℕ → Command
 
--- Is the token a is_newline
+-- Is the token a newline?
 unfoldable pub newline : Numbered → Bool
 newline w = is_line_end w.token.kind
 

@@ -8,7 +8,6 @@ pub mod Names
 pub mod NamesHeld
 pub mod NamesKept
 pub mod Dimensions
-pub mod Sizes
 pub mod Cell
 pub mod Cells
 pub mod Dna

@@ -1,15 +1,15 @@
 -- The names of TAXLABELS that were judged, by a table that has their words.
-use Rattle.std.specs.Prelude.{ℕ, ◌+◌, ◌≤◌, ◌<◌, length, take, Bool, true, false, List, ◌≡◌}
+use Rattle.std.specs.Prelude.{ℕ, ◌+◌, ◌≤◌, ◌<◌, length, take, Bool, true, false, List, ◌≡◌, Result, ⊤}
 use Rattle.block.specs.Commands.{newline, words}
 use Rattle.block.specs.Judged.{judged}
 use Rattle.block.specs.Names.{unique_names}
 use Rattle.block.specs.NamesHeld.{name_of, names_of}
-use Rattle.block.specs.declared.Judged.{Judged}
 use Rattle.lexer.specs.Base.{alike}
 use Rattle.lexer.specs.Stored.{word_of, range}
 use Rattle.slots.specs.Entering.{Entered}
 use Rattle.slots.specs.Filling.{TableSound}
 use Rattle.slots.specs.declared.Table.{Table}
+use Rattle.lexer.specs.declared.Fault.{Fault}
 
 -- A word from an index up to another has the name of that one.
 pub record SameName (text work : List ℕ) (from i j : ℕ) : Type 0 where
@@ -43,7 +43,7 @@ pub record NamesRoom (work : List ℕ) (to : ℕ) (t : Table) : Type 0 where
   pub few : t.base < length work → to ≤ 1048576
 
 -- The words from an index up to another were judged as those of TAXLABELS: in front of a place behind them work memory is as it was.
-pub record NamesJudged (text before after : List ℕ) (from to base : ℕ) (r : Judged) : Type 0 where
+pub record NamesJudged (text before after : List ℕ) (from to base : ℕ) (r : Result ⊤ (Fault ℕ)) : Type 0 where
   pub size : length after ≡ length before
   pub front : take base after ≡ take base before
   pub names : judged (names_of (words (range text before from to))) r ≡ unique_names (words (range text before from to))

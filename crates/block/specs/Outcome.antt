@@ -1,11 +1,18 @@
 -- What a step of reading comes to: a value, or the refusal of the token with an index.
-use Rattle.std.specs.Prelude.{ℕ, List, [], ◌∷◌}
+use Rattle.std.specs.Prelude.{ℕ, List, [], ◌∷◌, Result, Ok, Err}
+use Rattle.lexer.specs.declared.Fault.{Fault}
 use Rattle.lexer.specs.declared.refusal.Refusal.{Refusal}
 use Rattle.std.proofs.Math.Option.{Option, none, some}
 
 pub data Outcome (A : Type 0) : Type 0 where
   done : A → Outcome A
   refused : Refusal → ℕ → Outcome A
+
+module _ {A : Type 0} where
+  -- What the code answers: a value, or a fault at a token.
+  unfoldable pub outcome : Result A (Fault ℕ) → Outcome A
+  outcome (Ok a) = done a
+  outcome (Err f) = refused f.0 f.1
 
 module _ {A B : Type 0} where
   -- The first refusal stands; a value goes on.

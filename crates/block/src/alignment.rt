@@ -8,25 +8,26 @@ use super::data::Cell;
 use lexer::lower;
 
 // The cell of a DNA code, ASCII case ignored.
-pub fn dna_cell(b: u8) -> Cell
+#[tactic(auto, unfolding(crate::specs::Cells::bit, crate::specs::Cells::bits, crate::specs::Cells::cell_of, crate::specs::Dna::dna_cell, crate::specs::Dna::dna_letter, lexer::specs::Base::pick))]
+pub fn dna_cell(b: u8) -> Option<Cell>
     ensures { cell_of result ≡ dna_cell b }
 {
     match lower(b) {
-        97 => Cell::State(0),
-        99 => Cell::State(1),
-        103 => Cell::State(2),
-        116 => Cell::State(3),
-        114 => Cell::Uncertain(5),
-        121 => Cell::Uncertain(10),
-        115 => Cell::Uncertain(6),
-        119 => Cell::Uncertain(9),
-        107 => Cell::Uncertain(12),
-        109 => Cell::Uncertain(3),
-        98 => Cell::Uncertain(14),
-        100 => Cell::Uncertain(13),
-        104 => Cell::Uncertain(11),
-        118 => Cell::Uncertain(7),
-        110 => Cell::Uncertain(15),
-        _ => Cell::None,
+        b'a' => Some(Cell::State(0)),
+        b'c' => Some(Cell::State(1)),
+        b'g' => Some(Cell::State(2)),
+        b't' => Some(Cell::State(3)),
+        b'r' => Some(Cell::Uncertain(5)),
+        b'y' => Some(Cell::Uncertain(10)),
+        b's' => Some(Cell::Uncertain(6)),
+        b'w' => Some(Cell::Uncertain(9)),
+        b'k' => Some(Cell::Uncertain(12)),
+        b'm' => Some(Cell::Uncertain(3)),
+        b'b' => Some(Cell::Uncertain(14)),
+        b'd' => Some(Cell::Uncertain(13)),
+        b'h' => Some(Cell::Uncertain(11)),
+        b'v' => Some(Cell::Uncertain(7)),
+        b'n' => Some(Cell::Uncertain(15)),
+        _ => None,
     }
 }

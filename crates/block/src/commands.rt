@@ -20,28 +20,24 @@ pub enum Cut {
 pub fn skip_newlines(text: &[u8], work: &[u32], from: usize, to: usize) -> usize
     ensures { result ≡ first_where (λ w. not (newline w)) text.now work.now from (to - from) }
 {
-    let mut i = from;
-    while i < to {
+    for i in from..to {
         if !newline(text, work, i) {
             return i;
         }
-        i += 1;
     }
-    i
+    from.max(to)
 }
 
 // The next `;`, or the end.
 fn semicolon_from(text: &[u8], work: &[u32], from: usize, to: usize) -> usize
     ensures { result ≡ first_where semicolon text.now work.now from (to - from) }
 {
-    let mut i = from;
-    while i < to {
-        if punct(text, work, i, 59) {
+    for i in from..to {
+        if punct(text, work, i, b';') {
             return i;
         }
-        i += 1;
     }
-    i
+    from.max(to)
 }
 
 // The next command among the tokens from an index on, of which there are so many.
@@ -53,7 +49,7 @@ pub fn next(text: &[u8], work: &[u32], from: usize, count: usize) -> Cut
     if count <= head {
         return Cut::None;
     }
-    if punct(text, work, head, 59) {
+    if punct(text, work, head, b';') {
         return Cut::Empty(head);
     }
     let end = semicolon_from(text, work, head + 1, count);

@@ -6,14 +6,13 @@ pub enum DataType {
     Dna,
 }
 
-// A state by its index; the states that a code of DNA allows, a bit for each; missing; a gap; or no cell.
+// A state by its index; the states that a code of DNA allows, a bit for each; missing; or a gap.
 #[derive(Clone, Copy)]
 pub enum Cell {
     State(usize),
     Uncertain(u8),
     Missing,
     Gap,
-    None,
 }
 
 // A taxon and a character by their numbers, each counted from 1 on.

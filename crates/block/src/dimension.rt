@@ -1,7 +1,5 @@
 // What DIMENSIONS declares, and where reading the command is, after mod.rs.
 
-use lexer::Refusal;
-
 // What was declared; a count is 0 where it was not given.
 #[derive(Clone, Copy)]
 pub struct Dimensions {
@@ -23,18 +21,4 @@ pub enum Dimensioning {
     Option(Dimensions),
     Equals(Dimensions, Count, usize),
     Value(Dimensions, Count, usize),
-}
-
-// Where it is behind one word more, or its refusal.
-#[derive(Clone, Copy)]
-pub enum Dimensioned {
-    Mode(Dimensioning),
-    Refused(Refusal, usize),
-}
-
-// What the command declares, or its refusal.
-#[derive(Clone, Copy)]
-pub enum Sized {
-    Dimensions(Dimensions),
-    Refused(Refusal, usize),
 }

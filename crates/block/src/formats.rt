@@ -1,7 +1,8 @@
 // FORMAT, after mod.rs: the format by value, the cell that a symbol is, and the table of the codes of all symbols.
 
 ghost use Rattle.std.specs.Prelude.{◌≤◌, length, ◌≡◌};
-ghost use Rattle.block.specs.Cells.{cell_of, index_of};
+ghost use Rattle.block.specs.Cells.{cell_of};
+ghost use Rattle.lexer.specs.Base.{option_of};
 ghost use Rattle.block.specs.Chunk.{cell, state_of, state_or_code};
 ghost use Rattle.block.specs.Codes.{Coded, code_of};
 ghost use Rattle.block.specs.Format.{default_format, equal, format_of};
@@ -10,7 +11,7 @@ ghost use Rattle.block.specs.Formats.{Settled, meant, options_of};
 use super::alignment::dna_cell;
 use super::data::{Cell, DataType};
 use super::format_options::Options;
-use super::symbols::{Symbols, given_symbols, sign_or};
+use super::symbols::{Symbols, given_symbols};
 use lexer::lower;
 
 // An option by its word.
@@ -37,23 +38,16 @@ pub enum Valued {
     Gap,
 }
 
-// How cells are written: of the symbols so many are the states; the gap is 0 where there is none.
+// How cells are written: of the symbols so many are the states.
 #[derive(Clone, Copy)]
 pub struct Format {
     pub data_type: DataType,
     pub symbols: [u8; 74],
     pub count: usize,
     pub missing: u8,
-    pub gap: u8,
+    pub gap: Option<u8>,
     pub respect_case: bool,
     pub interleave: bool,
-}
-
-// A state by its index, or none.
-#[derive(Clone, Copy)]
-pub enum Index {
-    At(usize),
-    None,
 }
 
 impl Format {
@@ -65,6 +59,7 @@ impl Format {
     pub const DNA_GAP: u8 = 45;
 
     // Without FORMAT: STANDARD, symbols 01, missing `?`, no gap, case ignored, not interleaved.
+    #[tactic(auto, unfolding(crate::specs::Format::default_format, crate::specs::Formats::meant, lexer::specs::Base::bytes, lexer::specs::Base::option_of))]
     pub fn default() -> Self
         ensures { meant result ≡ default_format }
     {
@@ -76,7 +71,7 @@ impl Format {
             symbols,
             count: 2,
             missing: Format::MISSING,
-            gap: 0,
+            gap: None,
             respect_case: false,
             interleave: false,
         }
@@ -86,34 +81,40 @@ impl Format {
     pub fn of(text: &[u8], work: &[u32], o: Options) -> Self
         ensures { Settled result (format_of (options_of text.now work.now o)) }
     {
-        let missing = sign_or(o.missing, Format::MISSING);
-        if o.data_type <= Options::STANDARD {
-            let given = given_symbols(text, work, o, Symbols::binary());
-            let symbols = given.bytes;
-            return Format {
-                data_type: DataType::Standard,
-                symbols,
-                count: given.count,
-                missing,
-                gap: o.gap,
-                respect_case: o.respect_case,
-                interleave: Options::NO < o.interleave,
-            };
-        }
-        let four = Symbols::acgt();
-        let symbols = four.bytes;
-        Format {
-            data_type: DataType::Dna,
-            symbols,
-            count: four.count,
-            missing,
-            gap: sign_or(o.gap, Format::DNA_GAP),
-            respect_case: o.respect_case,
-            interleave: Options::NO < o.interleave,
+        let data_type = o.data_type.unwrap_or(DataType::Standard);
+        let missing = o.missing.unwrap_or(Format::MISSING);
+        let respect_case = o.respect_case;
+        let interleave = o.interleave.unwrap_or(false);
+        match data_type {
+            DataType::Standard => {
+                let Symbols { bytes, count } = given_symbols(text, work, o, Symbols::binary());
+                Format {
+                    data_type,
+                    symbols: bytes,
+                    count,
+                    missing,
+                    gap: o.gap,
+                    respect_case,
+                    interleave,
+                }
+            }
+            DataType::Dna => {
+                let Symbols { bytes, count } = Symbols::acgt();
+                Format {
+                    data_type,
+                    symbols: bytes,
+                    count,
+                    missing,
+                    gap: Some(o.gap.unwrap_or(Format::DNA_GAP)),
+                    respect_case,
+                    interleave,
+                }
+            }
         }
     }
 
     // Two symbols are equal if the bytes are, or ignoring ASCII case unless RESPECTCASE was given.
+    #[tactic(auto, unfolding(crate::specs::Format::equal, crate::specs::Formats::meant))]
     pub fn equal(self, a: u8, b: u8) -> bool
         ensures { result ≡ equal (meant self) a b }
     {
@@ -121,6 +122,7 @@ impl Format {
     }
 
     // How many states there are.
+    #[tactic(auto, unfolding(crate::specs::Formats::meant))]
     pub fn states(self) -> usize
         ensures { (result ≡ length (meant self).symbols) × (result ≤ 74) }
     {
@@ -132,49 +134,41 @@ impl Format {
     }
 
     // The state that a symbol is.
-    pub fn state(self, symbol: u8) -> Index
-        ensures { index_of result ≡ state_of (meant self) symbol }
+    pub fn state(self, symbol: u8) -> Option<usize>
+        ensures { option_of result ≡ state_of (meant self) symbol }
     {
         let symbols = self.symbols;
         let count = self.states();
-        let mut i = 0;
-        while i < count {
-            let s = symbols[i];
-            if self.equal(s, symbol) {
-                return Index::At(i);
+        for i in 0..count {
+            if self.equal(symbols[i], symbol) {
+                return Some(i);
             }
-            i += 1;
         }
-        Index::None
+        None
     }
 
     // The state that a symbol is, or for DNA the states that a code allows.
-    fn state_or_code(self, b: u8) -> Cell
+    fn state_or_code(self, b: u8) -> Option<Cell>
         ensures { cell_of result ≡ state_or_code (meant self).data_type (meant self) b }
     {
-        let data_type = self.data_type;
-        match data_type {
-            DataType::Standard => match self.state(b) {
-                Index::At(i) => Cell::State(i),
-                Index::None => Cell::None,
-            },
+        match self.data_type {
+            DataType::Standard => Some(Cell::State(self.state(b)?)),
             DataType::Dna => dna_cell(b),
         }
     }
 
-    // The cell of one symbol: missing and gap are tried first.
-    pub fn cell(self, b: u8) -> Cell
+    // The cell of one symbol: missing's comes first, then the gap's, then those of the states.
+    pub fn cell(self, b: u8) -> Option<Cell>
         ensures { cell_of result ≡ cell (meant self) b }
     {
         if self.equal(self.missing, b) {
-            return Cell::Missing;
+            return Some(Cell::Missing);
         }
-        let gap = self.gap;
-        if gap == 0 {
+        let Some(gap) = self.gap else {
             return self.state_or_code(b);
-        }
+        };
         if self.equal(gap, b) {
-            return Cell::Gap;
+            return Some(Cell::Gap);
         }
         self.state_or_code(b)
     }
@@ -183,12 +177,14 @@ impl Format {
     fn code(self, b: u8) -> u8
         ensures { result ≡ code_of (cell (meant self) b) }
     {
-        match self.cell(b) {
+        let Some(cell) = self.cell(b) else {
+            return 255;
+        };
+        match cell {
             Cell::State(i) => i as u8,
             Cell::Uncertain(set) => 96 + set % 16,
             Cell::Missing => 126,
             Cell::Gap => 127,
-            Cell::None => 255,
         }
     }
 }
@@ -198,10 +194,8 @@ pub fn codes(format: Format) -> [u8; 256]
     ensures { Coded (meant format) result }
 {
     let mut table = [0u8; 256];
-    let mut i = 0;
-    while i < 256 {
+    for i in 0..256 {
         table[i] = format.code(i as u8);
-        i += 1;
     }
     table
 }

@@ -7,7 +7,7 @@ pub enum Bracket {
     Parenthesis,
 }
 
-#[derive(Clone, Copy)]
+#[derive(Clone, Copy, PartialEq, Eq)]
 pub enum Labelling {
     CharLabels,
     StateLabels,
@@ -39,7 +39,8 @@ pub enum Item {
     By(u64, u64, usize),
 }
 
-// What one part more comes to: the list goes on; or a range of it is complete, and it goes on behind that.
+// What one part more comes to: the list goes on; or a range of it is complete, and it goes on behind that. Neither is a fault, so
+// this is no `Result`.
 #[derive(Clone, Copy)]
 pub enum Further {
     On(Item),

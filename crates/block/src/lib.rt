@@ -18,18 +18,10 @@ pub mod words;
 
 pub use commands::{Cut, next, skip_newlines};
 pub use data::{CharacterNumber, DataType, TaxonNumber};
-pub use dimension::{Dimensions, Sized};
-pub use format_options::{FormatAnswer, Options, format};
-pub use formats::{Format, Index, codes};
+pub use dimension::Dimensions;
+pub use format_options::{Options, format};
+pub use formats::{Format, codes};
 pub use kinds::{Bracket, Form, Further, Item, Labelling, Range};
-use lexer::Refusal;
 pub use model::CharacterOrdering;
 pub use names::unique_names;
 pub use words::{alike, count_words, is, named, newline, number, punct};
-
-// A judgement: nothing is wrong, or the refusal of the token with an index.
-#[derive(Clone, Copy)]
-pub enum Judged {
-    Good,
-    Refused(Refusal, usize),
-}

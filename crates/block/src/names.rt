@@ -10,25 +10,21 @@ ghost use Rattle.lexer.specs.Words.{spaced};
 ghost use Rattle.slots.specs.Filling.{slot_of};
 ghost use Rattle.slots.specs.Hashes.{hash};
 
-use super::Judged;
 use super::words::{alike, named, newline};
-use lexer::{Refusal, start_of};
+use lexer::{Fault, Refusal, start_of};
 use slots::{Entry, Table, enter_at, name_entry, name_slot, name_table, window_end};
 
 // Is the name of a word among those of the words from an index up to another?
 fn known_name(text: &[u8], work: &[u32], from: usize, to: usize, i: usize) -> bool
     ensures { result ≡ known (name_of (word_of text.now work.now i)) (names_of (words (range text.now work.now from to))) }
 {
-    let mut j = from;
-    while j < to {
+    for j in from..to {
         if newline(text, work, j) {
-            j += 1;
             continue;
         }
         if alike(text, work, i, j) {
             return true;
         }
-        j += 1;
     }
     false
 }
@@ -52,9 +48,8 @@ fn found_name(text: &[u8], work: &[u32], from: usize, i: usize, table: Table, sl
     requires { (slot ≡ slot_of table (hash (spaced (word_of text.now work.now i).token.text))) × NamesKept text.now work.now from i table }
     ensures { result ≡ known (name_of (word_of text.now work.now i)) (names_of (words (range text.now work.now from i))) }
 {
-    let mut p = slot;
     let stop = window_end(table, slot);
-    while p < stop {
+    for p in slot..stop {
         let value = start_of(work, p);
         if value == 0 {
             return false;
@@ -62,7 +57,6 @@ fn found_name(text: &[u8], work: &[u32], from: usize, i: usize, table: Table, sl
         if slot_alike(text, work, from, i, value) {
             return true;
         }
-        p += 1;
     }
     match name_entry(text, work, i, table.end) {
         Entry::Unknown => known_name(text, work, from, i, i),
@@ -90,27 +84,30 @@ fn keep_name(text: &[u8], work: &mut [u32], i: usize, table: Table, slot: usize)
 }
 
 // Are the words of TAXLABELS names, no two of them alike? A table behind them has those that were judged.
-fn unique_by(text: &[u8], work: &mut [u32], from: usize, to: usize, table: Table) -> Judged
+fn unique_by(
+    text: &[u8],
+    work: &mut [u32],
+    from: usize,
+    to: usize,
+    table: Table,
+) -> Result<(), Fault<usize>>
     requires { NamesRoom work.old to table }
     ensures { NamesJudged text.now work.old work.new from to table.base result }
 {
-    let mut i = from;
-    while i < to {
+    for i in from..to {
         if newline(text, work, i) {
-            i += 1;
             continue;
         }
         if !named(text, work, i) {
-            return Judged::Refused(Refusal::NotName, i);
+            return Err(Fault(Refusal::NotName, i));
         }
         let slot = name_slot(text, work, i, table);
         if found_name(text, work, from, i, table, slot) {
-            return Judged::Refused(Refusal::TaxonTwice, i);
+            return Err(Fault(Refusal::TaxonTwice, i));
         }
         keep_name(text, work, i, table, slot);
-        i += 1;
     }
-    Judged::Good
+    Ok(())
 }
 
 // Where a table for the names of words up to an index begins: at an index behind them, or, where there are more words than the longest text has, at the
@@ -137,7 +134,13 @@ fn names_count(from: usize, to: usize) -> usize
 }
 
 // Are the words of TAXLABELS names, no two of them alike? Work memory is free from an index behind them on.
-pub fn unique_names(text: &[u8], work: &mut [u32], from: usize, to: usize, base: usize) -> Judged
+pub fn unique_names(
+    text: &[u8],
+    work: &mut [u32],
+    from: usize,
+    to: usize,
+    base: usize,
+) -> Result<(), Fault<usize>>
     requires { (from ≤ to) × (to ≤ base) × (base ≤ length work.old) }
     ensures { NamesJudged text.now work.old work.new from to base result }
 {

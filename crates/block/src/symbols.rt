@@ -3,16 +3,16 @@
 ghost use Rattle.std.specs.Prelude.{ℕ, drop, List, ◌≡◌};
 ghost use Rattle.block.specs.Dna.{acgt, dna_code};
 ghost use Rattle.block.specs.Format.{all_differ, all_valid, clashes, dna_options, format_of, good_symbols, signs, unspaced};
-ghost use Rattle.block.specs.Formats.{Listed, meant, options_of, sign_of};
+ghost use Rattle.block.specs.Formats.{Listed, meant, options_of};
 ghost use Rattle.lexer.specs.Base.{bytes, same};
 ghost use Rattle.lexer.specs.Bytes.{left};
 ghost use Rattle.std.proofs.Math.Option.{get_or};
 
 use super::alignment::dna_cell;
-use super::data::{Cell, DataType};
+use super::data::DataType;
 use super::format_options::{Options, valid_symbol};
 use super::formats::Format;
-use lexer::{Cursor, Item, blank_byte, lower, next_byte, start_of, text_start};
+use lexer::{Cursor, blank_byte, lower, next_byte, start_of, text_start};
 
 // So many symbols from the front; a count of 75 says that there are more than 74.
 #[derive(Clone, Copy)]
@@ -23,6 +23,7 @@ pub struct Symbols {
 
 impl Symbols {
     // Without SYMBOLS.
+    #[tactic(auto, unfolding(lexer::specs::Base::bytes))]
     pub fn binary() -> Self
         ensures { Listed result.bytes result.count (bytes "01") }
     {
@@ -33,6 +34,7 @@ impl Symbols {
     }
 
     // Those of DNA.
+    #[tactic(auto, unfolding(crate::specs::Dna::acgt, lexer::specs::Base::bytes))]
     pub fn acgt() -> Self
         ensures { Listed result.bytes result.count acgt }
     {
@@ -52,45 +54,31 @@ fn unspaced(text: &[u8], c: Cursor) -> Symbols
     let mut bytes = [0u8; 74];
     let mut count = 0;
     let mut d = c;
-    loop {
-        match next_byte(text, d) {
-            Item::Byte(b, e) => {
-                if blank_byte(text, b, e) {
-                    d = e;
-                } else {
-                    if 74 <= count {
-                        return Symbols { bytes, count: 75 };
-                    }
-                    bytes[count] = b;
-                    count += 1;
-                    d = e;
-                }
-            }
-            Item::End => {
-                return Symbols { bytes, count };
-            }
+    while let Some((b, e)) = next_byte(text, d) {
+        d = e;
+        if blank_byte(text, b, e) {
+            continue;
         }
+        if Format::MOST <= count {
+            return Symbols {
+                bytes,
+                count: Format::MOST + 1,
+            };
+        }
+        bytes[count] = b;
+        count += 1;
     }
+    Symbols { bytes, count }
 }
 
 // The symbols that were given, or others.
 pub fn given_symbols(text: &[u8], work: &[u32], o: Options, other: Symbols) -> Symbols
     ensures { (l : List ℕ) → Listed other.bytes other.count l → Listed result.bytes result.count (get_or (options_of text.now work.now o).symbols l) }
 {
-    if o.has_symbols {
-        return unspaced(text, text_start(text, start_of(work, o.symbols)));
+    match o.symbols {
+        Some(i) => unspaced(text, text_start(text, start_of(work, i))),
+        None => other,
     }
-    other
-}
-
-// A sign that was given, or another.
-pub fn sign_or(b: u8, other: u8) -> u8
-    ensures { result ≡ get_or (sign_of b) other }
-{
-    if b == 0 {
-        return other;
-    }
-    b
 }
 
 // Are all symbols of the format valid?
@@ -99,12 +87,10 @@ fn all_valid(f: Format) -> bool
 {
     let symbols = f.symbols;
     let count = f.states();
-    let mut i = 0;
-    while i < count {
+    for i in 0..count {
         if !valid_symbol(symbols[i]) {
             return false;
         }
-        i += 1;
     }
     true
 }
@@ -115,12 +101,10 @@ fn clashes(f: Format, a: u8, from: usize) -> bool
 {
     let symbols = f.symbols;
     let count = f.states();
-    let mut i = from;
-    while i < count {
+    for i in from..count {
         if f.equal(a, symbols[i]) {
             return true;
         }
-        i += 1;
     }
     false
 }
@@ -131,12 +115,10 @@ fn states_differ(f: Format) -> bool
 {
     let symbols = f.symbols;
     let count = f.states();
-    let mut i = 0;
-    while i < count {
+    for i in 0..count {
         if clashes(f, symbols[i], i + 1) {
             return false;
         }
-        i += 1;
     }
     true
 }
@@ -146,25 +128,18 @@ fn all_differ(f: Format) -> bool
     ensures { result ≡ all_differ (meant f) (signs (meant f) (meant f).gap) }
 {
     let missing = f.missing;
-    let gap = f.gap;
     let known = !clashes(f, missing, 0) & states_differ(f);
-    if gap == 0 {
-        return known;
+    match f.gap {
+        None => known,
+        Some(gap) => !(f.equal(gap, missing) | clashes(f, gap, 0)) & known,
     }
-    !(f.equal(gap, missing) | clashes(f, gap, 0)) & known
 }
 
 // Is the byte a code of DNA?
 fn dna_code(b: u8) -> bool
     ensures { result ≡ dna_code b }
 {
-    match dna_cell(b) {
-        Cell::State(_) => true,
-        Cell::Uncertain(_) => true,
-        Cell::Missing => true,
-        Cell::Gap => true,
-        Cell::None => false,
-    }
+    dna_cell(b).is_some()
 }
 
 // Are these the symbols of DNA?
@@ -182,13 +157,12 @@ fn is_acgt(s: Symbols) -> bool
 fn dna_options(text: &[u8], work: &[u32], o: Options, f: Format) -> bool
     ensures { result ≡ dna_options (meant f).data_type (options_of text.now work.now o) (meant f) }
 {
-    let data_type = f.data_type;
-    match data_type {
+    match f.data_type {
         DataType::Standard => true,
         DataType::Dna => {
             let four = is_acgt(given_symbols(text, work, o, Symbols::acgt()));
             let missing = !dna_code(f.missing) | (lower(f.missing) == b'n');
-            let gap = !dna_code(sign_or(f.gap, Format::DNA_GAP));
+            let gap = !dna_code(f.gap.unwrap_or(Format::DNA_GAP));
             !f.respect_case & four & missing & gap
         }
     }

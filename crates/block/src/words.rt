@@ -23,6 +23,7 @@ pub fn punct(text: &[u8], work: &[u32], i: usize, b: u8) -> bool
 }
 
 // Is it a newline?
+#[tactic(auto, unfolding(crate::specs::Commands::newline, lexer::specs::Stored::word_of))]
 pub fn newline(text: &[u8], work: &[u32], i: usize) -> bool
     ensures { result ≡ newline (word_of text.now work.now i) }
 {
@@ -44,6 +45,7 @@ pub fn number(text: &[u8], work: &[u32], i: usize) -> u64
 }
 
 // Are two words the same name?
+#[tactic(auto, unfolding(lexer::specs::Stored::word_of))]
 pub fn alike(text: &[u8], work: &[u32], i: usize, j: usize) -> bool
     ensures { result ≡ alike (spaced (word_of text.now work.now i).token.text) (spaced (word_of text.now work.now j).token.text) }
 {
@@ -55,14 +57,11 @@ pub fn count_words(text: &[u8], work: &[u32], from: usize, to: usize) -> usize
     ensures { result ≡ length (words (range text.now work.now from to)) }
 {
     let mut count = 0;
-    let mut i = from;
-    while i < to {
+    for i in from..to {
         if newline(text, work, i) {
-            i += 1;
             continue;
         }
         count += 1;
-        i += 1;
     }
     count
 }

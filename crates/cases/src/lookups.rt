@@ -5,13 +5,14 @@ use super::printing::{print, print_line};
 use lookup::{look_at, lookup};
 use std::io;
 
-// The lookup of a name in a record. Where the cells begin is told by the answer in numbers, all else by the call that hands them back. The number
-// is lent as one that no call answers.
+// The lookup of a name in a record. Where the cells begin is told by `look_at`, 0 where they are refused, all else by the call that hands them back. The
+// number is lent as one that no call answers.
 fn print_cells(rt: &impl Print, source: &[u8], name: &[u8]) -> io::Result<()> {
     let mut number = 99;
     let cells = lookup(source, name, &mut number);
     print_line(rt, b"refused=", number as usize)?;
-    print_line(rt, b"start=", look_at(source, name).start)?;
+    let start = look_at(source, name).map_or(0, |found| found.start);
+    print_line(rt, b"start=", start)?;
     print_line(rt, b"length=", cells.len())?;
     print(rt, cells)?;
     print(rt, b"\n")

@@ -1,6 +1,6 @@
 // The calls of a text or a record, printed as lines: how long the buffer is, the answer, and all that the buffer holds afterwards.
 
-use lexer::{Place, refusal_number};
+use lexer::{Fault, Place, refusal_number};
 use read::read;
 use record::Answer;
 use std::io;
@@ -34,8 +34,8 @@ pub fn print_line(rt: &impl Print, name: &[u8], x: usize) -> io::Result<()> {
 // Prints the lines of an answer.
 fn print_answer(rt: &impl Print, answer: Answer) -> io::Result<()> {
     match answer {
-        Answer::Length(n) => print_line(rt, b"length=", n),
-        Answer::Refused(why, at) => print_refusal(rt, refusal_number(why), at),
+        Ok(n) => print_line(rt, b"length=", n),
+        Err(Fault(why, at)) => print_refusal(rt, refusal_number(why), at),
     }
 }
 
@@ -88,7 +88,7 @@ pub fn print_calls(
     buffer: &mut [u8],
 ) -> io::Result<()> {
     match answer(call, asked, work, buffer) {
-        Answer::Length(n) => {
+        Ok(n) => {
             if n == 0 {
                 return Ok(());
             }
@@ -99,6 +99,6 @@ pub fn print_calls(
             print_call(rt, call, asked, work, buffer, n)?;
             print_call(rt, call, asked, work, buffer, n + 1)
         }
-        Answer::Refused(_, _) => print_call(rt, call, asked, work, buffer, LITTLE),
+        Err(_) => print_call(rt, call, asked, work, buffer, LITTLE),
     }
 }

@@ -4,15 +4,11 @@ use Rattle.block.specs.Blocks.{Data, State, outside, in_data, in_phase, data_com
 use Rattle.block.specs.Outcome.{Outcome, done, refused, then}
 use Rattle.block.specs.Reading.{Reading}
 use Rattle.commands.proofs.AnswerLaws.{answers-as, answers-then}
-use Rattle.commands.specs.DataHeld.{DeclaredPlaced}
-use Rattle.commands.specs.StatePlaced.{DataPlaced}
 use Rattle.commands.specs.Stepping.{Answers}
-use Rattle.commands.specs.declared.data.Declared.{Declared}
-use Rattle.commands.specs.declared.state.Data as code
 use Rattle.lexer.specs.Base.{given, pick}
 use Rattle.lexer.specs.Words.{Numbered}
 use Rattle.lexer.specs.declared.refusal.Refusal.{Refusal}
-use mathlib.Core.Bool.{true, false}
+use mathlib.Core.Bool.{true, false, not, true≢false, false≢true}
 use mathlib.Core.List.{List}
 use mathlib.Core.Option.{Option, none, some}
 use mathlib.Core.Path.{◌≡◌, refl}
@@ -35,15 +31,13 @@ module _ (h : Numbered) (raw : List Numbered) (b : ℕ) (d : Data) (s : State) w
   step-open e a o = rw e (answers-as o (in-state (data_command d h raw)) (answers-then (λ x. done (in_phase (in_data b x) s)) a))
 
 -- The end of the block, without a matrix and with one.
-module _ (s : State) (b : ℕ) (matrix : Option Reading) where
-  pub end-absent : matrix ≡ none → refused Refusal.Absent b ≡ data_end s b matrix
-  unfolding data_end
-  end-absent e = rw e
+module _ (s : State) (b : ℕ) where
+  pub end-absent : (matrix : Option Reading) → not (given matrix) ≡ true → refused Refusal.Absent b ≡ data_end s b matrix
+  unfolding data_end given
+  end-absent none e = refl
+  end-absent (some r) e = absurd (false≢true e)
 
-  pub end_read : (r : Reading) → matrix ≡ some r → done (record { phase = outside; taxa = s.taxa; matrix = matrix; assumptions = s.assumptions }) ≡ data_end s b matrix
-  unfolding data_end
-  end_read r e = rw e
-
--- An answer that is placed has placed data.
-pub placed-told : (text front : List ℕ) (size : ℕ) {r : Declared} {d : code.Data} → r ≡ Declared.Data d → DeclaredPlaced text front size r → DataPlaced text front size d
-placed-told text front size e p = rw e at p
+  pub end_read : (matrix : Option Reading) → not (given matrix) ≡ false → done (record { phase = outside; taxa = s.taxa; matrix = matrix; assumptions = s.assumptions }) ≡ data_end s b matrix
+  unfolding data_end given
+  end_read none e = absurd (true≢false e)
+  end_read (some r) e = refl

@@ -2,52 +2,50 @@
 use Prim.Native.Nat.{ℕ, zero, suc, ◌+◌, ◌≤◌}
 use Rattle.block.specs.Blocks.{labelled_by, same_labelling}
 use Rattle.block.specs.Labels.{LabelCommand}
+use Rattle.block.specs.contracts.kinds.Labelling.{the_type}
 use Rattle.block.specs.declared.kinds.Labelling.{Labelling}
-use Rattle.commands.specs.LabelKinds.{OneMore, kinds_among, label_number}
+use Rattle.commands.specs.LabelKinds.{OneMore, kinds_among}
 use Rattle.commands.specs.StatePlaced.{CommandPlaced, CommandsPlaced}
 use Rattle.labels.specs.LabelEntries.{command_of}
-use Rattle.labels.specs.LabelLists.{Fits, command_held, commands_held}
+use Rattle.labels.specs.LabelLists.{Fits, command_held, commands_held, listed}
 use Rattle.labels.specs.declared.labels.LabelCommand as code
 use Rattle.labels.specs.declared.labels.LabelCommands.{LabelCommands}
 use Rattle.lexer.proofs.Basics.{or_assoc, or-false}
 use Rattle.lexer.specs.Base.{pick}
 use Rattle.lexer.specs.Words.{Numbered}
-use borrow.Author.Tests.{lt-ltb}
-use lib.Dec.{eqb, ltb}
+use Rattle.std.specs.List.{list_any}
+use lib.Dec.{eqb}
+use denote.Enum.Bare.{sameb}
 use lib.ListN.{length, take}
-use lib.Seq.{take-nil}
-use mathlib.Core.Bool.{Bool, true, false, ◌&&◌, ◌||◌}
-use mathlib.Core.List.{List, [], ◌∷◌, ◌++◌}
+use mathlib.Core.Bool.{Bool, true, false, ◌||◌}
+use mathlib.Core.List.{List, [], ◌∷◌, ◌++◌, map}
 use mathlib.Core.Path.{◌≡◌, refl, sym, ap, ◌∙◌}
 use native.Mathlib.Omega.{arith}
 
-pub same_number : (a b : Labelling) → eqb (label_number a) (label_number b) ≡ same_labelling a b
-unfolding label_number same_labelling
-same_number Labelling.CharLabels Labelling.CharLabels = refl
-same_number Labelling.CharLabels Labelling.StateLabels = refl
-same_number Labelling.CharLabels Labelling.CharStateLabels = refl
-same_number Labelling.StateLabels Labelling.CharLabels = refl
-same_number Labelling.StateLabels Labelling.StateLabels = refl
-same_number Labelling.StateLabels Labelling.CharStateLabels = refl
-same_number Labelling.CharStateLabels Labelling.CharLabels = refl
-same_number Labelling.CharStateLabels Labelling.StateLabels = refl
-same_number Labelling.CharStateLabels Labelling.CharStateLabels = refl
+-- Two kinds are equal where they are the same.
+pub same_kind : (a b : Labelling) → sameb the_type a b ≡ same_labelling b a
+unfolding same_labelling
+same_kind Labelling.CharLabels Labelling.CharLabels = refl
+same_kind Labelling.CharLabels Labelling.StateLabels = refl
+same_kind Labelling.CharLabels Labelling.CharStateLabels = refl
+same_kind Labelling.StateLabels Labelling.CharLabels = refl
+same_kind Labelling.StateLabels Labelling.StateLabels = refl
+same_kind Labelling.StateLabels Labelling.CharStateLabels = refl
+same_kind Labelling.CharStateLabels Labelling.CharLabels = refl
+same_kind Labelling.CharStateLabels Labelling.StateLabels = refl
+same_kind Labelling.CharStateLabels Labelling.CharStateLabels = refl
 
--- A kind is among the first of three commands, so many, where one of these has it.
-module _ (l : Labelling) (a b c : LabelCommand) where
-  among_first : (n : ℕ) → ltb 0 n && same_labelling l a.what || ltb 1 n && same_labelling l b.what || ltb 2 n && same_labelling l c.what ≡ labelled_by l (take n (a ∷ b ∷ c ∷ []))
+-- A kind is among the commands that are held where one of these has it.
+module _ (text work : List ℕ) (l : Labelling) where
+  among_first : (n : ℕ) (cs : List code.LabelCommand) → list_any (λ x. same_labelling l x.what) (take n cs) ≡ labelled_by l (take n (map (command_held text work) cs))
   unfolding labelled_by
-  among_first zero = refl
-  among_first (suc zero) = or-false (same_labelling l a.what || false)
-  among_first (suc (suc zero)) = sym (or_assoc (same_labelling l a.what) (same_labelling l b.what) false)
-  among_first (suc (suc (suc n))) =
-      let more : ℕ = suc (suc (suc n)) in
-      rw (lt-ltb 0 more (omega arith), lt-ltb 1 more (omega arith), lt-ltb 2 more (omega arith), take-nil n)
-      (sym (ap (λ (x : Bool). same_labelling l a.what || (same_labelling l b.what || x)) (or-false (same_labelling l c.what)) ∙ or_assoc (same_labelling l a.what) (same_labelling l b.what) (same_labelling l c.what)))
+  among_first zero cs = refl
+  among_first (suc n) [] = refl
+  among_first (suc n) (c ∷ cs) = ap (λ (x : Bool). same_labelling l c.what || x) (among_first n cs)
 
-pub among-held : (text work : List ℕ) (l : Labelling) (ls : LabelCommands) → ltb 0 ls.count && same_labelling l ls.first.what || ltb 1 ls.count && same_labelling l ls.second.what || ltb 2 ls.count && same_labelling l ls.third.what ≡ labelled_by l (commands_held text work ls)
-unfolding commands_held
-among-held text work l ls = among_first l (command_held text work ls.first) (command_held text work ls.second) (command_held text work ls.third) ls.count
+  pub among-held : (ls : LabelCommands) → list_any (λ x. same_labelling l x.what) (take ls.count (listed ls)) ≡ labelled_by l (commands_held text work ls)
+  unfolding commands_held
+  among-held ls = among_first ls.count (listed ls)
 
 -- One command more has its own kind.
 labelled-more : (k : Labelling) (cs : List LabelCommand) (c : LabelCommand) → labelled_by k (cs ++ (c ∷ [])) ≡ labelled_by k cs || same_labelling k c.what
@@ -77,6 +75,10 @@ unfolding kinds_among pick
 kinds-room Labelling.CharLabels cs h = rw h (omega (arith, one-most (labelled_by Labelling.StateLabels cs), one-most (labelled_by Labelling.CharStateLabels cs)))
 kinds-room Labelling.StateLabels cs h = rw h (omega (arith, one-most (labelled_by Labelling.CharLabels cs), one-most (labelled_by Labelling.CharStateLabels cs)))
 kinds-room Labelling.CharStateLabels cs h = rw h (omega (arith, one-most (labelled_by Labelling.CharLabels cs), one-most (labelled_by Labelling.StateLabels cs)))
+
+-- A command without tokens fits anywhere.
+pub no-command-fits : (at : ℕ) (what : Labelling) → Fits at (record { what = what; head = 0; to = 0 })
+no-command-fits at what = record { small = omega arith; front = omega arith; short = omega arith }
 
 -- One command more, behind none, one or two.
 module _ (ls : LabelCommands) (c : code.LabelCommand) where

@@ -2,6 +2,6 @@
 pub mod AnswerLaws
 pub mod BlockLaws
 pub mod DataLaws
+pub mod GivenLaws
 pub mod LabelKindLaws
-pub mod StatesPlaced
 pub mod TaxaLaws

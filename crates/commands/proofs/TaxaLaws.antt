@@ -1,4 +1,5 @@
 -- Steps of TAXA by their tests, one case at a time. Assumes nothing.
+use Rattle.std.specs.Prelude.{Some, None}
 use Prim.Native.Nat.{ℕ, zero, suc}
 use Rattle.block.specs.Blocks.{Phase, State, in_taxa, outside, taxa_count, taxa_end, taxa_step}
 use Rattle.block.specs.Commands.{words}
@@ -8,11 +9,11 @@ use Rattle.block.specs.NamesHeld.{name_of, names_of}
 use Rattle.block.specs.Outcome.{Outcome, done, refused, then}
 use Rattle.block.specs.declared.dimension.Dimensions.{Dimensions}
 use Rattle.commands.specs.StateHeld.{names_in}
-use Rattle.commands.specs.declared.state.Names.{Names}
 use Rattle.lexer.specs.Base.{bytes, given, pick}
 use Rattle.lexer.specs.Stored.{range}
 use Rattle.lexer.specs.Words.{Numbered, is}
 use Rattle.lexer.specs.declared.refusal.Refusal.{Refusal}
+use Rattle.std.specs.Prelude as Std
 use borrow.Author.Tests.{eq-eqb, ne_eqb}
 use lib.Dec.{eqb}
 use lib.ListN.{length, length-map}
@@ -69,12 +70,12 @@ module _ (h : Numbered) (ws : List Numbered) (b : ℕ) (f : Phase → Outcome St
   step_other count (some l) g t u k z i e j d = absurd (true≢false (sym k ∙ z))
 
 -- The end: no names, too few or too many, as many as were declared.
-module _ (text work : List ℕ) (s : State) (b count : ℕ) (names : Names) where
-  pub end-absent : names ≡ Names.None → taxa_end s b count (names_in text work names) ≡ refused Refusal.Absent b
+module _ (text work : List ℕ) (s : State) (b count : ℕ) (names : Std.Option (ℕ × ℕ)) where
+  pub end-absent : names ≡ None → taxa_end s b count (names_in text work names) ≡ refused Refusal.Absent b
   unfolding taxa_end names_in
   end-absent e = rw e
 
-  module _ (from to n : ℕ) (e : names ≡ Names.Words from to) (counted : n ≡ length (words (range text work from to))) where
+  module _ (from to n : ℕ) (e : names ≡ Some (from, to)) (counted : n ≡ length (words (range text work from to))) where
     as_many : n ≡ length (names_of (words (range text work from to)))
     unfolding names_of
     as_many = counted ∙ sym (length-map (words (range text work from to)) name_of)
@@ -84,6 +85,6 @@ module _ (text work : List ℕ) (s : State) (b count : ℕ) (names : Names) wher
     end-other z = rw (e, ← as_many, ne_eqb n count z)
 
     pub end-met : n ≡ count
-        → taxa_end s b count (names_in text work names) ≡ done (record { phase = outside; taxa = names_in text work (Names.Words from to); matrix = s.matrix; assumptions = s.assumptions })
+        → taxa_end s b count (names_in text work names) ≡ done (record { phase = outside; taxa = names_in text work names; matrix = s.matrix; assumptions = s.assumptions })
     unfolding taxa_end names_in pick
     end-met z = rw (e, ← as_many, eq-eqb n count z)

@@ -1,24 +1,12 @@
--- Which label command a word is, by the code's answer, and how many kinds of them there are among some.
+-- How many kinds of label commands there are among some.
 use Rattle.std.specs.Prelude.{ℕ, ◌+◌, List, [], ◌∷◌, ◌++◌, ◌≡◌}
 use Rattle.block.specs.Blocks.{labelled_by}
 use Rattle.block.specs.Labels.{LabelCommand}
 use Rattle.block.specs.declared.kinds.Labelling.{Labelling}
-use Rattle.commands.specs.declared.data.LabelWord.{LabelWord}
 use Rattle.labels.specs.LabelLists.{Fits, command_held, commands_held}
 use Rattle.labels.specs.declared.labels.LabelCommand as code
 use Rattle.labels.specs.declared.labels.LabelCommands.{LabelCommands}
 use Rattle.lexer.specs.Base.{pick}
-use Rattle.std.proofs.Math.Option.{Option, none, some}
-
-unfoldable pub label_word : LabelWord → Option Labelling
-label_word LabelWord.None = none
-label_word (LabelWord.Labelling l) = some l
-
--- A number for each kind.
-unfoldable pub label_number : Labelling → ℕ
-label_number Labelling.CharLabels = 0
-label_number Labelling.StateLabels = 1
-label_number Labelling.CharStateLabels = 2
 
 -- How many kinds are among the commands. Where they are as many as the commands, no kind comes twice.
 unfoldable pub kinds_among : List LabelCommand → ℕ

@@ -1,6 +1,7 @@
 -- What a matrix that work memory holds reads as. Words are those of the tokens' starts, the front of work memory; what is stored stands behind it.
-use Rattle.std.specs.Prelude.{ℕ, take, List}
-use Rattle.assumptions.specs.TypesHeld.{type_word, types_held}
+use Rattle.std.specs.Prelude.{ℕ, take, List, Some, None, Option}
+use Rattle.assumptions.specs.TypesHeld.{types_held}
+use Rattle.lexer.specs.Base.{option_of, pick}
 use Rattle.block.specs.Blocks.{unordered, with_types}
 use Rattle.block.specs.Commands.{words}
 use Rattle.block.specs.Format.{Format, default_format}
@@ -10,24 +11,22 @@ use Rattle.block.specs.Typeset.{Types}
 use Rattle.commands.specs.StateHeld.{Reader, style_of}
 use Rattle.commands.specs.WorkMap.{order_place, labels_place, types_place}
 use Rattle.commands.specs.declared.state.Held.{Held}
-use Rattle.commands.specs.declared.state.Names.{Names}
-use Rattle.commands.specs.declared.state.Style.{Style}
 use Rattle.labels.specs.LabelSlots.{labels_held}
-use Rattle.lexer.specs.Base.{pick}
 use Rattle.lexer.specs.Stored.{range}
 use Rattle.matrix.specs.Lines.{stored}
 use Rattle.matrix.specs.OrderHeld.{ordered}
 use Rattle.matrix.specs.RowsHeld.{rows_held}
 use Rattle.std.proofs.Math.Option.{none, some, get_or}
+use Rattle.block.specs.declared.format_options.Options.{Options}
 
 -- The format that was given, or the default.
-unfoldable pub format_held : List ℕ → List ℕ → Style → Format
+unfoldable pub format_held : List ℕ → List ℕ → Option Options → Format
 format_held text front style = get_or (style_of text front style) default_format
 
 -- The rows under the declared names, of which there are so many and whose numbers stand from a place on, or as they came.
-unfoldable pub order_held : List ℕ → List ℕ → List ℕ → ℕ → ℕ → Names → List Taxon → List Taxon
-order_held text front work at taxa Names.None rows = rows
-order_held text front work at taxa (Names.Words from to) rows = ordered rows work at (take taxa (names_of (words (range text front from to))))
+unfoldable pub order_held : List ℕ → List ℕ → List ℕ → ℕ → ℕ → Option (ℕ × ℕ) → List Taxon → List Taxon
+order_held text front work at taxa None rows = rows
+order_held text front work at taxa (Some (from, to)) rows = ordered rows work at (take taxa (names_of (words (range text front from to))))
 
 -- So many tokens stand in front.
 module _ (text work : List ℕ) (count : ℕ) where
@@ -51,7 +50,7 @@ module _ (text work : List ℕ) (count : ℕ) where
   types_at h = types_held work (types_place count h.lines h.taxa h.characters) h.characters
 
   unfoldable pub reading_held : Held → Reading
-  reading_held h = with_types (type_word h.default) (pick h.typed (some (types_at h)) none) (untyped_held h)
+  reading_held h = with_types (option_of h.default) (pick h.typed (some (types_at h)) none) (untyped_held h)
 
   unfoldable pub held : Reader
   held = record { reading = reading_held; types = types_at }

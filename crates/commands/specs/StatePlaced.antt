@@ -1,20 +1,19 @@
 -- What the steps keep of a state's numbers, where so many numbers of work memory are there and the front of it is where the tokens begin: words
 -- that it names are among the tokens, and a matrix that it holds fits in work memory. No answer is wrong without it; with it none says that work
 -- memory is short.
-use Rattle.std.specs.Prelude.{ℕ, ◌≤◌, ◌<◌, length, true, false, List, ◌≡◌}
+use Rattle.std.specs.Prelude.{ℕ, ◌≤◌, ◌<◌, length, true, false, List, ◌≡◌, Some, None, Ok, Err, Option, Result}
 use Rattle.block.specs.Format.{format_of}
 use Rattle.block.specs.Formats.{options_of}
 use Rattle.commands.specs.LabelKinds.{kinds_among}
 use Rattle.commands.specs.WorkMap.{map_fits}
 use Rattle.commands.specs.declared.state.Data.{Data}
-use Rattle.commands.specs.declared.state.Matrix.{Matrix}
-use Rattle.commands.specs.declared.state.Names.{Names}
 use Rattle.commands.specs.declared.state.Phase.{Phase}
 use Rattle.commands.specs.declared.state.State.{State}
-use Rattle.commands.specs.declared.state.Stepped.{Stepped}
-use Rattle.commands.specs.declared.state.Style.{Style}
 use Rattle.labels.specs.LabelLists.{Fits, commands_held}
 use Rattle.labels.specs.declared.labels.LabelCommands.{LabelCommands}
+use Rattle.lexer.specs.declared.Fault.{Fault}
+use Rattle.commands.specs.declared.state.Held.{Held}
+use Rattle.block.specs.declared.format_options.Options.{Options}
 
 -- A command whose own word has an index, and which ends at another.
 pub record CommandPlaced (front : List ℕ) (head to : ℕ) : Type 0 where
@@ -23,19 +22,19 @@ pub record CommandPlaced (front : List ℕ) (head to : ℕ) : Type 0 where
   pub few : length front ≤ 1048576
 
 -- No set has typed its characters.
-abbrev pub Untyped : Matrix → Type 0
-Untyped Matrix.None = Unit {0}
-Untyped (Matrix.Read h) = h.typed ≡ false
+abbrev pub Untyped : Option Held → Type 0
+Untyped None = Unit {0}
+Untyped (Some h) = h.typed ≡ false
 
 module _ (text front : List ℕ) (size : ℕ) where
-  abbrev pub NamesPlaced : Names → Type 0
-  NamesPlaced Names.None = Unit {0}
-  NamesPlaced (Names.Words from to) = to ≤ length front
+  abbrev pub NamesPlaced : Option (ℕ × ℕ) → Type 0
+  NamesPlaced None = Unit {0}
+  NamesPlaced (Some (from, to)) = to ≤ length front
 
   -- A format has at most 74 symbols.
-  abbrev pub StylePlaced : Style → Type 0
-  StylePlaced Style.None = Unit {0}
-  StylePlaced (Style.Given o) = length (format_of (options_of text front o)).symbols ≤ 74
+  abbrev pub StylePlaced : Option Options → Type 0
+  StylePlaced None = Unit {0}
+  StylePlaced (Some o) = length (format_of (options_of text front o)).symbols ≤ 74
 
   -- No kind of label command comes twice.
   pub record CommandsPlaced (ls : LabelCommands) : Type 0 where
@@ -44,9 +43,9 @@ module _ (text front : List ℕ) (size : ℕ) where
     pub third : Fits (length front) ls.third
     pub kinds : ls.count ≡ kinds_among (commands_held text front ls)
 
-  abbrev pub MatrixPlaced : Matrix → Type 0
-  MatrixPlaced Matrix.None = Unit {0}
-  MatrixPlaced (Matrix.Read h) = map_fits size (length front) h.lines h.taxa h.characters ≡ true
+  abbrev pub MatrixPlaced : Option Held → Type 0
+  MatrixPlaced None = Unit {0}
+  MatrixPlaced (Some h) = map_fits size (length front) h.lines h.taxa h.characters ≡ true
 
   pub record DataPlaced (d : Data) : Type 0 where
     pub style : StylePlaced d.style
@@ -59,7 +58,7 @@ module _ (text front : List ℕ) (size : ℕ) where
   abbrev pub PhasePlaced : State → Phase → Type 0
   PhasePlaced s Phase.Outside = Unit {0}
   PhasePlaced s (Phase.Taxa b n names) = NamesPlaced names
-  PhasePlaced s (Phase.Data b) = DataPlaced s.«data» × (s.matrix ≡ Matrix.None)
+  PhasePlaced s (Phase.Data b) = DataPlaced s.«data» × (s.matrix ≡ None)
   PhasePlaced s (Phase.Assumptions b default typed) = Untyped s.matrix
   PhasePlaced s (Phase.Trees b) = Unit {0}
 
@@ -69,6 +68,6 @@ module _ (text front : List ℕ) (size : ℕ) where
     pub matrix : MatrixPlaced s.matrix
     pub untyped : s.assumptions ≡ false → Untyped s.matrix
 
-  abbrev pub SteppedPlaced : Stepped → Type 0
-  SteppedPlaced (Stepped.State s) = StatePlaced s
-  SteppedPlaced (Stepped.Refused n i) = Unit {0}
+  abbrev pub SteppedPlaced : Result State (Fault ℕ) → Type 0
+  SteppedPlaced (Ok s) = StatePlaced s
+  SteppedPlaced (Err f) = Unit {0}

@@ -11,5 +11,5 @@ pub mod taxa;
 pub use blocks::{begin_words, in_phase, matrix_given, no_data};
 pub use data::{data_end, data_step, in_data};
 pub use map::{labels_place, map_fits, order_place, types_place};
-pub use state::{Data, Held, Matrix, Names, Parsed, Phase, Sizes, State, Stepped, Style};
+pub use state::{Data, Held, Phase, State};
 pub use taxa::{taxa_end, taxa_step};

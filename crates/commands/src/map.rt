@@ -6,6 +6,7 @@ ghost use Rattle.commands.specs.WorkMap.{labels_place, map_fits, order_place, ty
 use block::{CharacterNumber, TaxonNumber};
 
 // Where the order of the taxa begins.
+#[tactic(auto, unfolding(crate::specs::WorkMap::order_place))]
 pub fn order_place(count: usize, lines: usize, taxa: usize) -> usize
     requires { (count ≤ 1048576) × (lines ≤ 1048576) × (taxa ≤ 1048576) }
     ensures { result ≡ order_place count lines taxa }
@@ -14,6 +15,7 @@ pub fn order_place(count: usize, lines: usize, taxa: usize) -> usize
 }
 
 // Where the labels begin.
+#[tactic(auto, unfolding(crate::specs::WorkMap::labels_place))]
 pub fn labels_place(count: usize, lines: usize, taxa: usize) -> usize
     requires { (count ≤ 1048576) × (lines ≤ 1048576) × (taxa ≤ 1048576) }
     ensures { result ≡ labels_place count lines taxa }
@@ -22,6 +24,7 @@ pub fn labels_place(count: usize, lines: usize, taxa: usize) -> usize
 }
 
 // Where the types begin.
+#[tactic(auto, unfolding(crate::specs::WorkMap::types_place))]
 pub fn types_place(
     count: usize,
     lines: usize,
@@ -34,22 +37,8 @@ pub fn types_place(
     count + lines + 2 * taxa.0 + 2 * characters.0
 }
 
-// Does the map fit, where no count is above the longest text?
-fn few_fit(
-    size: usize,
-    count: usize,
-    lines: usize,
-    taxa: TaxonNumber,
-    characters: CharacterNumber,
-) -> bool
-    requires { (count ≤ 1048576) × (lines ≤ 1048576) × (taxa.0 ≤ 1048576) × (characters.0 ≤ 1048576) }
-    ensures { result ≡ (leb (count + lines + taxa.0 + count) size && leb (count + lines + 2 * taxa.0 + 3 * characters.0) size) }
-{
-    (count + lines + taxa.0 + count <= size)
-        & (count + lines + 2 * taxa.0 + 3 * characters.0 <= size)
-}
-
 // Does the map fit in work memory of so many numbers? No count is above the longest text.
+#[tactic(auto, unfolding(crate::specs::WorkMap::map_fits, lexer::specs::Lexing::longest))]
 pub fn map_fits(
     size: usize,
     count: usize,
@@ -59,8 +48,10 @@ pub fn map_fits(
 ) -> bool
     ensures { result ≡ map_fits size count lines taxa.0 characters.0 }
 {
-    if (count <= 1048576) & (lines <= 1048576) & (taxa.0 <= 1048576) & (characters.0 <= 1048576) {
-        return few_fit(size, count, lines, taxa, characters);
-    }
-    false
+    let few = (count <= 1048576)
+        & (lines <= 1048576)
+        & (taxa.0 <= 1048576)
+        & (characters.0 <= 1048576);
+    few && (count + lines + taxa.0 + count <= size)
+        & (count + lines + 2 * taxa.0 + 3 * characters.0 <= size)
 }

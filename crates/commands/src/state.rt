@@ -1,70 +1,41 @@
 // The state of reading after each command, by value.
 
-use assumptions::TypeWord;
-use block::{Dimensions, Options};
+use block::{CharacterOrdering, Dimensions, Options};
 use labels::LabelCommands;
-use lexer::Refusal;
 
-// Declared names: none, or those of the words from an index up to another.
-#[derive(Clone, Copy)]
-pub enum Names {
-    None,
-    Words(usize, usize),
-}
-
-// What DIMENSIONS declared, if it was there.
-#[derive(Clone, Copy)]
-pub enum Sizes {
-    None,
-    Given(Dimensions),
-}
-
-// What FORMAT said, if it was there.
-#[derive(Clone, Copy)]
-pub enum Style {
-    None,
-    Given(Options),
-}
-
-// A matrix that was read: by which declarations, between which tokens, and how many lines, taxa and characters it has.
+// A matrix that was read: by which declarations, between which tokens, and how many lines, taxa and characters it has. Names are the words from a token
+// up to another, a pair as in the definition `order_held`.
 #[derive(Clone, Copy)]
 pub struct Held {
-    pub names: Names,
-    pub style: Style,
+    pub names: Option<(usize, usize)>,
+    pub style: Option<Options>,
     pub head: usize,
     pub to: usize,
     pub lines: usize,
     pub taxa: usize,
     pub characters: usize,
-    pub default: TypeWord,
+    pub default: Option<CharacterOrdering>,
     pub typed: bool,
-}
-
-// The matrix, if it was read.
-#[derive(Clone, Copy)]
-pub enum Matrix {
-    None,
-    Read(Held),
 }
 
 // A data block so far.
 #[derive(Clone, Copy)]
 pub struct Data {
-    pub sizes: Sizes,
-    pub style: Style,
-    pub names: Names,
+    pub sizes: Option<Dimensions>,
+    pub style: Option<Options>,
+    pub names: Option<(usize, usize)>,
     pub labels: LabelCommands,
-    pub matrix: Matrix,
+    pub matrix: Option<Held>,
 }
 
-// Which block is open, with the index of its name: none; TAXA, with its NTAX (0 if not given) and its names; DATA or CHARACTERS; ASSUMPTIONS, with
-// the default type and whether a set was read; TREES.
+// Which block is open, with the index of its name: none; TAXA, with its NTAX and its names; DATA or CHARACTERS; ASSUMPTIONS, with the default type
+// and whether a set was read; TREES. NTAX is 0 if not given, as in the definition `in_taxa`.
 #[derive(Clone, Copy)]
 pub enum Phase {
     Outside,
-    Taxa(usize, u64, Names),
+    Taxa(usize, u64, Option<(usize, usize)>),
     Data(usize),
-    Assumptions(usize, TypeWord, bool),
+    Assumptions(usize, Option<CharacterOrdering>, bool),
     Trees(usize),
 }
 
@@ -73,21 +44,7 @@ pub enum Phase {
 pub struct State {
     pub phase: Phase,
     pub data: Data,
-    pub taxa: Names,
-    pub matrix: Matrix,
+    pub taxa: Option<(usize, usize)>,
+    pub matrix: Option<Held>,
     pub assumptions: bool,
-}
-
-// The state after a command, or its refusal.
-#[derive(Clone, Copy)]
-pub enum Stepped {
-    State(State),
-    Refused(Refusal, usize),
-}
-
-// What a text comes to: the matrix that was read, or a refusal.
-#[derive(Clone, Copy)]
-pub enum Parsed {
-    Held(Held),
-    Refused(Refusal, usize),
 }

@@ -1,4 +1,5 @@
 -- A record written and read again, by what the two calls answer and leave. Assumes nothing.
+use Rattle.std.specs.Prelude.{Ok, Err, Result}
 use Prim.Native.Nat.{ℕ, ◌+◌, ◌*◌, ◌≤◌, ◌<◌}
 use Rattle.demands.specs.Again.{WrittenAgain}
 use Rattle.lexer.specs.declared.Place.{Place}
@@ -8,36 +9,37 @@ use Rattle.record.proofs.CallLaws.{length-refused}
 use Rattle.record.proofs.Demands.{buffers-are-kept, calls-give-back-records, read-gives-records, read-refuses-in-order, what-is-left-is-given}
 use Rattle.record.specs.Calls.{read_answer, read_leaves, write_answer}
 use Rattle.record.specs.Demands.{Left, ReadGives, Refuses}
-use Rattle.record.specs.declared.Answer.{Answer}
 use Rattle.write.specs.Call.{WriteCall}
+use Rattle.lexer.specs.declared.Fault.{Fault}
+use Rattle.lexer.specs.Refusals.{fault}
 use lib.ListN.{length, take, drop, length-take, take-append-drop}
 use mathlib.Core.List.{List, ◌++◌}
 use mathlib.Core.Path.{◌≡◌, refl, sym, ap, ◌∙◌}
 use native.Mathlib.Omega.{arith}
 
 -- A call that is lent this buffer leaves these bytes in front of what was behind them.
-pub left-whole : (bs buffer after : List ℕ) (a : Answer) → Left bs buffer a after → after ≡ bs ++ drop (length bs) buffer
+pub left-whole : (bs buffer after : List ℕ) (a : Result ℕ (Fault Place)) → Left bs buffer a after → after ≡ bs ++ drop (length bs) buffer
 left-whole bs buffer after a l = sym (take-append-drop (length bs) after) ∙ ap (λ x. x ++ drop (length bs) after) l.result ∙ ap (λ x. bs ++ x) l.rest
 
 -- The bytes of a length that write answers lie in the buffer.
-pub written-within : (b buffer after : List ℕ) (a : Answer) → WriteCall b buffer after a → (n : ℕ) → a ≡ Answer.Length n → n ≤ length after
+pub written-within : (b buffer after : List ℕ) (a : Result ℕ (Fault Place)) → WriteCall b buffer after a → (n : ℕ) → a ≡ Ok n → n ≤ length after
 written-within b buffer after a w n e =
     let k = buffers-are-kept.1 b buffer in
     let h = (k.answered n (sym w.answer ∙ e)).0 in
     rw w.left (omega (arith, k.room))
 
 -- A refusal of read leaves the buffer as it was.
-kept-refused : (text : List ℕ) (work : ℕ) (buffer : List ℕ) (a : Answer) (n : ℕ) → a ≡ read_answer text work (length buffer)
+kept-refused : (text : List ℕ) (work : ℕ) (buffer : List ℕ) (a : Result ℕ (Fault Place)) (n : ℕ) → a ≡ read_answer text work (length buffer)
     → Refuses (read_answer text work (length buffer)) n 0 0 → Refuses a n 0 0 × (read_leaves text work buffer ≡ buffer)
 kept-refused text work buffer a n told (why, number, e) =
     ((why, number, told ∙ e), (buffers-are-kept.0 text work buffer).refused why _ e)
 
-module _ (b form form_after : List ℕ) (w : Answer) (written : WriteCall b form form_after w) where
+module _ (b form form_after : List ℕ) (w : Result ℕ (Fault Place)) (written : WriteCall b form form_after w) where
   -- Write refuses: nothing is read.
-  pub refused-again : (work again : List ℕ) (n : Refusal) (p : Place) → w ≡ Answer.Refused n p
-      → WrittenAgain b work work form form_after again again (Answer.Refused n p)
+  pub refused-again : (work again : List ℕ) (n : Refusal) (p : Place) → w ≡ Err (fault n p)
+      → WrittenAgain b work work form form_after again again (Err (fault n p))
   refused-again work again n p e =
-      let none : (m : ℕ) → write_answer b (length form) ≡ Answer.Length m → ⊥ = λ m h. length-refused (sym h ∙ sym written.answer ∙ e) in
+      let none : (m : ℕ) → write_answer b (length form) ≡ Ok m → ⊥ = λ m h. length-refused (sym h ∙ sym written.answer ∙ e) in
       record {
         written = written.left;
         size = refl;
@@ -47,8 +49,8 @@ module _ (b form form_after : List ℕ) (w : Answer) (written : WriteCall b form
         no_room = λ m h. absurd (none m h);
       }
 
-  module _ (n : ℕ) (e : w ≡ Answer.Length n) where
-    told : write_answer b (length form) ≡ Answer.Length n
+  module _ (n : ℕ) (e : w ≡ Ok n) where
+    told : write_answer b (length form) ≡ Ok n
     told = sym written.answer ∙ e
 
     -- What was written has so many bytes, and read gives the record for it.
@@ -59,11 +61,11 @@ module _ (b form form_after : List ℕ) (w : Answer) (written : WriteCall b form
     front-given = rw written.left (calls-give-back-records b _ (what-is-left-is-given.1 b form n told))
 
     -- Write answers a length: what was written is read again.
-    module _ (work work_after again again_after : List ℕ) (r : Answer) (call : ReadCall (take n form_after) work work_after again again_after r) where
+    module _ (work work_after again again_after : List ℕ) (r : Result ℕ (Fault Place)) (call : ReadCall (take n form_after) work work_after again again_after r) where
       short-text : length (take n form_after) ≤ 1048576
       short-text = ((read-gives-records (take n form_after) b).0 front-given).0
 
-      given-back : 4 * n + 64 ≤ length work → length b ≤ length again → (r ≡ Answer.Length (length b)) × (again_after ≡ b ++ drop (length b) again)
+      given-back : 4 * n + 64 ≤ length work → length b ≤ length again → (r ≡ Ok (length b)) × (again_after ≡ b ++ drop (length b) again)
       given-back enough room =
           let l = front-given (length work) again (omega (arith, front_length)) room in
           (call.answer ∙ l.counted, call.left ∙ left-whole b again _ _ l)
@@ -79,8 +81,8 @@ module _ (b form form_after : List ℕ) (w : Answer) (written : WriteCall b form
           let x = (read-refuses-in-order (take n form_after) (length work) (length again)).no_room.1 ((short-text, omega (arith, front_length)), (k.0, k.1, omega (arith, ap length k.2))) in
           rw call.left (kept-refused (take n form_after) (length work) again r 30 call.answer x)
 
-      same : (m : ℕ) → write_answer b (length form) ≡ Answer.Length m → n ≡ m
-      same m h = let both : Answer.Length n ≡ Answer.Length m = sym told ∙ h in cc
+      same : (m : ℕ) → write_answer b (length form) ≡ Ok m → n ≡ m
+      same m h = let both : Ok n ≡ Ok m = sym told ∙ h in cc
 
       pub read_again : WrittenAgain b work work_after form form_after again again_after r
       read_again =

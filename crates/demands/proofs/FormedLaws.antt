@@ -1,4 +1,5 @@
 -- A text read and its record written, and two of them compared, by what the calls answer and leave. Assumes nothing.
+use Rattle.std.specs.Prelude.{Ok, Err, Result}
 use Prim.Native.Nat.{ℕ, ◌≤◌}
 use Rattle.block.specs.Reading.{Reading}
 use Rattle.demands.specs.Compare.{answer_then, leaves_then, formed_answer, formed_leaves, Formed, HasRoom, FormRefused, not_read, form_long, no_room, FormCase, formed, refused}
@@ -16,8 +17,9 @@ use Rattle.record.specs.Demands.{Kept, Left}
 use Rattle.record.specs.Form.{form}
 use Rattle.record.specs.Spell.{spell}
 use Rattle.record.specs.Unspell.{unspell}
-use Rattle.record.specs.declared.Answer.{Answer}
 use Rattle.write.specs.Call.{WriteCall}
+use Rattle.lexer.specs.declared.Fault.{Fault}
+use Rattle.lexer.specs.Refusals.{fault}
 use borrow.Author.Tests.{leb-true, leb-false}
 use lib.Dec.{leb}
 use lib.ListN.{length, take}
@@ -27,19 +29,19 @@ use mathlib.Core.Path.{◌≡◌, refl, sym, ap, ◌∙◌}
 use native.Mathlib.Omega.{arith}
 
 -- The bytes of a length that read answers lie in the buffer.
-pub read-within : (text work work_after buffer after : List ℕ) (a : Answer) → ReadCall text work work_after buffer after a → (n : ℕ) → a ≡ Answer.Length n → n ≤ length after
+pub read-within : (text work work_after buffer after : List ℕ) (a : Result ℕ (Fault Place)) → ReadCall text work work_after buffer after a → (n : ℕ) → a ≡ Ok n → n ≤ length after
 read-within text work work_after buffer after a call n e =
     let k = buffers-are-kept.0 text (length work) buffer in
     let h = (k.answered n (sym call.answer ∙ e)).0 in
     rw call.left (omega (arith, k.room))
 
-module _ (text work work_after kept kept_after : List ℕ) (a : Answer) (call : ReadCall text work work_after kept kept_after a) (buffer : List ℕ) where
+module _ (text work work_after kept kept_after : List ℕ) (a : Result ℕ (Fault Place)) (call : ReadCall text work work_after kept kept_after a) (buffer : List ℕ) where
   -- Read answers a length, and the record that it left is written.
-  pub record-formed : (n : ℕ) → a ≡ Answer.Length n → (after : List ℕ) (r : Answer) → WriteCall (take n kept_after) buffer after r
+  pub record-formed : (n : ℕ) → a ≡ Ok n → (after : List ℕ) (r : Result ℕ (Fault Place)) → WriteCall (take n kept_after) buffer after r
       → Formed text work work_after kept kept_after buffer after r
   unfolding formed_answer formed_leaves answer_then leaves_then
   record-formed n e after r w =
-      let told : Answer.Length n ≡ read_answer text (length work) (length kept) = sym e ∙ call.answer in
+      let told : Ok n ≡ read_answer text (length work) (length kept) = sym e ∙ call.answer in
       record {
         answer = w.answer ∙ ap (λ x. write_answer (take n x) (length buffer)) call.left ∙ ap (λ x. answer_then x (read_leaves text (length work) kept) (length buffer)) told;
         left = w.left ∙ ap (λ x. write_leaves (take n x) buffer) call.left ∙ ap (λ x. leaves_then x (read_leaves text (length work) kept) buffer) told;
@@ -48,10 +50,10 @@ module _ (text work work_after kept kept_after : List ℕ) (a : Answer) (call : 
       }
 
   -- Read refuses the text, and nothing is written.
-  pub refusal-formed : (n : Refusal) (p : Place) → a ≡ Answer.Refused n p → Formed text work work_after kept kept_after buffer buffer (Answer.Refused n p)
+  pub refusal-formed : (n : Refusal) (p : Place) → a ≡ Err (fault n p) → Formed text work work_after kept kept_after buffer buffer (Err (fault n p))
   unfolding formed_answer formed_leaves answer_then leaves_then
   refusal-formed n p e =
-      let told : Answer.Refused n p ≡ read_answer text (length work) (length kept) = sym e ∙ call.answer in
+      let told : Err (fault n p) ≡ read_answer text (length work) (length kept) = sym e ∙ call.answer in
       record {
         answer = ap (λ x. answer_then x (read_leaves text (length work) kept) (length buffer)) told;
         left = ap (λ x. leaves_then x (read_leaves text (length work) kept) buffer) told;
@@ -60,18 +62,18 @@ module _ (text work work_after kept kept_after : List ℕ) (a : Answer) (call : 
       }
 
 -- A refusal leaves the buffer for the form as it was, and success touches only the form's bytes.
-then-kept : (a : Answer) (kept buffer : List ℕ) → Kept buffer (answer_then a kept (length buffer)) (leaves_then a kept buffer)
+then-kept : (a : Result ℕ (Fault Place)) (kept buffer : List ℕ) → Kept buffer (answer_then a kept (length buffer)) (leaves_then a kept buffer)
 unfolding answer_then leaves_then
-then-kept (Answer.Length n) kept buffer = buffers-are-kept.1 (take n kept) buffer
-then-kept (Answer.Refused m p) kept buffer = record { refused = λ n q e. refl; answered = λ n e. absurd (length-refused (sym e)); room = refl }
+then-kept (Ok n) kept buffer = buffers-are-kept.1 (take n kept) buffer
+then-kept (Err f) kept buffer = record { refused = λ n q e. refl; answered = λ n e. absurd (length-refused (sym e)); room = refl }
 
-module _ (text work work_after kept kept_after buffer after : List ℕ) (a : Answer) (f : Formed text work work_after kept kept_after buffer after a) where
+module _ (text work work_after kept kept_after buffer after : List ℕ) (a : Result ℕ (Fault Place)) (f : Formed text work work_after kept kept_after buffer after a) where
   pub formed-kept : Kept buffer a after
   unfolding formed_answer formed_leaves
   formed-kept = rw (f.answer, f.left) (then-kept (read_answer text (length work) (length kept)) (read_leaves text (length work) kept) buffer)
 
   -- The bytes of a length that is answered lie in the buffer.
-  pub formed-within : (n : ℕ) → a ≡ Answer.Length n → n ≤ length after
+  pub formed-within : (n : ℕ) → a ≡ Ok n → n ≤ length after
   formed-within n e = let h = (formed-kept.answered n e).0 in omega (arith, formed-kept.room)
 
   pub kept-room : length kept_after ≡ length kept
@@ -97,7 +99,7 @@ module _ (text work work_after kept kept_after buffer after : List ℕ) (a : Ans
       rw (f.answer, f.left, l.counted, l.result) w
 
   -- Which refusal is answered is a matter of the text and of lengths.
-  pub form-refused : (n : ℕ) (p : Place) → FormRefused text (length work) (length kept) (length buffer) n p → (why : Refusal) × (number why ≡ n) × (a ≡ Answer.Refused why p)
+  pub form-refused : (n : ℕ) (p : Place) → FormRefused text (length work) (length kept) (length buffer) n p → (why : Refusal) × (number why ≡ n) × (a ≡ Err (fault why p))
   unfolding formed_answer answer_then nowhere
   form-refused n p (not_read {why = why} e) = (why, refl, rw (f.answer, e))
   form-refused n p (form_long s h l) =
@@ -119,9 +121,9 @@ module _ (text : List ℕ) (work kept room : ℕ) where
       (λ u. refused 30 nowhere (no_room s h short (leb-false (length (form s)) room u))))
       (λ t. refused 32 nowhere (form_long s h (leb-false (length (form s)) 1048576 t)))
 
-  answer-case : (a : Answer) → read_answer text work kept ≡ a → FormCase text work kept room
-  answer-case (Answer.Refused n p) e = refused (number n) p (not_read e)
-  answer-case (Answer.Length n) e =
+  answer-case : (a : Result ℕ (Fault Place)) → read_answer text work kept ≡ a → FormCase text work kept room
+  answer-case (Err f) e = refused (number f.0) f.1 (not_read e)
+  answer-case (Ok n) e =
       let k = ((read-refuses-in-order text work kept).answers n).0 e in
       record-case k.2.0 (k.1, k.2.1, omega (arith, k.0, k.2.2))
 

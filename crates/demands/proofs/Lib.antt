@@ -4,6 +4,5 @@ mod DataCommands
 mod DeclaredOnce
 mod MatrixStays
 mod RightLaws
-mod CompareLaws
 mod FormedLaws
 mod ApartLaws

@@ -1,4 +1,5 @@
 -- What read answers and leaves, case by case, and what the reading of a text is. Assumes nothing.
+use Rattle.std.specs.Prelude.{Err, Result}
 use Prim.Native.Nat.{ℕ, ◌+◌, ◌*◌, ◌≤◌}
 use Rattle.block.proofs.MatrixParts.{rows-keep}
 use Rattle.block.proofs.OutcomeLaws.{All, all-member}
@@ -16,6 +17,7 @@ use Rattle.demands.specs.Right.{RightReading, LeftOpen, TokensRefused, HasRecord
 use Rattle.lexer.proofs.Basics.{by-test, and_left, and_right}
 use Rattle.lexer.specs.Base.{is_empty}
 use Rattle.lexer.specs.Places.{place, nowhere}
+use Rattle.lexer.specs.Refusals as Refusals
 use Rattle.lexer.specs.Refusals.{number}
 use Rattle.lexer.specs.Utf8.{utf8}
 use Rattle.lexer.specs.declared.Place.{Place}
@@ -25,7 +27,7 @@ use Rattle.record.proofs.Demands.{buffers-are-kept, every-reading-is-sound, faul
 use Rattle.record.specs.Calls.{read_answer}
 use Rattle.record.specs.Demands.{Reads, ReadRefuses, Refuses, Taken}
 use Rattle.record.specs.Spell.{spell}
-use Rattle.record.specs.declared.Answer.{Answer}
+use Rattle.lexer.specs.declared.Fault.{Fault}
 use borrow.Author.Tests.{eqb-true, leb-true, leb-false}
 use lib.Dec.{eqb, leb}
 use lib.ListN.{length}
@@ -135,11 +137,11 @@ module _ (text : List ℕ) (work room : ℕ) where
       (λ t. Right.too_long (leb-false (length text) 1048576 t))
 
 -- What is answered and left
-module _ (text work work_after buffer after : List ℕ) (r : Answer) (call : ReadCall text work work_after buffer after r) where
+module _ (text work work_after buffer after : List ℕ) (r : Result ℕ (Fault Place)) (call : ReadCall text work work_after buffer after r) where
   refusals : ReadRefuses text (length work) (length buffer)
   refusals = read-refuses-in-order text (length work) (length buffer)
 
-  refused-so : (n : ℕ) (p : Place) (why : Refusal) → number why ≡ n → read_answer text (length work) (length buffer) ≡ Answer.Refused why p → RefusedSo n p buffer after r
+  refused-so : (n : ℕ) (p : Place) (why : Refusal) → number why ≡ n → read_answer text (length work) (length buffer) ≡ Err (Refusals.fault why p) → RefusedSo n p buffer after r
   refused-so n p why same e =
       record {
         why = why;

@@ -1,5 +1,5 @@
 -- Demand 2 about the read call: for every text, work memory and buffer, what it answers and leaves.
-use Rattle.std.specs.Prelude.{ℕ, ◌+◌, ◌*◌, ◌≤◌, ◌<◌, length, drop, true, false, ◌≡◌}
+use Rattle.std.specs.Prelude.{ℕ, ◌+◌, ◌*◌, ◌≤◌, ◌<◌, length, drop, true, false, ◌≡◌, Ok, Err, Result}
 use Rattle.block.specs.Blocks.{Data, in_data, State, at_start, step}
 use Rattle.block.specs.Commands.{Command, command, words}
 use Rattle.block.specs.Dimensions.{dimensions}
@@ -15,6 +15,7 @@ use Rattle.block.specs.TaxonOrder.{commands_of, all_named, MatrixOf, Follows}
 use Rattle.block.specs.declared.dimension.Dimensions.{Dimensions}
 use Rattle.lexer.specs.Base.{bytes}
 use Rattle.lexer.specs.Places.{place, nowhere}
+use Rattle.lexer.specs.Refusals as Refusals
 use Rattle.lexer.specs.Refusals.{number}
 use Rattle.lexer.specs.Tokens.{tokens, left_open}
 use Rattle.lexer.specs.Utf8.{utf8}
@@ -24,9 +25,9 @@ use Rattle.lexer.specs.declared.refusal.Refusal.{Refusal}
 use Rattle.record.specs.Demands.{Reads, Taken}
 use Rattle.record.specs.Spell.{spell}
 use Rattle.record.specs.Unspell.{unspell}
-use Rattle.record.specs.declared.Answer.{Answer}
 use mathlib.Core.List.{List, ◌∷◌, ◌++◌, Memᴰ}
 use Rattle.std.proofs.Math.Option.{some}
+use Rattle.lexer.specs.declared.Fault.{Fault}
 
 -- A command among these with this first word: the commands before it lead to the data block whose name has this index.
 pub record StandsIn (cs : List Command) (block : ℕ) (keyword : List ℕ) : Type 0 where
@@ -131,20 +132,20 @@ case_number (tokens_refused n p h) = number n
 case_number (no_room s h) = 30
 case_number (recorded s h) = 0
 
-unfoldable pub answer_number : Answer → ℕ
-answer_number (Answer.Length n) = 0
-answer_number (Answer.Refused n p) = number n
+unfoldable pub answer_number : Result ℕ (Fault Place) → ℕ
+answer_number (Ok n) = 0
+answer_number (Err f) = number f.0
 
 -- The answer is a refusal with this number, at this place, and the buffer is as it was.
-pub record RefusedSo (n : ℕ) (p : Place) (buffer after : List ℕ) (r : Answer) : Type 0 where
+pub record RefusedSo (n : ℕ) (p : Place) (buffer after : List ℕ) (r : Result ℕ (Fault Place)) : Type 0 where
   pub why : Refusal
   pub numbered : number why ≡ n
-  pub answer : r ≡ Answer.Refused why p
+  pub answer : r ≡ Err (Refusals.fault why p)
   pub untouched : after ≡ buffer
 
 -- The answer is the length of the record of a reading, the buffer begins with the record, and behind it is as it was.
-pub record RecordedSo (text : List ℕ) (s : Reading) (buffer after : List ℕ) (r : Answer) : Type 0 where
-  pub answer : r ≡ Answer.Length (length (spell s))
+pub record RecordedSo (text : List ℕ) (s : Reading) (buffer after : List ℕ) (r : Result ℕ (Fault Place)) : Type 0 where
+  pub answer : r ≡ Ok (length (spell s))
   pub left : after ≡ spell s ++ drop (length (spell s)) buffer
   -- the record reads back as this reading, and so as no other
   pub back : unspell (spell s) ≡ some s
@@ -153,7 +154,7 @@ pub record RecordedSo (text : List ℕ) (s : Reading) (buffer after : List ℕ) 
 
 -- A text, work memory and a buffer are lent; work memory is then `work_after`, the buffer `after`, and the answer is `r`. `nowhere` is line 0,
 -- column 0.
-pub record RightlyRead (text work work_after buffer after : List ℕ) (r : Answer) : Type 0 where
+pub record RightlyRead (text work work_after buffer after : List ℕ) (r : Result ℕ (Fault Place)) : Type 0 where
   -- one of the cases applies, and whichever does has the answer's number: so no two do, and a number is answered in its own case alone
   pub decided : ReadCase text (length work) (length buffer)
   pub alone : (x : ReadCase text (length work) (length buffer)) → answer_number r ≡ case_number x

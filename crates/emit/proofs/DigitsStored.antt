@@ -15,7 +15,7 @@ use native.Mathlib.Nat.{one-le-pow, pow-suc}
 use native.Mathlib.Omega.{arith}
 
 -- A number of one digit; and one of more has one digit more than its tenth.
-digits-one : (n : ℕ) → n < 10 → length (decimal n) ≡ 1
+pub digits-one : (n : ℕ) → n < 10 → length (decimal n) ≡ 1
 digits-one n h = ap length (decimal-one n h)
 
 pub one-digit : (n : ℕ) (behind : List ℕ) → n < 10 → digit n ∷ behind ≡ decimal n ++ behind
@@ -49,17 +49,6 @@ digits_between (suc k) n low high =
 -- Each number has a digit.
 digits-some : (n : ℕ) → 1 ≤ length (decimal n)
 digits-some n = by-test (ltb n 10) (λ t. omega (arith, digits-one n (ltb-true n 10 t))) (λ f. omega (arith, digits-next n (ltb-false n 10 f)))
-
--- Digits were counted, and those of the rest of the number are to be.
-pub record Counted (value rest count : ℕ) : Type 0 where
-  pub few : count + rest ≤ value + 1
-  pub sum : length (decimal rest) + count ≡ length (decimal value) + 1
-
-pub counted-turn : (value rest count : ℕ) → Counted value rest count → 10 ≤ rest → Counted value (rest / 10) (count + 1)
-counted-turn value rest count d h = record { few = omega arith; sum = omega (arith, digits-next rest h) }
-
-pub counted-end : (value rest count : ℕ) → Counted value rest count → rest < 10 → count ≡ length (decimal value)
-counted-end value rest count d h = omega (arith, digits-one rest h)
 
 -- The last two digits of a number are those of its rest by a hundred.
 pub pair-last : (n : ℕ) → digit (n % 100) ≡ digit n
@@ -136,8 +125,8 @@ module _ (before : List ℕ) (n value : ℕ) (buffer : List ℕ) (rest at : ℕ)
 
 -- The digits of a number are put once they are stored, and are twenty at most.
 pub digits-put : (before : List ℕ) (n value : ℕ) (after : List ℕ) (count : ℕ) → value < 2 ^ 64 → after ≡ sets before n (decimal value) → count ≡ length (decimal value)
-    → Puts before n (λ behind. decimal value ++ behind) after (n + count) × (n + count ≤ n + 20)
-digits-put before n value after count fits e k = (rw (e, k) (puts-run before n (decimal value)), omega (arith, digits-most 19 value (omega arith)))
+    → record { puts : Puts before n (λ behind. decimal value ++ behind) after (n + count); upper_bound : n + count ≤ n + 20 }
+digits-put before n value after count fits e k = record { puts = rw (e, k) (puts-run before n (decimal value)); upper_bound = omega (arith, digits-most 19 value (omega arith)) }
 
 -- Digits that were put into a scratch of twenty bytes stand at its front.
 pub digits-front : (scratch after : List ℕ) (value end : ℕ) → value < 2 ^ 64 → length scratch ≡ 20 → Puts scratch 0 (λ behind. decimal value ++ behind) after end

@@ -3,11 +3,13 @@
 use Prim.Native.Nat.{ℕ, suc, ◌+◌, ◌-◌, ◌^◌, ◌≤◌, ◌<◌, min}
 use Rattle.emit.specs.Puts.{Puts, last_place, puts}
 use Rattle.lexer.proofs.Basics.{by-test}
+use borrow.Rule.Slice.PartMut.{put_mid}
 use borrow.Author.Tests.{le-leb, leb-false, leb-true, lt-leb}
+use Rattle.std.proofs.lemmas.List.{drop-drop}
 use lib.Dec.{leb}
 use lib.ListN.{length, get_or, take, drop, set, length-append, length-set}
 use lib.Seq.{append_snoc, set_comm, set_out, sets, sets-eq, take_all, take-suc}
-use mathlib.Core.List.{List, [], ◌∷◌, ◌++◌}
+use mathlib.Core.List.{List, [], ◌∷◌, ◌++◌, append_assoc}
 use mathlib.Core.Path.{◌≡◌, refl, sym, ap, ◌∙◌}
 use native.Mathlib.Nat.{add-zero, zero-add}
 use native.Mathlib.Numerals.{add-one}
@@ -63,14 +65,11 @@ module _ (buffer : List ℕ) (n b : ℕ) where
         kept = length-set buffer n b;
       }
 
-  pub byte_past : length buffer ≤ n → Puts buffer n (λ behind. b ∷ behind) buffer (n + 1)
-  byte_past h = rw (set_out buffer n b h) at byte-written
-
-  pub byte_last : length buffer ≤ n → 2 ^ 64 - 1 ≤ n → Puts buffer n (λ behind. b ∷ behind) buffer n
+  pub byte_past : length buffer ≤ n → n < 2 ^ 64 → Puts buffer n (λ behind. b ∷ behind) buffer (min (n + 1) (2 ^ 64 - 1))
   unfolding last_place
-  byte_last h last =
+  byte_past h small =
       record {
-        written = λ behind. puts-out buffer n (b ∷ behind) h ∙ sym (puts-out buffer n behind h);
+        written = λ behind. puts-out buffer n (b ∷ behind) h ∙ sym (puts-out buffer (min (n + 1) (2 ^ 64 - 1)) behind (omega arith));
         reached = λ behind. omega arith;
         kept = refl;
       }
@@ -83,13 +82,6 @@ module _ (l : List ℕ) (i : ℕ) {a b : List ℕ} {n m : ℕ} (f : Puts a n (λ
   pub puts-all : length l ≤ i → Puts a n (λ behind. l ++ behind) b m
   puts-all h = rw (take_all i l h) at f
 
--- So many bytes of a list are stored from a place on, then one more.
-pub puts-stored : (l : List ℕ) (i : ℕ) {a b : List ℕ} {n : ℕ} → Puts a n (λ behind. take i l ++ behind) b (n + i) → i < length l
-    → Puts a n (λ behind. take (i + 1) l ++ behind) (set b (n + i) (get_or l i 0)) (n + (i + 1))
-puts-stored l i {b = b} {n} f h =
-    let next : n + i + 1 ≡ n + (i + 1) = omega arith in
-    rw next at (puts-more l i f h (byte-written b (n + i) (get_or l i 0)))
-
 -- A store in front of a run of stores may come before it.
 pub set-sets : (l : List ℕ) (i j v : ℕ) (vs : List ℕ) → i < j → set (sets l j vs) i v ≡ sets (set l i v) j vs
 set-sets l i j v [] h = refl
@@ -101,6 +93,15 @@ puts-run buffer n [] = rw add-zero puts_none
 puts-run buffer n (b ∷ l) =
     let next : n + 1 + length l ≡ n + suc (length l) = omega arith in
     rw (next, add-one n) at (puts_then (byte-written buffer n b) (puts-run (set buffer n b) (n + 1) l))
+
+-- A list of bytes is put by a copy of it into the part of the buffer that it fills.
+pub puts-copied : (buffer : List ℕ) (n k : ℕ) (l part : List ℕ) → n + length l ≤ length buffer → k ≡ length l → part ≡ l
+    → Puts buffer n (λ behind. l ++ behind) (put_mid n k buffer part) (n + length l)
+puts-copied buffer n k l part room long same =
+    let stored : put_mid n k buffer part ≡ sets buffer n l =
+    rw (same, long) (ap (λ r. take n buffer ++ (l ++ r)) (drop-drop (length l) n buffer) ∙ sym (sets-eq l buffer n room ∙ append_assoc (take n buffer) l (drop (n + length l) buffer)))
+    in
+    rw stored (puts-run buffer n l)
 
 pub puts-sets : (buffer : List ℕ) (at : ℕ) (l : List ℕ) → puts buffer at l ≡ sets buffer at l
 unfolding puts

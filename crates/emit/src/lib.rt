@@ -15,30 +15,21 @@ pub fn put(buffer: &mut [u8], n: usize, b: u8) -> usize
         buffer[n] = b;
         return n + 1;
     }
-    if n < 18446744073709551615 {
-        return n + 1;
-    }
-    n
+    n.saturating_add(1)
 }
 
 // The place that is so many bytes further on; behind the largest place there is none, and it answers that place.
 pub fn further(n: usize, count: usize) -> usize
     ensures { (result ≡ min last_place (n + count)) × (n ≤ result) }
 {
-    if count <= 18446744073709551615 - n {
-        return n + count;
-    }
-    18446744073709551615
+    n.saturating_add(count)
 }
 
 // Is there room for so many bytes from a place on, in a buffer of this size?
 pub fn has_room(size: usize, n: usize, count: usize) -> bool
     ensures { result ≡ leb (n + count) size }
 {
-    if size < n {
-        return false;
-    }
-    count <= size - n
+    n <= size && count <= size - n
 }
 
 // Puts bytes that all have room.
@@ -47,12 +38,9 @@ pub fn put_whole(buffer: &mut [u8], n: usize, bytes: &[u8]) -> usize
     ensures puts { Puts buffer.old n (λ behind. bytes.now ++ behind) buffer.new result }
     ensures value { result ≡ n + length bytes.now }
 {
-    let mut i = 0;
-    while i < bytes.len() {
-        buffer[n + i] = bytes[i];
-        i += 1;
-    }
-    n + i
+    let end = n + bytes.len();
+    buffer[n..end].copy_from_slice(bytes);
+    end
 }
 
 // Puts bytes one by one, of which some may have no room.
@@ -60,10 +48,8 @@ fn put_some(buffer: &mut [u8], n: usize, bytes: &[u8]) -> usize
     ensures { Puts buffer.old n (λ behind. bytes.now ++ behind) buffer.new result }
 {
     let mut at = n;
-    let mut i = 0;
-    while i < bytes.len() {
-        at = put(buffer, at, bytes[i]);
-        i += 1;
+    for &b in bytes {
+        at = put(buffer, at, b);
     }
     at
 }
@@ -85,42 +71,17 @@ pub fn put_all(buffer: &mut [u8], n: usize, bytes: &[u8]) -> usize
 fn last_digit(value: u64) -> u8
     ensures { result ≡ digit value }
 {
-    48 + (value % 10) as u8
+    b'0' + (value % 10) as u8
 }
 
-// Counts the digits of any number.
-fn count_digits(value: u64) -> usize
-    ensures { result ≡ length (decimal value) }
-{
-    let mut rest = value;
-    let mut count: usize = 1;
-    while 10 <= rest {
-        rest = rest / 10;
-        count += 1;
-    }
-    count
-}
-
-// Counts the digits of a number. Most numbers are small, so these are tried first.
+// Counts the digits of a number.
 pub fn digits_of(value: u64) -> usize
     ensures { result ≡ length (decimal value) }
 {
-    if value < 1000 {
-        return count_digits(value);
+    if value == 0 {
+        return 1;
     }
-    if value < 10000 {
-        return 4;
-    }
-    if value < 100000 {
-        return 5;
-    }
-    if value < 1000000 {
-        return 6;
-    }
-    if value < 10000000 {
-        return 7;
-    }
-    count_digits(value)
+    value.ilog10() as usize + 1
 }
 
 // Stores the last two digits of a number in front of a place.
@@ -144,7 +105,7 @@ pub fn put_digits(buffer: &mut [u8], n: usize, value: u64) -> usize
     let mut at = end;
     while 100 <= rest {
         store_pair(buffer, at, rest);
-        rest = rest / 100;
+        rest /= 100;
         at -= 2;
     }
     if rest < 10 {

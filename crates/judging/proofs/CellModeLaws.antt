@@ -1,12 +1,12 @@
 -- Steps of the modes in which cells are read, and runs of steps. Assumes nothing.
+use Rattle.std.specs.Prelude.{Some, None}
 use Prim.Native.Nat.{ℕ, ◌+◌, ◌*◌, ◌-◌, ◌≤◌, ◌<◌}
 use Rattle.judging.specs.CellModes.{begun, is_digit, ends, grown, next, row_end, run, step, step_index, within}
-use Rattle.judging.specs.declared.cells.Cells.{Cells}
 use Rattle.judging.specs.declared.cells.Mode.{Mode}
-use Rattle.lexer.proofs.Basics.{and_both, and-false, and_left, by-test}
+use Rattle.lexer.proofs.Basics.{and_both, and-false, by-test}
 use Rattle.lexer.specs.Base.{pick}
-use borrow.Author.Tests.{eq-eqb, eqb-false, eqb-true, le-leb, le-ltb, leb-true, lt-ltb, ne_eqb}
-use lib.Dec.{eqb, leb}
+use borrow.Author.Tests.{eq-eqb, eqb-false, eqb-true, le-leb, le-ltb, lt-ltb, ne_eqb}
+use lib.Dec.{eqb}
 use mathlib.Core.Bool.{Bool, true, false, false≢true, ◌&&◌}
 use mathlib.Core.List.{List, [], ◌∷◌, ◌++◌}
 use mathlib.Core.Path.{◌≡◌, refl, sym, ap, ◌∙◌}
@@ -23,6 +23,25 @@ pub run-then : (count : ℕ) (m : Mode) (a : List ℕ) (b : ℕ) (r : List ℕ) 
 unfolding run
 run-then count m a b r = run-append count m a (b ∷ r)
 
+-- Where neither an index nor `m` or `g` was read, no cell may end.
+pub ends-other : (m : Mode) → ((set : Bool) (low n : ℕ) → m ≡ Mode.Index set low n → ⊥) → (m ≡ Mode.Whole → ⊥) → ends m ≡ false
+unfolding ends
+ends-other Mode.Fresh i w = refl
+ends-other (Mode.Opened low) i w = refl
+ends-other (Mode.Index set low n) i w = absurd (i set low n refl)
+ends-other Mode.Whole i w = absurd (w refl)
+ends-other Mode.Wrong i w = refl
+
+-- Behind `m` or `g` no byte but a blank may stand, and none where no cell began.
+pub within-other : (count b : ℕ) (m : Mode) → (m ≡ Mode.Fresh → ⊥) → ((low : ℕ) → m ≡ Mode.Opened low → ⊥)
+    → ((set : Bool) (low n : ℕ) → m ≡ Mode.Index set low n → ⊥) → within count m b ≡ Mode.Wrong
+unfolding within
+within-other count b Mode.Fresh f o i = absurd (f refl)
+within-other count b (Mode.Opened low) f o i = absurd (o low refl)
+within-other count b (Mode.Index set low n) f o i = absurd (i set low n refl)
+within-other count b Mode.Whole f o i = refl
+within-other count b Mode.Wrong f o i = refl
+
 -- From a wrong mode no step and no run leads away.
 step-wrong : (count b : ℕ) → step count Mode.Wrong b ≡ Mode.Wrong
 unfolding step next ends within pick
@@ -33,14 +52,10 @@ unfolding run
 run-wrong count [] = refl
 run-wrong count (b ∷ t) = rw (step-wrong count b) (run-wrong count t)
 
--- What is at most 9 above `0` is a digit, and a digit is not below it.
+-- What is at most 9 above `0` is a digit.
 pub digit-byte : (d : ℕ) → d < 10 → is_digit (48 + d) ≡ true
 unfolding is_digit
 digit-byte d h = and_both (le-leb 48 (48 + d) (omega arith)) (le-leb (48 + d) 57 (omega arith))
-
-pub digit_low : (b : ℕ) → is_digit b ≡ true → 48 ≤ b
-unfolding is_digit
-digit_low b h = leb-true 48 b (and_left _ (leb b 57) h)
 
 -- Nothing above `0` is a byte below it.
 pub digit-other : (d x : ℕ) → x < 48 → eqb (48 + d) x ≡ false
@@ -94,7 +109,7 @@ module _ (count : ℕ) where
 
 -- What a row is judged to be, where the count of characters less 1 is compared: no row has no cells.
 module _ (end : ℕ) (m : Mode) (blanks : ℕ) (gap : Bool) (characters : ℕ) where
-  pub row-end-none : characters ≡ 0 → row_end end m blanks gap characters ≡ Cells.Wrong
+  pub row-end-none : characters ≡ 0 → row_end end m blanks gap characters ≡ None
   unfolding row_end pick
   row-end-none none = rw (ne_eqb (blanks + 1) characters (λ e. omega arith), and-false (ends m))
 
@@ -103,6 +118,6 @@ module _ (end : ℕ) (m : Mode) (blanks : ℕ) (gap : Bool) (characters : ℕ) w
       by-test (eqb (characters - 1) blanks) (λ t. eq-eqb (blanks + 1) characters (omega (arith, some, eqb-true (characters - 1) blanks t)) ∙ sym t)
       (λ f. let other = eqb-false (characters - 1) blanks f in ne_eqb (blanks + 1) characters (λ e. other (omega arith)) ∙ sym f)
 
-  pub row-end-some : (characters ≡ 0 → ⊥) → (e t : Bool) → e ≡ ends m → e && eqb (characters - 1) blanks ≡ t → row_end end m blanks gap characters ≡ pick t (Cells.Behind end gap) Cells.Wrong
+  pub row-end-some : (characters ≡ 0 → ⊥) → (e t : Bool) → e ≡ ends m → e && eqb (characters - 1) blanks ≡ t → row_end end m blanks gap characters ≡ pick t (Some (end, gap)) None
   unfolding row_end
   row-end-some some e t same test = rw (fewer-same some, ← same, test)

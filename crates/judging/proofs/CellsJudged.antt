@@ -1,4 +1,6 @@
 -- A walk over the bytes of a row, and what it tells where it ends. Assumes nothing.
+use Rattle.std.specs.Prelude.{Some, None, Option}
+use Rattle.std.proofs.lemmas.Option.{some_pair_parts}
 use Prim.Native.Nat.{ℕ, ◌+◌, ◌≤◌, ◌<◌}
 use Rattle.block.specs.Cell.{Cell}
 use Rattle.block.specs.Sound.{gap_among, sound_cells}
@@ -8,7 +10,6 @@ use Rattle.judging.proofs.CellsFit.{row_read}
 use Rattle.judging.proofs.CellsRun.{cells-end}
 use Rattle.judging.specs.CellModes.{Moves, Whole, blanks, ends, row_end, run, step}
 use Rattle.judging.specs.CellsJudged.{CellsJudged, CellsStand}
-use Rattle.judging.specs.declared.cells.Cells.{Cells}
 use Rattle.judging.specs.declared.cells.Mode.{Mode}
 use Rattle.judging.specs.declared.cells.Walk.{Walk}
 use Rattle.lexer.proofs.Basics.{among-append, and_both, and_left, and_right, by-test, eqb-sym, not-both, or_assoc, or-both, or-false, or_left, or_right, or-second, pick_first}
@@ -98,15 +99,15 @@ unfolding among
 line-ended p r = among-append 10 p (10 ∷ r) ∙ or-second (among 10 p) (among 10 (10 ∷ r)) refl
 
 -- An end that is told is the one that was met.
-end-told : (t : Bool) (x : ℕ) (h : Bool) (j : ℕ) (g : Bool) → pick t (Cells.Behind x h) Cells.Wrong ≡ Cells.Behind j g → (t ≡ true) × (x ≡ j) × (h ≡ g)
+end-told : (t : Bool) (x : ℕ) (h : Bool) (j : ℕ) (g : Bool) → pick {X = Option (ℕ × Bool)} t (Some (x, h)) None ≡ Some (j, g) → (t ≡ true) × (x ≡ j) × (h ≡ g)
 unfolding pick
-end-told true x h j g e = (refl, (cc), (cc))
+end-told true x h j g e = let p = some_pair_parts _ _ _ _ e in (refl, p.0, p.1)
 end-told false x h j g e = let z : ◌≡◌ {A = ℕ} 0 1 = cc in absurd (omega arith)
 
 module _ (b : List ℕ) (i characters count : ℕ) (w : Walk) (m : Moves b count (row_begun i) w) where
   -- Where an LF stands, the row ends.
   module _ (lf : drop w.at b ≡ 10 ∷ drop (w.at + 1) b) where
-    row-found : (j : ℕ) (g : Bool) → row_end (w.at + 1) w.mode w.blanks w.gap characters ≡ Cells.Behind j g → CellsStand b i characters count j g
+    row-found : (j : ℕ) (g : Bool) → row_end (w.at + 1) w.mode w.blanks w.gap characters ≡ Some (j, g) → CellsStand b i characters count j g
     unfolding row_end
     row-found j g e =
         let t = end-told _ _ _ _ _ e in
@@ -125,7 +126,7 @@ module _ (b : List ℕ) (i characters count : ℕ) (w : Walk) (m : Moves b count
 
     row-all : (cells : List Cell) (rest : List ℕ) → sound_cells count cells ≡ true → length cells ≡ characters → 1 ≤ characters
         → drop i b ≡ spell_cells cells ++ (10 ∷ rest)
-        → row_end (w.at + 1) w.mode w.blanks w.gap characters ≡ Cells.Behind (i + length (spell_cells cells) + 1) (gap_among cells)
+        → row_end (w.at + 1) w.mode w.blanks w.gap characters ≡ Some ((i + length (spell_cells cells) + 1), (gap_among cells))
     unfolding row_end
     row-all [] rest s n some e = absurd (omega arith)
     row-all (c ∷ r) rest s n some e =
@@ -134,15 +135,15 @@ module _ (b : List ℕ) (i characters count : ℕ) (w : Walk) (m : Moves b count
         let many : w.blanks + 1 ≡ characters = omega (arith, m.blanks, ap blanks same, cells-blanks c r, n) in
         let place : w.at + 1 ≡ i + length (spell_cells (c ∷ r)) + 1 = omega (arith, m.ahead, ap length same) in
         let gaps : w.gap ≡ gap_among (c ∷ r) = m.gap ∙ ap (among 103) same ∙ cells-gap (c ∷ r) in
-        pick_first _ _ _ (and_both ended (eq-eqb (w.blanks + 1) characters many)) ∙ ap (λ k. Cells.Behind k w.gap) place ∙ ap (λ g. Cells.Behind (i + length (spell_cells (c ∷ r)) + 1) g) gaps
+        pick_first _ _ _ (and_both ended (eq-eqb (w.blanks + 1) characters many)) ∙ ap (λ k. Some (k, w.gap)) place ∙ ap (λ g. Some ((i + length (spell_cells (c ∷ r)) + 1), g)) gaps
 
-  pub judged-row : w.at < length b → get_or b w.at 0 ≡ 10 → (r : Cells) → r ≡ row_end (w.at + 1) w.mode w.blanks w.gap characters → CellsJudged b i characters count r
+  pub judged-row : w.at < length b → get_or b w.at 0 ≡ 10 → (r : Option (ℕ × Bool)) → r ≡ row_end (w.at + 1) w.mode w.blanks w.gap characters → CellsJudged b i characters count r
   judged-row inside here r e =
       let lf : drop w.at b ≡ 10 ∷ drop (w.at + 1) b = drop-next b w.at inside ∙ ap (λ x. x ∷ drop (w.at + 1) b) here in
       record { found = λ j g f. row-found lf j g (sym e ∙ f); all = λ cells rest s n some f. e ∙ row-all lf cells rest s n some f }
 
   -- Without an LF there is no row.
-  pub judged-none : length b ≤ w.at → CellsJudged b i characters count Cells.Wrong
+  pub judged-none : length b ≤ w.at → CellsJudged b i characters count None
   judged-none past =
       record {
         found = λ j g e. let z : ◌≡◌ {A = ℕ} 0 1 = cc in absurd (omega arith);

@@ -1,4 +1,5 @@
 -- The characters of a record: what judging their lines tells of each, and of all. Assumes nothing.
+use Rattle.std.specs.Prelude.{Some, None, Option}
 use Prim.Native.Nat.{ℕ, suc, ◌+◌, ◌-◌, ◌≤◌, ◌<◌}
 use Rattle.block.specs.Blocks.{is_ordered}
 use Rattle.block.specs.Reading.{Character}
@@ -10,10 +11,6 @@ use Rattle.judging.proofs.TellLaws.{no_end, tells_as, tells-no-first, tells_none
 use Rattle.judging.specs.Lists.{Listed, spelled_all}
 use Rattle.judging.specs.Parts.{CharacterGood, CharacterTold, CharactersTold, CountedTold, Few, KeyedNumber, LabelTold, LinesTold, NumberTold, OrderTold, StatesGood, StatesTold, Tail, TailTold, character_marks, join_marks, no_marks, spell_counted, spell_lines, spell_one, spell_state, spell_tail, tail_marks}
 use Rattle.judging.specs.Tells.{Marks, Part, nothing, until, Tells, behind_of, characters_of, flag_of, number_of}
-use Rattle.judging.specs.declared.Behind.{Behind}
-use Rattle.judging.specs.declared.characters.Characters.{Characters}
-use Rattle.judging.specs.declared.characters.Flag.{Flag}
-use Rattle.judging.specs.declared.numbers.Number.{Number}
 use Rattle.lexer.specs.Base.{bytes, is_empty}
 use Rattle.record.specs.Decimal.{decimal}
 use Rattle.record.specs.Form.{any_label}
@@ -27,7 +24,7 @@ use mathlib.Core.Path.{◌≡◌, refl, sym, subst}
 use native.Mathlib.Omega.{arith}
 
 -- State labels behind their count.
-module _ (b : List ℕ) (i most : ℕ) (small : most ≤ 1048576) (r : Number) (judged : KeyedNumber b i (bytes "states=") r) where
+module _ (b : List ℕ) (i most : ℕ) (small : most ≤ 1048576) (r : Option (ℕ × ℕ)) (judged : KeyedNumber b i (bytes "states=") r) where
   abbrev FewOf : ℕ → List (List ℕ) → Type 0
   FewOf n ss = Listed StatesGood 1 n ss × (n ≤ most)
 
@@ -48,14 +45,14 @@ module _ (b : List ℕ) (i most : ℕ) (small : most ≤ 1048576) (r : Number) (
       (λ p g. refl)
       (λ ss g. ((length ss, ss), (omega (arith, g.few), (record { count = refl; each = g.each }, g.few)), refl))
 
-  behind-count : (n j : ℕ) → r ≡ Number.At n j → (s : Part Bool) → Tells b j (FewOf n) (spelled_all spell_state 1) is_some s → Tells b i (Few most) spell_counted is_some s
+  behind-count : (n j : ℕ) → r ≡ Some (n, j) → (s : Part Bool) → Tells b j (FewOf n) (spelled_all spell_state 1) is_some s → Tells b i (Few most) spell_counted is_some s
   unfolding number_of
   behind-count n j here s told =
       as-counted s
       (tells-then b i (λ v. v ≤ 1048576) counted (λ v. v) FewOf (λ v. spelled_all spell_state 1) (λ v. is_some) j n s (subst (λ a. KeyedNumber b i (bytes "states=") a) here judged) told)
 
   -- There are too many.
-  pub states-many : (n j : ℕ) → r ≡ Number.At n j → most < n → CountedTold b i most Flag.Wrong
+  pub states-many : (n j : ℕ) → r ≡ Some (n, j) → most < n → CountedTold b i most None
   unfolding flag_of
   states-many n j here many = behind-count n j here nothing (tells_none b j _ _ _ (λ ss rest g e. omega (arith, g.1)))
 
@@ -65,8 +62,8 @@ module _ (b : List ℕ) (i most : ℕ) (small : most ≤ 1048576) (r : Number) (
   there n [] e = rw (sym e) refl
   there n (s ∷ ss) e = sym (lt-ltb 0 n (omega (arith, e)))
 
-  pub states-counted : (n j : ℕ) → r ≡ Number.At n j → n ≤ most → (s : Behind) → StatesTold b j n s → (k : ℕ) → s ≡ Behind.At k
-      → CountedTold b i most (Flag.At k (ltb 0 n))
+  pub states-counted : (n j : ℕ) → r ≡ Some (n, j) → n ≤ most → (s : Option ℕ) → StatesTold b j n s → (k : ℕ) → s ≡ Some k
+      → CountedTold b i most (Some (k, (ltb 0 n)))
   unfolding flag_of behind_of
   states-counted n j here few s told k end =
       behind-count n j here (until k (ltb 0 n))
@@ -74,21 +71,21 @@ module _ (b : List ℕ) (i most : ℕ) (small : most ≤ 1048576) (r : Number) (
       (subst (λ a. StatesTold b j n a) end told))
 
   -- Fewer stand there.
-  pub states-fewer : (n j : ℕ) → r ≡ Number.At n j → (s : Behind) → StatesTold b j n s → s ≡ Behind.Wrong → CountedTold b i most Flag.Wrong
+  pub states-fewer : (n j : ℕ) → r ≡ Some (n, j) → (s : Option ℕ) → StatesTold b j n s → s ≡ None → CountedTold b i most None
   unfolding flag_of behind_of
   states-fewer n j here s told none =
       behind-count n j here nothing
       (tells_none b j _ _ _ (λ ss rest g e. no_end ((subst (λ a. StatesTold b j n a) none told).all ss rest g.0 e)))
 
   -- No count stands there.
-  pub states-uncounted : r ≡ Number.Wrong → CountedTold b i most Flag.Wrong
+  pub states-uncounted : r ≡ None → CountedTold b i most None
   unfolding flag_of number_of
   states-uncounted none =
       as-counted nothing
       (tells-no-first b i (λ v. v ≤ 1048576) counted (λ v. v) FewOf (λ v. spelled_all spell_state 1) (λ v. is_some) (subst (λ a. KeyedNumber b i (bytes "states=") a) none judged))
 
 -- The type and the state labels.
-module _ (b : List ℕ) (i : ℕ) (labelled : Bool) (most : ℕ) (r : Flag) (judged : OrderTold b i r) where
+module _ (b : List ℕ) (i : ℕ) (labelled : Bool) (most : ℕ) (r : Option (ℕ × Bool)) (judged : OrderTold b i r) where
   abbrev ordering : CharacterOrdering → List ℕ
   ordering o = line "order=" (order_word o) []
 
@@ -107,33 +104,33 @@ module _ (b : List ℕ) (i : ℕ) (labelled : Bool) (most : ℕ) (r : Flag) (jud
       (λ p g. refl)
       (λ t g. ((t.ordering, t.states), (tt, g), refl))
 
-  behind-order : (j : ℕ) (ordered : Bool) → r ≡ Flag.At j ordered → (s : Part Marks) → Tells b j (Few most) spell_counted (marks ordered) s
+  behind-order : (j : ℕ) (ordered : Bool) → r ≡ Some (j, ordered) → (s : Part Marks) → Tells b j (Few most) spell_counted (marks ordered) s
       → Tells b i (λ t. Few most t.states) spell_tail (tail_marks labelled) s
   unfolding flag_of
   behind-order j ordered here s told =
       as-tail s
       (tells-then b i (λ o. Unit {0}) ordering is_ordered (λ v. Few most) (λ v. spell_counted) marks j ordered s (subst (λ a. OrderTold b i a) here judged) told)
 
-  pub tail-whole : (j : ℕ) (ordered : Bool) → r ≡ Flag.At j ordered → (s : Flag) → CountedTold b j most s → (k : ℕ) (any : Bool) → s ≡ Flag.At k any
-      → TailTold b i labelled most (Characters.Behind k (labelled || any) ordered)
+  pub tail-whole : (j : ℕ) (ordered : Bool) → r ≡ Some (j, ordered) → (s : Option (ℕ × Bool)) → CountedTold b j most s → (k : ℕ) (any : Bool) → s ≡ Some (k, any)
+      → TailTold b i labelled most (Some (k, (labelled || any), ordered))
   unfolding flag_of characters_of
   tail-whole j ordered here s told k any end =
       behind-order j ordered here _
       (tells_as b j (Few most) spell_counted (marks ordered) (λ ss. ss) (λ x. record { labelled = labelled || x; ordered = ordered }) (λ ss g. refl) (λ ss g. g) (λ ss g. refl) (λ ss g. (ss, g, refl)) k any
       (subst (λ a. CountedTold b j most a) end told))
 
-  pub tail-uncounted : (j : ℕ) (ordered : Bool) → r ≡ Flag.At j ordered → (s : Flag) → CountedTold b j most s → s ≡ Flag.Wrong → TailTold b i labelled most Characters.Wrong
+  pub tail-uncounted : (j : ℕ) (ordered : Bool) → r ≡ Some (j, ordered) → (s : Option (ℕ × Bool)) → CountedTold b j most s → s ≡ None → TailTold b i labelled most None
   unfolding flag_of characters_of
   tail-uncounted j ordered here s told none =
       behind-order j ordered here nothing (tells_none b j _ _ _ (λ ss rest g e. no_end ((subst (λ a. CountedTold b j most a) none told).all ss rest g e)))
 
-  pub tail-unordered : r ≡ Flag.Wrong → TailTold b i labelled most Characters.Wrong
+  pub tail-unordered : r ≡ None → TailTold b i labelled most None
   unfolding flag_of characters_of
   tail-unordered none =
       as-tail nothing (tells-no-first b i (λ o. Unit {0}) ordering is_ordered (λ v. Few most) (λ v. spell_counted) marks (subst (λ a. OrderTold b i a) none judged))
 
 -- The label, and the lines behind it.
-module _ (b : List ℕ) (i most : ℕ) (r : Flag) (judged : LabelTold b i r) where
+module _ (b : List ℕ) (i most : ℕ) (r : Option (ℕ × Bool)) (judged : LabelTold b i r) where
   abbrev labelling : List ℕ → List ℕ
   labelling l = line "label=" (escaped l) []
 
@@ -158,19 +155,19 @@ module _ (b : List ℕ) (i most : ℕ) (r : Flag) (judged : LabelTold b i r) whe
       (λ p g. refl)
       (λ c g. ((c.label, record { ordering = c.ordering; states = c.states }), (g.label, g.states), refl))
 
-  pub lines-whole : (l : ℕ) (labelled : Bool) → r ≡ Flag.At l labelled → (t : Characters) → TailTold b l labelled most t → LinesTold b i most t
+  pub lines-whole : (l : ℕ) (labelled : Bool) → r ≡ Some (l, labelled) → (t : Option (ℕ × Bool × Bool)) → TailTold b l labelled most t → LinesTold b i most t
   unfolding flag_of
   lines-whole l labelled here t tail =
       as-lines (characters_of t)
       (tells-then b i Label labelling is_label (λ v. TailFew) (λ v. spell_tail) tail_marks l labelled (characters_of t) (subst (λ a. LabelTold b i a) here judged) tail)
 
-  pub lines-unlabelled : r ≡ Flag.Wrong → LinesTold b i most Characters.Wrong
+  pub lines-unlabelled : r ≡ None → LinesTold b i most None
   unfolding flag_of characters_of
   lines-unlabelled none =
       as-lines nothing (tells-no-first b i Label labelling is_label (λ v. TailFew) (λ v. spell_tail) tail_marks (subst (λ a. LabelTold b i a) none judged))
 
 -- The number, and the lines behind it.
-module _ (b : List ℕ) (i k most : ℕ) (r : Behind) (judged : NumberTold b i k r) where
+module _ (b : List ℕ) (i k most : ℕ) (r : Option ℕ) (judged : NumberTold b i k r) where
   abbrev numbering : List ℕ
   numbering = line "character=" (decimal k) []
 
@@ -183,14 +180,14 @@ module _ (b : List ℕ) (i k most : ℕ) (r : Behind) (judged : NumberTold b i k
       (λ p g. refl)
       (λ c g. ((tt, c), (tt, g), refl))
 
-  pub character-whole : (j : ℕ) → r ≡ Behind.At j → (t : Characters) → LinesTold b j most t → CharacterTold b i k most t
+  pub character-whole : (j : ℕ) → r ≡ Some j → (t : Option (ℕ × Bool × Bool)) → LinesTold b j most t → CharacterTold b i k most t
   unfolding behind_of
   character-whole j here t lines =
       as-character (characters_of t)
       (tells-then b i (λ u. Unit {0}) (λ u. numbering) (λ u. tt {0}) (λ v. CharacterGood most) (λ v. spell_lines) (λ v. character_marks) j tt (characters_of t)
       (subst (λ a. NumberTold b i k a) here judged) lines)
 
-  pub character-unnumbered : r ≡ Behind.Wrong → CharacterTold b i k most Characters.Wrong
+  pub character-unnumbered : r ≡ None → CharacterTold b i k most None
   unfolding behind_of characters_of
   character-unnumbered none =
       as-character nothing
@@ -198,38 +195,40 @@ module _ (b : List ℕ) (i k most : ℕ) (r : Behind) (judged : NumberTold b i k
       (subst (λ a. NumberTold b i k a) none judged))
 
 -- What the turns over characters keep: what is judged of the characters that are left is judged of all.
-pub record CharactersLeft (b : List ℕ) (i n most at : ℕ) (labelled ordered : Bool) (left : ℕ) : Type 0 where
-  pub few : left ≤ n
+pub record CharactersLeft (b : List ℕ) (i n most at : ℕ) (labelled ordered : Bool) (done : ℕ) : Type 0 where
   pub walk : most ≤ 1048576
-      → Listing b (λ k. CharacterGood most) spell_one character_marks join_marks i 1 n no_marks at (n - left + 1) left (record { labelled = labelled; ordered = ordered })
+      → Listing b (λ k. CharacterGood most) spell_one character_marks join_marks i 1 n no_marks at (done + 1) (n - done) (record { labelled = labelled; ordered = ordered })
 
-module _ {b : List ℕ} {i n most at : ℕ} {labelled ordered : Bool} {left : ℕ} (walk : CharactersLeft b i n most at labelled ordered left) (some : 0 < left)
-    {r : Characters} (told : most ≤ 1048576 → CharacterTold b at (n - left + 1) most r) where
+-- One more is left than behind the next.
+one_more : (n done : ℕ) → done < n → n - done ≡ suc (n - (done + 1))
+one_more n done some = omega arith
+
+module _ {b : List ℕ} {i n most at : ℕ} {labelled ordered : Bool} {done : ℕ} (walk : CharactersLeft b i n most at labelled ordered done) (some : done < n)
+    {r : Option (ℕ × Bool × Bool)} (told : most ≤ 1048576 → CharacterTold b at (done + 1) most r) where
   -- One more stands there.
-  pub characters-step : (j : ℕ) (l o : Bool) → r ≡ Characters.Behind j l o → CharactersLeft b i n most j (labelled || l) (ordered || o) (left - 1)
+  pub characters-step : (j : ℕ) (l o : Bool) → r ≡ Some (j, l, o) → CharactersLeft b i n most j (labelled || l) (ordered || o) (done + 1)
   unfolding characters_of join_marks
   characters-step j l o here =
-      let next : suc (n - left + 1) ≡ n - (left - 1) + 1 = omega (arith, walk.few) in
+      let next : suc (done + 1) ≡ done + 1 + 1 = omega arith in
       record {
-        few = omega (arith, walk.few);
         walk = λ small.
-            subst (λ m. Listing b (λ k. CharacterGood most) spell_one character_marks join_marks i 1 n no_marks j m (left - 1) (record { labelled = labelled || l; ordered = ordered || o })) next
-            (listing_step b _ _ _ _ (walk.walk small) some j _ (subst (λ a. CharacterTold b at (n - left + 1) most a) here (told small)));
+            subst (λ m. Listing b (λ k. CharacterGood most) spell_one character_marks join_marks i 1 n no_marks j m (n - (done + 1)) (record { labelled = labelled || l; ordered = ordered || o })) next
+            (listing_step b _ _ _ _ (walk.walk small) (one_more n done some) j _ (subst (λ a. CharacterTold b at (done + 1) most a) here (told small)));
       }
 
   -- None stands there.
-  pub characters-short : r ≡ Characters.Wrong → most ≤ 1048576 → CharactersTold b i n most Characters.Wrong
+  pub characters-short : r ≡ None → most ≤ 1048576 → CharactersTold b i n most None
   unfolding characters_of
   characters-short none small =
-      listing-short b _ _ _ _ (walk.walk small) some (subst (λ a. CharacterTold b at (n - left + 1) most a) none (told small))
+      listing-short b _ _ _ _ (walk.walk small) (one_more n done some) (subst (λ a. CharacterTold b at (done + 1) most a) none (told small))
 
 -- None are left.
-pub characters-over : {b : List ℕ} {i n most at : ℕ} {labelled ordered : Bool} {left : ℕ} → CharactersLeft b i n most at labelled ordered left → left ≤ 0
-    → most ≤ 1048576 → CharactersTold b i n most (Characters.Behind at labelled ordered)
+pub characters-over : {b : List ℕ} {i n most at : ℕ} {labelled ordered : Bool} {done : ℕ} → CharactersLeft b i n most at labelled ordered done → n ≤ done
+    → most ≤ 1048576 → CharactersTold b i n most (Some (at, labelled, ordered))
 unfolding characters_of
-characters-over walk over small = listing-over _ _ _ _ _ (walk.walk small) over
+characters-over walk over small = listing-over _ _ _ _ _ (walk.walk small) (omega arith)
 
 -- Before the first.
-pub characters-start : (b : List ℕ) (i n most : ℕ) → CharactersLeft b i n most i false false n
+pub characters-start : (b : List ℕ) (i n most : ℕ) → CharactersLeft b i n most i false false 0
 unfolding no_marks
-characters-start b i n most = record { few = omega arith; walk = λ small. let one : n - n + 1 ≡ 1 = omega arith in rw one (listing_start _ _ _ _ _ _ _ _ _) }
+characters-start b i n most = record { walk = λ small. let all : n - 0 ≡ n = omega arith in rw all (listing_start _ _ _ _ _ _ _ _ _) }

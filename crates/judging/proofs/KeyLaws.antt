@@ -1,8 +1,8 @@
 -- Fixed bytes that stand at a place of others: a walk that compares them all. Assumes nothing.
+use Rattle.std.specs.Prelude.{Some, None, Option}
 use Prim.Native.Nat.{ℕ, ◌+◌, ◌-◌, ◌≤◌, ◌<◌}
 use Rattle.judging.proofs.JudgeLaws.{judges-none, judges-one}
 use Rattle.judging.specs.Judges.{Judges}
-use Rattle.judging.specs.declared.Behind.{Behind}
 use Rattle.lexer.proofs.Basics.{and_left, and_right, by-test}
 use Rattle.lexer.proofs.ListLaws.{drop-next}
 use borrow.Author.Tests.{eq-eqb, eqb-true}
@@ -23,15 +23,15 @@ pub record Compared (b : List ℕ) (i : ℕ) (word : List ℕ) (same : Bool) (k 
   pub other : same ≡ false → (rest : List ℕ) → drop i b ≡ word ++ rest → ⊥
 
 module _ (b : List ℕ) (i : ℕ) (word : List ℕ) where
-  abbrev word_judged : Behind → Type 0
+  abbrev word_judged : Option ℕ → Type 0
   word_judged r = Judges b i (λ (u : Unit {0}). Unit {0}) (λ u. word) r
 
   -- Fewer bytes are left than the word has.
-  pub word-short : length b - i < length word → word_judged Behind.Wrong
+  pub word-short : length b - i < length word → word_judged None
   word-short h = judges-none b i _ _ (λ u rest g e. omega (arith, length-drop i b, ap length e, length-append word rest))
 
   -- It stands there.
-  pub word-whole : drop i b ≡ word ++ drop (i + length word) b → word_judged (Behind.At (i + length word))
+  pub word-whole : drop i b ≡ word ++ drop (i + length word) b → word_judged (Some (i + length word))
   word-whole here = judges-one b i _ _ tt (drop (i + length word) b) tt here (λ u t g e. refl)
 
   pub compared-start : Compared b i word true 0
@@ -58,10 +58,10 @@ module _ (b : List ℕ) (i : ℕ) (word : List ℕ) where
             (λ t. true≢false (sym (rw (t, eq-eqb (get_or b (i + k) 0) (get_or word k 0) e') refl) ∙ f))
             (λ g. w.other g rest e)
 
-    pub compared_same : length word ≤ k → same ≡ true → word_judged (Behind.At (i + length word))
+    pub compared_same : length word ≤ k → same ≡ true → word_judged (Some (i + length word))
     compared_same h t =
         let all : k ≡ length word = omega (arith, w.below) in
         word-whole (rw all at (w.here t ∙ ap (λ l. l ++ drop (i + k) b) (take_all k word h)))
 
-    pub compared-other : same ≡ false → word_judged Behind.Wrong
+    pub compared-other : same ≡ false → word_judged None
     compared-other f = judges-none b i _ _ (λ u rest g e. w.other f rest e)

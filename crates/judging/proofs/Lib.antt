@@ -14,7 +14,6 @@ mod HollowTexts
 mod KeyLaws
 mod LinesTold
 mod ListTold
-mod ModeTags
 mod NameJudged
 mod NameRests
 mod NumberLaws

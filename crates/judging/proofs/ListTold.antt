@@ -1,5 +1,5 @@
 -- Judging parts that stand one behind another: none, one more, and one that does not stand there. Assumes nothing.
-use Prim.Native.Nat.{ℕ, suc, ◌+◌, ◌-◌, ◌≤◌, ◌<◌}
+use Prim.Native.Nat.{ℕ, suc, ◌+◌, ◌≤◌}
 use Rattle.judging.proofs.TellLaws.{same-told, tells_none, tells-nothing, tells-no-first, tells-then}
 use Rattle.judging.specs.Judges.{Stands}
 use Rattle.judging.specs.Lists.{Listed, ListTold, spelled_all, told_all}
@@ -76,17 +76,13 @@ module _ {A T : Type 0} (b : List ℕ) (good : ℕ → A → Type 0) (spelled : 
 
   module _ {i k n : ℕ} {before : T} {at next left : ℕ} {told : T} (walk : Listing i k n before at next left told) where
     -- One more stands there.
-    pub listing_step : 0 < left → (j : ℕ) (v : T) → Tells b at (good next) (spelled next) tell (until j v)
-        → Listing i k n before j (suc next) (left - 1) (join told v)
-    listing_step some j v first =
-        let more : left ≡ suc (left - 1) = omega arith in
-        record { back = λ r others. walk.back r (rw more (list-step at next (left - 1) told j v r first others)) }
+    pub listing_step : {less : ℕ} → left ≡ suc less → (j : ℕ) (v : T) → Tells b at (good next) (spelled next) tell (until j v)
+        → Listing i k n before j (suc next) less (join told v)
+    listing_step {less} more j v first = record { back = λ r others. walk.back r (rw more (list-step at next less told j v r first others)) }
 
     -- It does not stand there.
-    pub listing-short : 0 < left → Tells b at (good next) (spelled next) tell nothing → ListTold b good spelled tell join i k n before nothing
-    listing-short some first =
-        let more : left ≡ suc (left - 1) = omega arith in
-        walk.back nothing (rw more (list-short at next (left - 1) told first))
+    pub listing-short : {less : ℕ} → left ≡ suc less → Tells b at (good next) (spelled next) tell nothing → ListTold b good spelled tell join i k n before nothing
+    listing-short {less} more first = walk.back nothing (rw more (list-short at next less told first))
 
     -- None are left.
     pub listing-over : left ≤ 0 → ListTold b good spelled tell join i k n before (until at told)

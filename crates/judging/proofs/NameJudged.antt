@@ -1,4 +1,5 @@
 -- A name judged byte by byte: at each byte, what is judged behind it is judged of the rest of the name from it on. Assumes nothing.
+use Rattle.std.specs.Prelude.{Some, None, Option}
 use Prim.Native.Nat.{ℕ, ◌+◌, ◌≤◌, ◌<◌}
 use Rattle.block.specs.Sound.{sound_name, sound_label}
 use Rattle.judging.proofs.EscapedLines.{ended, unescape-ascii, plain-escaped, slash-escaped, no-line, front}
@@ -7,7 +8,6 @@ use Rattle.judging.proofs.NameRests.{name-whole, name-settled}
 use Rattle.judging.proofs.WideBlanks.{wide_below, wide-ended}
 use Rattle.judging.specs.Judges.{Judges}
 use Rattle.judging.specs.NameRest.{name_rest, unescape}
-use Rattle.judging.specs.declared.Behind.{Behind}
 use Rattle.judging.specs.declared.names.Naming.{Naming}
 use Rattle.lexer.proofs.Basics.{chosen, not-both, or_left, or_right}
 use Rattle.lexer.proofs.ListLaws.{drop-next, some-within}
@@ -33,7 +33,7 @@ pub lf-within : (l : List ℕ) (i : ℕ) → get_or l i 0 ≡ 10 → i < length 
 lf-within l i lf = some-within l i (λ e. omega arith)
 
 -- A line at a place whose text passes a test.
-abbrev pub Lined : List ℕ → ℕ → (List ℕ → Bool) → Behind → Type 0
+abbrev pub Lined : List ℕ → ℕ → (List ℕ → Bool) → Option ℕ → Type 0
 Lined b i test r = Judges b i (λ n. test n ≡ true) ended r
 
 -- Where an LF stands, the text of a line is empty.
@@ -45,7 +45,7 @@ module _ (b : List ℕ) (i : ℕ) (test : List ℕ → Bool) (lf : get_or b i 0 
   only n rest e = (front 10 (drop (i + 1) b) n rest (sym here ∙ e)).line-end refl
 
   -- It is a line if the empty text passes the test.
-  pub line-over : Lined b i test (pick (test []) (Behind.At (i + 1)) Behind.Wrong)
+  pub line-over : Lined b i test (pick (test []) (Some (i + 1)) None)
   unfolding escaped
   line-over =
       chosen (Lined b i test) (test [])
@@ -53,7 +53,7 @@ module _ (b : List ℕ) (i : ℕ) (test : List ℕ → Bool) (lf : get_or b i 0 
       (λ f. judges-none b i _ ended (λ n rest g e. not-both f (ap test (sym (only n rest e)) ∙ g)))
 
 -- Behind the end no line stands.
-pub line-past : (b : List ℕ) (i : ℕ) (test : List ℕ → Bool) → length b ≤ i → Lined b i test Behind.Wrong
+pub line-past : (b : List ℕ) (i : ℕ) (test : List ℕ → Bool) → length b ≤ i → Lined b i test None
 line-past b i test past = judges-none b i _ ended (λ n rest g e. no-line n rest (sym (drop_of_length-le b past) ∙ e))
 
 -- A line whose first byte is itself, and two tests that agree: one of the text, and one of what stands behind that byte in the text.
@@ -71,7 +71,7 @@ module _ (b : List ℕ) (i : ℕ) (lt : i < length b) (no-lf : byte b i ≡ 10 �
   same-wide n rest e = sym (wide-ended (byte b i) n rest) ∙ ap (wide_blank (byte b i)) (sym e) ∙ sym seen
 
   -- What the second test judges behind the byte, the first judges from the byte on.
-  pub line_plain : (r : Behind) → Lined b (i + 1) more r → Lined b i test r
+  pub line_plain : (r : Option ℕ) → Lined b (i + 1) more r → Lined b i test r
   line_plain =
       judges-on b i (i + 1) (byte b i ∷ []) _ ended _ ended (λ n. byte b i ∷ n) refl (drop-next b i lt) (λ n. ap (λ l. l ++ (10 ∷ [])) (plain-escaped (byte b i) n lf slash))
       (λ n rest e. let s = step n (same-wide n rest e) in ((λ g. s ∙ g), (λ g. sym s ∙ g)))
@@ -91,7 +91,7 @@ module _ (b : List ℕ) (i : ℕ) (lt : i < length b) (slash : get_or b i 0 ≡ 
   begins n rest e = rw second at ((front 92 (drop (i + 1) b) n rest (sym first ∙ e)).slash refl)
 
   -- Where it is none, no line stands.
-  pub line-no-escape : (test : List ℕ → Bool) → d ≡ 0 → Lined b i test Behind.Wrong
+  pub line-no-escape : (test : List ℕ → Bool) → d ≡ 0 → Lined b i test None
   line-no-escape test none = judges-none b i _ ended (λ n rest g e. (begins n rest e).2 none)
 
   module _ (some : d ≡ 0 → ⊥) where
@@ -111,7 +111,7 @@ module _ (b : List ℕ) (i : ℕ) (lt : i < length b) (slash : get_or b i 0 ≡ 
 
     -- Two tests agree: one of the text, and one of what stands behind that byte in the text. What the second judges behind both bytes, the first judges
     -- from the backslash on.
-    pub line-escape : (test more : List ℕ → Bool) → ((n : List ℕ) → wide_blank d n ≡ false → test (d ∷ n) ≡ more n) → (r : Behind)
+    pub line-escape : (test more : List ℕ → Bool) → ((n : List ℕ) → wide_blank d n ≡ false → test (d ∷ n) ≡ more n) → (r : Option ℕ)
         → Lined b (i + 2) more r → Lined b i test r
     line-escape test more step =
         judges-on b i (i + 2) (92 ∷ get_or b (i + 1) 0 ∷ []) _ ended _ ended (λ n. d ∷ n) refl both (λ n. ap (λ l. l ++ (10 ∷ [])) (spells n))
@@ -122,7 +122,7 @@ module _ (b : List ℕ) (i : ℕ) (lt : i < length b) (slash : get_or b i 0 ≡ 
         narrow n = wide_below d n (omega (arith, meant, unescape-ascii (get_or b (i + 1) 0)))
 
 -- Two tests that agree on each text judge alike.
-line-alike : (b : List ℕ) (i : ℕ) (test more : List ℕ → Bool) → ((n rest : List ℕ) → drop i b ≡ ended n ++ rest → test n ≡ more n) → (r : Behind)
+line-alike : (b : List ℕ) (i : ℕ) (test more : List ℕ → Bool) → ((n rest : List ℕ) → drop i b ≡ ended n ++ rest → test n ≡ more n) → (r : Option ℕ)
     → Lined b i more r → Lined b i test r
 line-alike b i test more same =
     judges-as b i _ ended _ ended (λ n. n) (λ n. refl)
@@ -130,7 +130,7 @@ line-alike b i test more same =
     (λ n rest g e. (n, refl))
 
 -- Where no LF stands, a label is a name.
-pub label-name : (b : List ℕ) (i : ℕ) → (get_or b i 0 ≡ 10 → ⊥) → (r : Behind) → Lined b i sound_name r → Lined b i sound_label r
+pub label-name : (b : List ℕ) (i : ℕ) → (get_or b i 0 ≡ 10 → ⊥) → (r : Option ℕ) → Lined b i sound_name r → Lined b i sound_label r
 unfolding sound_label is_empty escaped
 label-name b i no-lf = line-alike b i sound_label sound_name same
   where
@@ -140,7 +140,7 @@ label-name b i no-lf = line-alike b i sound_label sound_name same
 
 -- What the turns keep: what is judged from here on, of what is open, is judged of a line from its first byte on, by a test of its whole text.
 pub record Walking (b : List ℕ) (i : ℕ) (whole : List ℕ → Bool) (s : Naming) (at : ℕ) : Type 0 where
-  pub back : (r : Behind) → Lined b at (name_rest s) r → Lined b i whole r
+  pub back : (r : Option ℕ) → Lined b at (name_rest s) r → Lined b i whole r
 
 -- At the first byte of a name, nothing is open.
 pub walking_start : (b : List ℕ) (i : ℕ) (s : Naming) → s.more ≡ 0 → s.low ≡ 128 → s.high ≡ 191 → s.blank ≡ true → Walking b i sound_name s i
@@ -163,7 +163,7 @@ in-run c h =
 
 module _ (b : List ℕ) (i : ℕ) (whole : List ℕ → Bool) (s : Naming) (at : ℕ) (k : Walking b i whole s at) where
   -- Bytes are passed: what is judged behind them is judged from here on.
-  pub walking-turn : (t : Naming) (next : ℕ) → ((r : Behind) → Lined b next (name_rest t) r → Lined b at (name_rest s) r) → Walking b i whole t next
+  pub walking-turn : (t : Naming) (next : ℕ) → ((r : Option ℕ) → Lined b next (name_rest t) r → Lined b at (name_rest s) r) → Walking b i whole t next
   walking-turn t next on = record { back = λ r judged. k.back r (on r judged) }
 
   -- An ASCII byte is passed that leaves open what was.

@@ -1,4 +1,6 @@
 -- The value of the digits at a place, and the number that stands there: a decimal is read as its number. Assumes nothing.
+use Rattle.std.specs.Prelude.{Some, None, Option}
+use Rattle.std.proofs.lemmas.Option.{some_pair_parts}
 use Prim.Native.Nat.{ℕ, zero, suc, ◌+◌, ◌*◌, ◌-◌, ◌/◌, ◌%◌, ◌≤◌, ◌<◌}
 use Rattle.emit.proofs.DecimalMade.{decimal-last, decimal-one}
 use Rattle.judging.proofs.JudgeLaws.{judges-none, wrong-no-end}
@@ -6,8 +8,6 @@ use Rattle.judging.proofs.KeyLaws.{word-whole}
 use Rattle.naming.proofs.RowLaws.{drop-behind}
 use Rattle.judging.specs.Judges.{Judges}
 use Rattle.judging.specs.Numbers.{NumberJudged, NumberStands, leading}
-use Rattle.judging.specs.declared.Behind.{Behind}
-use Rattle.judging.specs.declared.numbers.Number.{Number}
 use Rattle.lexer.proofs.Basics.{by-test}
 use Rattle.lexer.proofs.ListLaws.{drop-next}
 use Rattle.lexer.specs.Base.{pick}
@@ -148,7 +148,7 @@ module _ (b : List ℕ) (i value : ℕ) where
           held = drop-next b (i + (left - 1)) within ∙ rw (e, next) (ap (λ l. digit rest ∷ l) w.held);
         }
 
-    pub digits-other : (get_or b (i + (left - 1)) 0 ≡ digit rest → ⊥) → Judges b i (λ (u : Unit {0}). Unit {0}) (λ u. decimal value) Behind.Wrong
+    pub digits-other : (get_or b (i + (left - 1)) 0 ≡ digit rest → ⊥) → Judges b i (λ (u : Unit {0}). Unit {0}) (λ u. decimal value) None
     digits-other ne = judges-none b i _ _ none
       where
         none : (u : Unit {0}) (t : List ℕ) → Unit {0} → drop i b ≡ decimal value ++ t → ⊥
@@ -159,7 +159,7 @@ module _ (b : List ℕ) (i value : ℕ) where
 
   -- None is left.
   pub digits-end : (rest : ℕ) (left count : ℕ) → DigitsLeft b i value left rest → left ≤ 0 → count ≡ length (decimal value)
-      → Judges b i (λ (u : Unit {0}). Unit {0}) (λ u. decimal value) (Behind.At (i + count))
+      → Judges b i (λ (u : Unit {0}). Unit {0}) (λ u. decimal value) (Some (i + count))
   digits-end rest left count w over all =
       let none : left ≡ 0 = omega arith in
       rw all (word-whole b i (decimal value) (digits-whole w.front (w.size ∙ none) w.made (rw none at w.held)))
@@ -204,10 +204,10 @@ module _ (b : List ℕ) (i value : ℕ) (read : value ≡ leading 0 (drop i b)) 
   same-value : (v : ℕ) (rest : List ℕ) → v ≤ 1048576 → drop i b ≡ decimal v ++ (10 ∷ rest) → value ≡ v
   same-value v rest h e = read ∙ ap (leading 0) e ∙ leading-decimal v rest h
 
-  no_number : (j k : ℕ) → Number.Wrong ≡ Number.At j k → ⊥
+  no_number : (j k : ℕ) → ◌≡◌ {A = Option (ℕ × ℕ)} None (Some (j, k)) → ⊥
   no_number j k e = let z : ◌≡◌ {A = ℕ} 0 1 = cc in omega arith
 
-  number-none : ((rest : List ℕ) → value ≤ 1048576 → drop i b ≡ decimal value ++ (10 ∷ rest) → ⊥) → NumberJudged b i Number.Wrong
+  number-none : ((rest : List ℕ) → value ≤ 1048576 → drop i b ≡ decimal value ++ (10 ∷ rest) → ⊥) → NumberJudged b i None
   number-none none =
       record {
         found = λ v j e. absurd (no_number v j e);
@@ -216,21 +216,21 @@ module _ (b : List ℕ) (i value : ℕ) (read : value ≡ leading 0 (drop i b)) 
             absurd (none rest (subst (λ n. n ≤ 1048576) (sym same) h) (subst (λ n. drop i b ≡ decimal n ++ (10 ∷ rest)) (sym same) e));
       }
 
-  pub number-large : 1048576 < value → NumberJudged b i Number.Wrong
+  pub number-large : 1048576 < value → NumberJudged b i None
   number-large h = number-none (λ rest l e. omega arith)
 
-  module _ (few : value ≤ 1048576) (r : Behind) (digits : Judges b i (λ (u : Unit {0}). Unit {0}) (λ u. decimal value) r) where
-    pub number-no-digits : r ≡ Behind.Wrong → NumberJudged b i Number.Wrong
+  module _ (few : value ≤ 1048576) (r : Option ℕ) (digits : Judges b i (λ (u : Unit {0}). Unit {0}) (λ u. decimal value) r) where
+    pub number-no-digits : r ≡ None → NumberJudged b i None
     number-no-digits w = number-none (λ rest l e. wrong-no-end _ (sym w ∙ digits.all tt (10 ∷ rest) tt e))
 
-    module _ (j : ℕ) (here : r ≡ Behind.At j) (s : Behind) (ended : Judges b j (λ (u : Unit {0}). Unit {0}) (λ u. 10 ∷ []) s) where
+    module _ (j : ℕ) (here : r ≡ Some j) (s : Option ℕ) (ended : Judges b j (λ (u : Unit {0}). Unit {0}) (λ u. 10 ∷ []) s) where
       behind-digits : (rest : List ℕ) → drop i b ≡ decimal value ++ (10 ∷ rest) → drop j b ≡ 10 ∷ rest
       behind-digits rest e = ap (λ n. drop n b) (digits.found j here).end ∙ drop-behind b i (decimal value) (10 ∷ rest) e
 
-      pub number-no-end : s ≡ Behind.Wrong → NumberJudged b i Number.Wrong
+      pub number-no-end : s ≡ None → NumberJudged b i None
       number-no-end w = number-none (λ rest l e. wrong-no-end _ (sym w ∙ ended.all tt rest tt (behind-digits rest e)))
 
-      pub number-whole : (k : ℕ) → s ≡ Behind.At k → NumberJudged b i (Number.At value k)
+      pub number-whole : (k : ℕ) → s ≡ Some k → NumberJudged b i (Some (value, k))
       number-whole k e =
           let first = digits.found j here in
           let last = ended.found k e in
@@ -238,8 +238,7 @@ module _ (b : List ℕ) (i value : ℕ) (read : value ≡ leading 0 (drop i b)) 
           let stands : NumberStands b i value k = record { few = few; here = first.here ∙ ap (λ l. decimal value ++ l) last.here; end = end } in
           record {
             found = λ v m q.
-                let a : value ≡ v = cc in
-                let c : k ≡ m = cc in
-                subst (λ x. NumberStands b i v x) c (subst (λ x. NumberStands b i x k) a stands);
-            all = λ v rest h f. let same = same-value v rest h f in ap (Number.At value) end ∙ ap (λ x. Number.At x (i + length (decimal x) + 1)) same;
+                let p = some_pair_parts _ _ _ _ q in
+                subst (λ x. NumberStands b i v x) p.1 (subst (λ x. NumberStands b i x k) p.0 stands);
+            all = λ v rest h f. let same = same-value v rest h f in ap (λ m. Some (value, m)) end ∙ ap (λ x. Some (x, (i + length (decimal x) + 1))) same;
           }

@@ -1,4 +1,5 @@
 -- The first four lines of a record: what judging words, counts and symbols tells. Assumes nothing.
+use Rattle.std.specs.Prelude.{Some, None, Option}
 use Prim.Native.Nat.{ℕ, ◌+◌, ◌-◌, ◌≤◌, ◌<◌}
 use Rattle.block.specs.Blocks.{is_ordered}
 use Rattle.block.specs.Dna.{acgt}
@@ -19,11 +20,7 @@ use Rattle.judging.specs.Lists.{spelled_all}
 use Rattle.judging.specs.Opening.{Apart, BehindTaxa, BehindType, CountGood, CountTold, Opening, OpeningGood, OpeningTold, Sizes, StandardTold, SymbolsTold, WordTold, headed_of, opened, opening_sizes, run_of, spell_opening}
 use Rattle.judging.specs.Parts.{KeyedNumber, OrderTold, PlainTold, plain_character, spell_counted, spell_lines}
 use Rattle.judging.specs.Tells.{Part, nothing, until, Tells, flag_of, number_of}
-use Rattle.judging.specs.declared.Behind.{Behind}
-use Rattle.judging.specs.declared.characters.Flag.{Flag}
 use Rattle.judging.specs.declared.heads.Head.{Head}
-use Rattle.judging.specs.declared.heads.Headed.{Headed}
-use Rattle.judging.specs.declared.numbers.Number.{Number}
 use Rattle.lexer.proofs.Basics.{all-four, and_both, not-both, or-both, or_left, or_right, same_refl, same_true}
 use Rattle.lexer.proofs.ListLaws.{drop-next}
 use Rattle.lexer.specs.Base.{among, bytes, pick}
@@ -40,11 +37,11 @@ use native.Mathlib.Nat.{add-zero}
 use native.Mathlib.Omega.{arith}
 
 -- One of two words, of which neither begins with the other.
-module _ (b : List ℕ) (i : ℕ) (first second : List ℕ) (apart : Apart first second) (r : Behind) (judged : Fixed b i first r) where
+module _ (b : List ℕ) (i : ℕ) (first second : List ℕ) (apart : Apart first second) (r : Option ℕ) (judged : Fixed b i first r) where
   abbrev word : Bool → List ℕ
   word x = pick x second first
 
-  pub word_first : (j : ℕ) → r ≡ Behind.At j → WordTold b i first second (Flag.At j false)
+  pub word_first : (j : ℕ) → r ≡ Some j → WordTold b i first second (Some (j, false))
   unfolding flag_of pick
   word_first j here = record { found = found; all = all }
     where
@@ -58,8 +55,8 @@ module _ (b : List ℕ) (i : ℕ) (first second : List ℕ) (apart : Apart first
       all false rest g e = ap (λ n. until n false) s.end
       all true rest g e = absurd (apart (drop j b) rest (sym s.here ∙ e))
 
-  module _ (none : r ≡ Behind.Wrong) (t : Behind) (other : Fixed b i second t) where
-    pub word-second : (j : ℕ) → t ≡ Behind.At j → WordTold b i first second (Flag.At j true)
+  module _ (none : r ≡ None) (t : Option ℕ) (other : Fixed b i second t) where
+    pub word-second : (j : ℕ) → t ≡ Some j → WordTold b i first second (Some (j, true))
     unfolding flag_of pick
     word-second j here = record { found = found; all = all }
       where
@@ -73,7 +70,7 @@ module _ (b : List ℕ) (i : ℕ) (first second : List ℕ) (apart : Apart first
         all false rest g e = absurd (wrong-no-end _ (sym none ∙ judged.all tt rest tt e))
         all true rest g e = ap (λ n. until n true) s.end
 
-    pub word-neither : t ≡ Behind.Wrong → WordTold b i first second Flag.Wrong
+    pub word-neither : t ≡ None → WordTold b i first second None
     unfolding flag_of pick
     word-neither nor = tells_none b i _ _ _ neither
       where
@@ -82,7 +79,7 @@ module _ (b : List ℕ) (i : ℕ) (first second : List ℕ) (apart : Apart first
         neither true rest g e = wrong-no-end _ (sym nor ∙ other.all tt rest tt e)
 
 -- One of two words, one for each type of a character.
-ordering-told : (b : List ℕ) (i : ℕ) (spelled : CharacterOrdering → List ℕ) (r : Flag) (first second : List ℕ)
+ordering-told : (b : List ℕ) (i : ℕ) (spelled : CharacterOrdering → List ℕ) (r : Option (ℕ × Bool)) (first second : List ℕ)
     → spelled CharacterOrdering.Unordered ≡ first → spelled CharacterOrdering.Ordered ≡ second → WordTold b i first second r
     → Tells b i (λ (o : CharacterOrdering). Unit {0}) spelled is_ordered (flag_of r)
 unfolding is_ordered pick
@@ -105,14 +102,14 @@ ordering-told b i spelled r first second unordered ordered = tells-same b i (λ 
     maker CharacterOrdering.Ordered g = (true, tt, refl)
 
 -- The line of a character's type; and all lines behind the number of one without labels.
-pub order-told : (b : List ℕ) (i : ℕ) (r : Flag)
+pub order-told : (b : List ℕ) (i : ℕ) (r : Option (ℕ × Bool))
     → (Apart (bytes "order=UNORD\n") (bytes "order=ORD\n") → WordTold b i (bytes "order=UNORD\n") (bytes "order=ORD\n") r) → OrderTold b i r
 unfolding line order_word bytes
 order-told b i r told =
     ordering-told b i (λ o. line "order=" (order_word o) []) r _ _ refl refl
     (told (λ s t e. let z : ◌≡◌ {A = ℕ} 85 79 = ap (λ l. get_or l 6 0) e in omega (arith, z)))
 
-pub plain-told : (b : List ℕ) (i : ℕ) (r : Flag)
+pub plain-told : (b : List ℕ) (i : ℕ) (r : Option (ℕ × Bool))
     → (Apart (bytes "label=\norder=UNORD\nstates=0\n") (bytes "label=\norder=ORD\nstates=0\n")
     → WordTold b i (bytes "label=\norder=UNORD\nstates=0\n") (bytes "label=\norder=ORD\nstates=0\n") r) → PlainTold b i r
 unfolding plain_character spell_lines spell_counted spelled_all line order_word escaped decimal decimal_from digit bytes
@@ -121,28 +118,28 @@ plain-told b i r told =
     (told (λ s t e. let z : ◌≡◌ {A = ℕ} 85 79 = ap (λ l. get_or l 13 0) e in omega (arith, z)))
 
 -- A count that is not 0.
-module _ (b : List ℕ) (i : ℕ) (key : List ℕ) (r : Number) (judged : KeyedNumber b i key r) where
+module _ (b : List ℕ) (i : ℕ) (key : List ℕ) (r : Option (ℕ × ℕ)) (judged : KeyedNumber b i key r) where
   abbrev keyed : ℕ → List ℕ
   keyed v = key ++ (decimal v ++ (10 ∷ []))
 
-  module _ (n j : ℕ) (here : r ≡ Number.At n j) where
+  module _ (n j : ℕ) (here : r ≡ Some (n, j)) where
     number : Tells b i (λ v. v ≤ 1048576) keyed (λ v. v) (until j n)
     unfolding number_of
     number = subst (λ a. KeyedNumber b i key a) here judged
 
-    pub count-some : (n ≡ 0 → ⊥) → CountTold b i key (Number.At n j)
+    pub count-some : (n ≡ 0 → ⊥) → CountTold b i key (Some (n, j))
     unfolding number_of
     count-some some =
         tells-passed b i (λ v. v ≤ 1048576) keyed (λ v. v) (leb 1)
         (λ v rest g e. let is : n ≡ v = tells-value b i _ _ _ j n number v rest g e in le-leb 1 v (omega (arith, is))) (until j n) number
 
-    pub count-zero : n ≡ 0 → CountTold b i key Number.Wrong
+    pub count-zero : n ≡ 0 → CountTold b i key None
     unfolding number_of
     count-zero zero =
         tells-failed b i (λ v. v ≤ 1048576) keyed (λ v. v) (leb 1)
         (λ v rest g e. let is : 0 ≡ v = sym zero ∙ tells-value b i _ _ _ j n number v rest g e in rw (sym is) refl)
 
-  pub count_none : r ≡ Number.Wrong → CountTold b i key Number.Wrong
+  pub count_none : r ≡ None → CountTold b i key None
   unfolding number_of
   count_none none = tells-untested b i (λ v. v ≤ 1048576) keyed (λ v. v) (leb 1) (subst (λ a. KeyedNumber b i key a) none judged)
 
@@ -166,12 +163,12 @@ module _ (b : List ℕ) (i end : ℕ) (run : end ≡ i + run_of [] (drop i b)) w
       ap (λ k. get_or b k 0) (sym (add-zero end)) ∙ sym (get_or-drop end b 0 0) ∙ ap (λ l. get_or l 0 0) there
 
   -- Another byte stands there.
-  pub symbols-other : (get_or b end 0 ≡ 10 → ⊥) → StandardTold b i Number.Wrong
+  pub symbols-other : (get_or b end 0 ≡ 10 → ⊥) → StandardTold b i None
   unfolding number_of
   symbols-other other = tells_none b i _ _ _ (λ s rest good e. other (symbols-end s rest good e))
 
   -- There are too few, or too many.
-  pub symbols-not-so-many : ltb (end - i) 2 || ltb 73 (end - i) ≡ true → StandardTold b i Number.Wrong
+  pub symbols-not-so-many : ltb (end - i) 2 || ltb 73 (end - i) ≡ true → StandardTold b i None
   unfolding number_of sound_symbols most_symbols
   symbols-not-so-many bad = tells_none b i _ _ _ none
     where
@@ -184,7 +181,7 @@ module _ (b : List ℕ) (i end : ℕ) (run : end ≡ i + run_of [] (drop i b)) w
           not-both (or-both low high) bad
 
   -- So many stand there, and the LF.
-  pub symbols-whole : get_or b end 0 ≡ 10 → ltb (end - i) 2 || ltb 73 (end - i) ≡ false → StandardTold b i (Number.At (end - i) (end + 1))
+  pub symbols-whole : get_or b end 0 ≡ 10 → ltb (end - i) 2 || ltb 73 (end - i) ≡ false → StandardTold b i (Some ((end - i), (end + 1)))
   unfolding number_of sound_symbols most_symbols
   symbols-whole lf size = record { found = found; all = all }
     where
@@ -227,18 +224,18 @@ module _ (b : List ℕ) (i end : ℕ) (run : end ≡ i + run_of [] (drop i b)) w
           rw (far, size) refl
 
 -- The line of the symbols of STANDARD.
-module _ (b : List ℕ) (i : ℕ) (t : DataType) (is : t ≡ DataType.Standard) (r : Behind) (judged : Fixed b i (bytes "symbols=") r) where
-  pub symbols-keyed : (j : ℕ) → r ≡ Behind.At j → (s : Number) → StandardTold b j s → SymbolsTold b i t s
+module _ (b : List ℕ) (i : ℕ) (t : DataType) (is : t ≡ DataType.Standard) (r : Option ℕ) (judged : Fixed b i (bytes "symbols=") r) where
+  pub symbols-keyed : (j : ℕ) → r ≡ Some j → (s : Option (ℕ × ℕ)) → StandardTold b j s → SymbolsTold b i t s
   unfolding line
   symbols-keyed j here s told = rw is (tells-keyed b i (bytes "symbols=") _ _ length r judged j here (number_of s) told)
 
-  pub symbols-no-key : r ≡ Behind.Wrong → SymbolsTold b i t Number.Wrong
+  pub symbols-no-key : r ≡ None → SymbolsTold b i t None
   unfolding line number_of
   symbols-no-key none = rw is (tells-no-key b i (bytes "symbols=") _ (λ s. s ++ (10 ∷ [])) length r judged none)
 
 -- The line of the symbols of DNA.
-module _ (b : List ℕ) (i : ℕ) (t : DataType) (is : t ≡ DataType.Dna) (r : Behind) (judged : Fixed b i (bytes "symbols=ACGT\n") r) where
-  pub symbols-dna : (j : ℕ) → r ≡ Behind.At j → SymbolsTold b i t (Number.At 4 j)
+module _ (b : List ℕ) (i : ℕ) (t : DataType) (is : t ≡ DataType.Dna) (r : Option ℕ) (judged : Fixed b i (bytes "symbols=ACGT\n") r) where
+  pub symbols-dna : (j : ℕ) → r ≡ Some j → SymbolsTold b i t (Some (4, j))
   unfolding line number_of sound_symbols bytes acgt
   symbols-dna j here = rw is (record { found = found; all = all })
     where
@@ -254,7 +251,7 @@ module _ (b : List ℕ) (i : ℕ) (t : DataType) (is : t ≡ DataType.Dna) (r : 
       all : (x rest : List ℕ) → sound_symbols DataType.Dna x false ≡ true → drop i b ≡ line "symbols=" x [] ++ rest → until j 4 ≡ until (i + length (line "symbols=" x [])) (length x)
       all x rest g e = let known : x ≡ acgt = same_true x acgt g in rw (known, s.end) refl
 
-  pub symbols-no-dna : r ≡ Behind.Wrong → SymbolsTold b i t Number.Wrong
+  pub symbols-no-dna : r ≡ None → SymbolsTold b i t None
   unfolding line number_of sound_symbols bytes acgt
   symbols-no-dna none = rw is (tells_none b i _ _ _ no-dna)
     where
@@ -262,7 +259,7 @@ module _ (b : List ℕ) (i : ℕ) (t : DataType) (is : t ≡ DataType.Dna) (r : 
       no-dna x rest g e = let known : x ≡ acgt = same_true x acgt g in wrong-no-end _ (sym none ∙ judged.all tt rest tt (rw known at e))
 
 -- The count of characters and the symbols.
-module _ (b : List ℕ) (i : ℕ) (t : DataType) (n : TaxonNumber) (r : Number) (judged : CountTold b i (bytes "characters=") r) where
+module _ (b : List ℕ) (i : ℕ) (t : DataType) (n : TaxonNumber) (r : Option (ℕ × ℕ)) (judged : CountTold b i (bytes "characters=") r) where
   abbrev counted : ℕ → List ℕ
   counted v = bytes "characters=" ++ (decimal v ++ (10 ∷ []))
 
@@ -281,14 +278,14 @@ module _ (b : List ℕ) (i : ℕ) (t : DataType) (n : TaxonNumber) (r : Number) 
   as-behind-taxa =
       tells-same b i _ _ _ (λ (p : ℕ × List ℕ). p) (λ p g. line-behind "characters=" (decimal p.0) (lined p.1)) (λ p g. g) (λ p g. refl) (λ p g. (p, g, refl))
 
-  behind-characters : (v j : ℕ) → r ≡ Number.At v j → (s : Part Sizes) → Tells b j Symbols lined (sizes v) s
+  behind-characters : (v j : ℕ) → r ≡ Some (v, j) → (s : Part Sizes) → Tells b j Symbols lined (sizes v) s
       → Tells b i (λ (p : ℕ × List ℕ). CountGood p.0 × Symbols p.1) (λ p. line "characters=" (decimal p.0) (lined p.1)) (λ p. sizes p.0 p.1) s
   unfolding number_of
   behind-characters v j here s told =
       as-behind-taxa s (tells-then b i CountGood counted (λ v. v) (λ v. Symbols) (λ v. lined) sizes j v s (subst (λ a. CountTold b i (bytes "characters=") a) here judged) told)
 
-  pub behind-taxa-whole : (v j : ℕ) → r ≡ Number.At v j → (s : Number) → SymbolsTold b j t s → (states k : ℕ) → s ≡ Number.At states k
-      → (h : Head) → h.data_type ≡ t → h.taxa.0 ≡ n.0 → h.characters.0 ≡ v → h.states ≡ states → BehindTaxa b i t n (Headed.At k h)
+  pub behind-taxa-whole : (v j : ℕ) → r ≡ Some (v, j) → (s : Option (ℕ × ℕ)) → SymbolsTold b j t s → (states k : ℕ) → s ≡ Some (states, k)
+      → (h : Head) → h.data_type ≡ t → h.taxa.0 ≡ n.0 → h.characters.0 ≡ v → h.states ≡ states → BehindTaxa b i t n (Some (k, h))
   unfolding number_of opening_sizes headed_of
   behind-taxa-whole v j here s told states k end h typed taxa characters counted =
       rw (typed, taxa, characters, counted)
@@ -296,18 +293,18 @@ module _ (b : List ℕ) (i : ℕ) (t : DataType) (n : TaxonNumber) (r : Number) 
       (tells_as b j Symbols lined (sizes v) (λ x. x) (λ m. record { data_type = t; taxa = n.0; characters = v; states = m }) (λ x g. refl) (λ x g. g) (λ x g. refl) (λ x g. (x, g, refl)) k states
       (subst (λ a. SymbolsTold b j t a) end told)))
 
-  pub behind-taxa-no-symbols : (v j : ℕ) → r ≡ Number.At v j → (s : Number) → SymbolsTold b j t s → s ≡ Number.Wrong → BehindTaxa b i t n Headed.Wrong
+  pub behind-taxa-no-symbols : (v j : ℕ) → r ≡ Some (v, j) → (s : Option (ℕ × ℕ)) → SymbolsTold b j t s → s ≡ None → BehindTaxa b i t n None
   unfolding number_of headed_of
   behind-taxa-no-symbols v j here s told none =
       behind-characters v j here nothing (tells_none b j _ _ _ (λ x rest g e. no_end ((subst (λ a. SymbolsTold b j t a) none told).all x rest g e)))
 
-  pub behind-taxa-no-count : r ≡ Number.Wrong → BehindTaxa b i t n Headed.Wrong
+  pub behind-taxa-no-count : r ≡ None → BehindTaxa b i t n None
   unfolding number_of headed_of
   behind-taxa-no-count none =
       as-behind-taxa nothing (tells-no-first b i CountGood counted (λ v. v) (λ v. Symbols) (λ v. lined) sizes (subst (λ a. CountTold b i (bytes "characters=") a) none judged))
 
 -- The count of taxa and what stands behind it.
-module _ (b : List ℕ) (i : ℕ) (t : DataType) (r : Number) (judged : CountTold b i (bytes "taxa=") r) where
+module _ (b : List ℕ) (i : ℕ) (t : DataType) (r : Option (ℕ × ℕ)) (judged : CountTold b i (bytes "taxa=") r) where
   abbrev counting : ℕ → List ℕ
   counting v = bytes "taxa=" ++ (decimal v ++ (10 ∷ []))
 
@@ -324,21 +321,21 @@ module _ (b : List ℕ) (i : ℕ) (t : DataType) (r : Number) (judged : CountTol
   as-behind-type =
       tells-same b i _ _ _ (λ (p : ℕ × (ℕ × List ℕ)). p) (λ p g. line-behind "taxa=" (decimal p.0) (others p.1)) (λ p g. g) (λ p g. refl) (λ p g. (p, g, refl))
 
-  pub behind-type-whole : (v j : ℕ) → r ≡ Number.At v j → (n : TaxonNumber) → n.0 ≡ v → (h : Headed) → BehindTaxa b j t n h → BehindType b i t h
+  pub behind-type-whole : (v j : ℕ) → r ≡ Some (v, j) → (n : TaxonNumber) → n.0 ≡ v → (h : Option (ℕ × Head)) → BehindTaxa b j t n h → BehindType b i t h
   unfolding number_of
   behind-type-whole v j here n is h told =
       as-behind-type (headed_of h)
       (tells-then b i CountGood counting (λ v. v) (λ v. Others) (λ v. others) (λ v p. opening_sizes (opened t v p)) j v (headed_of h) (subst (λ a. CountTold b i (bytes "taxa=") a) here judged)
       (subst (λ m. Tells b j Others others (λ p. opening_sizes (opened t m p)) (headed_of h)) is told))
 
-  pub behind-type-no-count : r ≡ Number.Wrong → BehindType b i t Headed.Wrong
+  pub behind-type-no-count : r ≡ None → BehindType b i t None
   unfolding number_of headed_of
   behind-type-no-count none =
       as-behind-type nothing
       (tells-no-first b i CountGood counting (λ v. v) (λ v. Others) (λ v. others) (λ v p. opening_sizes (opened t v p)) (subst (λ a. CountTold b i (bytes "taxa=") a) none judged))
 
 -- The four lines.
-module _ (b : List ℕ) (i : ℕ) (r : Flag)
+module _ (b : List ℕ) (i : ℕ) (r : Option (ℕ × Bool))
     (judged : Apart (bytes "datatype=STANDARD\n") (bytes "datatype=DNA\n") → WordTold b i (bytes "datatype=STANDARD\n") (bytes "datatype=DNA\n") r) where
   abbrev typed : Bool → DataType
   typed x = pick x DataType.Dna DataType.Standard
@@ -388,14 +385,14 @@ module _ (b : List ℕ) (i : ℕ) (r : Flag)
         ap (λ t. record { data_type = t; taxa = o.taxa; characters = o.characters; symbols = o.symbols }) is,
       )
 
-  pub opening-whole : (j : ℕ) (x : Bool) → r ≡ Flag.At j x → (t : DataType) → t ≡ typed x → (h : Headed) → BehindType b j t h → OpeningTold b i h
+  pub opening-whole : (j : ℕ) (x : Bool) → r ≡ Some (j, x) → (t : DataType) → t ≡ typed x → (h : Option (ℕ × Head)) → BehindType b j t h → OpeningTold b i h
   unfolding flag_of
   opening-whole j x here t is h told =
       as-opening (headed_of h)
       (tells-then b i (λ x. Unit {0}) typing (λ x. x) (λ x. GoodBehind (typed x)) (λ x. lines) (λ x p. opening_sizes (opened (typed x) p.0 p.1)) j x (headed_of h)
       (subst (λ a. Tells b i (λ x. Unit {0}) typing (λ x. x) (flag_of a)) here (judged apart)) (subst (λ t. BehindType b j t h) is told))
 
-  pub opening-none : r ≡ Flag.Wrong → OpeningTold b i Headed.Wrong
+  pub opening-none : r ≡ None → OpeningTold b i None
   unfolding flag_of headed_of
   opening-none none =
       as-opening nothing

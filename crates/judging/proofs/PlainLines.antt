@@ -1,4 +1,5 @@
 -- The lines behind the number of a character that has neither a label nor state labels: where they stand, no other character's lines do. Assumes nothing.
+use Rattle.std.specs.Prelude.{Some, Option}
 use Prim.Native.Nat.{ℕ, ◌≤◌}
 use Rattle.block.specs.Reading.{Character}
 use Rattle.block.specs.Sound.{sound_label}
@@ -10,8 +11,6 @@ use Rattle.judging.proofs.TellLaws.{tells-one}
 use Rattle.judging.specs.Numbers.{leading}
 use Rattle.judging.specs.Parts.{CharacterGood, LinesTold, PlainTold, character_marks, plain_character, spell_lines}
 use Rattle.judging.specs.Tells.{Tells, until, characters_of, flag_of}
-use Rattle.judging.specs.declared.characters.Characters.{Characters}
-use Rattle.judging.specs.declared.characters.Flag.{Flag}
 use Rattle.lexer.specs.Base.{bytes, is_empty}
 use Rattle.record.specs.Decimal.{decimal}
 use Rattle.record.specs.Form.{any_label}
@@ -57,8 +56,8 @@ plain-only o c x y few e =
     made
 
 -- Where they stand, the character is told.
-pub plain_lines : (b : List ℕ) (i most : ℕ) → most ≤ 1048576 → (r : Flag) → PlainTold b i r → (j : ℕ) (ordered : Bool) → r ≡ Flag.At j ordered
-    → LinesTold b i most (Characters.Behind j false ordered)
+pub plain_lines : (b : List ℕ) (i most : ℕ) → most ≤ 1048576 → (r : Option (ℕ × Bool)) → PlainTold b i r → (j : ℕ) (ordered : Bool) → r ≡ Some (j, ordered)
+    → LinesTold b i most (Some (j, false, ordered))
 unfolding flag_of characters_of character_marks any_label is_empty plain_character sound_label
 plain_lines b i most small r told j ordered here =
     let (s, is) = (subst (λ a. PlainTold b i a) here told).found j ordered refl in

@@ -1,5 +1,6 @@
 -- The parts of a record: what is told of the first four lines, the rows and the characters is told of its reading's. Where one of them does not stand, or
 -- what is told can be of no reading, there is no record. Assumes nothing.
+use Rattle.std.specs.Prelude.{Some, None, Option}
 use Prim.Native.Nat.{ℕ, ◌+◌, ◌≤◌}
 use Rattle.block.proofs.SoundParts.{labels-sound, names-sound, symbols-sound}
 use Rattle.block.specs.Blocks.{has_ordered}
@@ -17,11 +18,7 @@ use Rattle.judging.specs.Parts.{CharacterGood, CharactersTold, RowGood, RowsTold
 use Rattle.judging.specs.Shapes.{RecordJudged}
 use Rattle.judging.specs.Tells.{Marks, cells_of, characters_of}
 use Rattle.judging.specs.Whole.{is_dna}
-use Rattle.judging.specs.declared.Judged.{Judged}
-use Rattle.judging.specs.declared.cells.Cells.{Cells}
-use Rattle.judging.specs.declared.characters.Characters.{Characters}
 use Rattle.judging.specs.declared.heads.Head.{Head}
-use Rattle.judging.specs.declared.heads.Headed.{Headed}
 use Rattle.lexer.proofs.Basics.{all-four, not-both, or-both, same_true}
 use Rattle.lexer.specs.Base.{bytes}
 use Rattle.naming.proofs.RowLaws.{drop-behind}
@@ -38,12 +35,12 @@ use native.Mathlib.Omega.{arith}
 
 module _ (b : List ℕ) where
   -- Where the first four lines do not stand, there is no record.
-  pub judged-no-opening : (h : Headed) → OpeningTold b 0 h → h ≡ Headed.Wrong → RecordJudged b Judged.Wrong
+  pub judged-no-opening : (h : Option (ℕ × Head)) → OpeningTold b 0 h → h ≡ None → RecordJudged b None
   unfolding headed_of
   judged-no-opening h told is =
       judged-none b (λ r reads. no_end (ap headed_of (sym is) ∙ told.all (opening r) (behind r) (opening-good r reads.sound reads.counted) (opening-stands b r reads)))
 
-  module _ (i : ℕ) (h : Head) (told : OpeningTold b 0 (Headed.At i h)) where
+  module _ (i : ℕ) (h : Head) (told : OpeningTold b 0 (Some (i, h))) where
     -- What they say of a reading's record, and where they end.
     pub record Begun (r : Reading) : Type 0 where
       pub typed : h.data_type ≡ r.data_type
@@ -87,18 +84,18 @@ module _ (b : List ℕ) where
         omega (arith, few, ap (λ (z : Sizes). z.characters) is)
 
     -- Where they do not stand, there is no record.
-    pub judged-no-rows : (r : Cells) → (1 ≤ h.characters.0 → RowsTold b i h.taxa.0 h.characters.0 h.states r) → r ≡ Cells.Wrong → RecordJudged b Judged.Wrong
+    pub judged-no-rows : (r : Option (ℕ × Bool)) → (1 ≤ h.characters.0 → RowsTold b i h.taxa.0 h.characters.0 h.states r) → r ≡ None → RecordJudged b None
     unfolding cells_of
     judged-no-rows c rows is =
         judged-none b
         (λ r reads. let at = begun r reads in no_end (ap cells_of (sym is) ∙ (rows some-character).all r.taxa (spell_characters 1 r.characters []) (rows-listed r reads at) (rows-stand r at)))
 
     -- Where they do, it is told of them.
-    pub rows-there : (c : Cells) → (1 ≤ h.characters.0 → RowsTold b i h.taxa.0 h.characters.0 h.states c) → (j : ℕ) (gaps : Bool) → c ≡ Cells.Behind j gaps
-        → RowsTold b i h.taxa.0 h.characters.0 h.states (Cells.Behind j gaps)
+    pub rows-there : (c : Option (ℕ × Bool)) → (1 ≤ h.characters.0 → RowsTold b i h.taxa.0 h.characters.0 h.states c) → (j : ℕ) (gaps : Bool) → c ≡ Some (j, gaps)
+        → RowsTold b i h.taxa.0 h.characters.0 h.states (Some (j, gaps))
     rows-there c judged j gaps is = rw is at (judged some-character)
 
-    module _ (j : ℕ) (gaps : Bool) (rows_told : RowsTold b i h.taxa.0 h.characters.0 h.states (Cells.Behind j gaps)) where
+    module _ (j : ℕ) (gaps : Bool) (rows_told : RowsTold b i h.taxa.0 h.characters.0 h.states (Some (j, gaps))) where
       -- What is told of the rows of a reading, and where they end.
       pub rows_end : (r : Reading) → Reads b r → (j ≡ i + length (spelled_all (λ k. spell_row) 1 r.taxa)) × (gaps ≡ gap_in r.taxa)
       unfolding cells_of
@@ -108,7 +105,7 @@ module _ (b : List ℕ) where
           (end, told ∙ rows-gap false r.taxa)
 
       -- There are too many symbols beside a gap.
-      pub judged-no-sign : gaps && ltb 72 h.states ≡ true → RecordJudged b Judged.Wrong
+      pub judged-no-sign : gaps && ltb 72 h.states ≡ true → RecordJudged b None
       judged-no-sign many =
           judged-none b
           (λ r reads.
@@ -117,7 +114,7 @@ module _ (b : List ℕ) where
           not-both (ap (λ g. g && ltb 72 h.states) gap ∙ ap (λ n. gap_in r.taxa && ltb 72 n) at.states ∙ symbols-room r.data_type r.symbols (gap_in r.taxa) (symbols-sound r reads.sound)) many)
 
       -- Names are alike.
-      pub judged-alike : NamesJudged b i h.taxa.0 h.characters.0 false → RecordJudged b Judged.Wrong
+      pub judged-alike : NamesJudged b i h.taxa.0 h.characters.0 false → RecordJudged b None
       judged-alike alike =
           judged-none b
           (λ r reads.
@@ -157,15 +154,15 @@ module _ (b : List ℕ) where
           few DataType.Dna l g = rw (same_true l acgt g) (omega arith)
 
       -- Where they do not stand, there is no record.
-      pub judged-no-characters : (x : Characters) → (h.states ≤ 1048576 → CharactersTold b j h.characters.0 h.states x) → x ≡ Characters.Wrong
-          → RecordJudged b Judged.Wrong
+      pub judged-no-characters : (x : Option (ℕ × Bool × Bool)) → (h.states ≤ 1048576 → CharactersTold b j h.characters.0 h.states x) → x ≡ None
+          → RecordJudged b None
       unfolding characters_of
       judged-no-characters x lines is =
           judged-none b (λ r reads. no_end (ap characters_of (sym is) ∙ (lines few-states).all r.characters [] (characters-listed r reads) (characters-stand r reads)))
 
-      module _ (end : ℕ) (label order : Bool) (x : Characters) (lines : h.states ≤ 1048576 → CharactersTold b j h.characters.0 h.states x)
-          (is : x ≡ Characters.Behind end label order) where
-        pub lines-told : CharactersTold b j h.characters.0 h.states (Characters.Behind end label order)
+      module _ (end : ℕ) (label order : Bool) (x : Option (ℕ × Bool × Bool)) (lines : h.states ≤ 1048576 → CharactersTold b j h.characters.0 h.states x)
+          (is : x ≡ Some (end, label, order)) where
+        pub lines-told : CharactersTold b j h.characters.0 h.states (Some (end, label, order))
         lines-told = rw is at (lines few-states)
 
         -- What is told of the characters of a reading, and where they end.
@@ -195,7 +192,7 @@ module _ (b : List ℕ) where
             omega (arith, size, at.end, (rows_end r reads).0, (ended r reads).reach)
 
         -- Something stands behind the characters, or DNA has an ordered one.
-        pub judged-otherwise : (dna : Bool) → dna ≡ is_dna h.data_type → not (eqb end (length b)) || (order && dna) ≡ true → RecordJudged b Judged.Wrong
+        pub judged-otherwise : (dna : Bool) → dna ≡ is_dna h.data_type → not (eqb end (length b)) || (order && dna) ≡ true → RecordJudged b None
         judged-otherwise dna same bad = judged-none b (λ r reads. not-both (or-both (whole r reads) (unordered r reads)) bad)
           where
             whole : (r : Reading) → Reads b r → not (eqb end (length b)) ≡ false

@@ -1,5 +1,6 @@
 -- The record of a sound reading: bytes that are none are judged as none, and those of one by its shape; what its first four lines are; and what is
 -- tested of its symbols, its types and its counts. Assumes nothing.
+use Rattle.std.specs.Prelude.{Some, None}
 use Prim.Native.Nat.{ℕ, ◌≤◌}
 use Rattle.block.proofs.SoundParts.{symbols-sound}
 use Rattle.block.specs.Blocks.{has_ordered, orderable}
@@ -12,7 +13,6 @@ use Rattle.judging.proofs.ReadingParts.{line-append}
 use Rattle.judging.specs.Opening.{Opening, OpeningGood, spell_opening}
 use Rattle.judging.specs.Shapes.{RecordJudged, ShapeOf}
 use Rattle.judging.specs.Whole.{is_dna}
-use Rattle.judging.specs.declared.Judged.{Judged}
 use Rattle.judging.specs.declared.Shape.{Shape}
 use Rattle.lexer.proofs.Basics.{all-four, and_both, and-false, and-true, same_true}
 use Rattle.lexer.specs.Base.{bytes, is_empty}
@@ -39,10 +39,10 @@ pub record Reads (b : List ℕ) (r : Reading) : Type 0 where
   pub counted : Counted r
 
 -- Bytes that are the record of no such reading are none.
-pub judged-none : (b : List ℕ) → ((r : Reading) → Reads b r → ⊥) → RecordJudged b Judged.Wrong
+pub judged-none : (b : List ℕ) → ((r : Reading) → Reads b r → ⊥) → RecordJudged b None
 judged-none b never = record { found = λ s e. absurd (wrong-shape s e); none = λ e. go (unspell b) refl }
   where
-    wrong-shape : (s : Shape) → Judged.Wrong ≡ Judged.Record s → ⊥
+    wrong-shape : (s : Shape) → None ≡ Some s → ⊥
     wrong-shape s e = let z : ◌≡◌ {A = ℕ} 0 1 = cc in omega arith
 
     go : (o : Option Reading) → unspell b ≡ o → unspell b ≡ none
@@ -50,13 +50,13 @@ judged-none b never = record { found = λ s e. absurd (wrong-shape s e); none = 
     go (some r) e = let (spelled, sound, counted) = spell-unspell b r e in absurd (never r (record { spelled = spelled; sound = sound; counted = counted }))
 
 -- Those of a reading are its record, and have the shape that says what it has.
-pub judged-shape : (b : List ℕ) (s : Shape) (r : Reading) → Reads b r → ShapeOf b s r → RecordJudged b (Judged.Record s)
+pub judged-shape : (b : List ℕ) (s : Shape) (r : Reading) → Reads b r → ShapeOf b s r → RecordJudged b (Some s)
 judged-shape b s r reads shape = record { found = found; none = λ e. absurd (shape-wrong e) }
   where
-    shape-wrong : Judged.Record s ≡ Judged.Wrong → ⊥
+    shape-wrong : Some s ≡ None → ⊥
     shape-wrong e = let z : ◌≡◌ {A = ℕ} 0 1 = cc in omega arith
 
-    found : (t : Shape) → Judged.Record s ≡ Judged.Record t → (r : Reading) × (unspell b ≡ some r) × ShapeOf b t r
+    found : (t : Shape) → Some s ≡ Some t → (r : Reading) × (unspell b ≡ some r) × ShapeOf b t r
     found t e =
         let same : s ≡ t = cc in
         (r, ap unspell (sym reads.spelled) ∙ unspell-spell r reads.sound reads.counted, rw same at shape)
@@ -122,6 +122,12 @@ symbols-room DataType.Dna s true g = rw (same_true s acgt g) refl
 symbols-room DataType.Standard s true g =
     let (two, most, valid, different) = all-four (leb 2 (length s)) (leb (length s) 72) (all_valid s) (distinct s) g in
     le-ltb 72 (length s) (leb-true (length s) 72 most)
+
+-- A type that is not DNA.
+pub dna-otherwise : (t : DataType) → (t ≡ DataType.Dna → ⊥) → false ≡ is_dna t
+unfolding is_dna
+dna-otherwise DataType.Standard other = refl
+dna-otherwise DataType.Dna other = absurd (other refl)
 
 -- DNA that has no ordered character.
 pub dna-unordered : (t : DataType) (cs : List Character) → orderable t cs ≡ true → has_ordered cs && is_dna t ≡ false

@@ -1,5 +1,6 @@
 -- The rows of a record: what judging a name and cells tells of a row. Assumes nothing.
-use Prim.Native.Nat.{ℕ, suc, ◌+◌, ◌-◌, ◌≤◌, ◌<◌}
+use Rattle.std.specs.Prelude.{Some, None, Option}
+use Prim.Native.Nat.{ℕ, suc, ◌+◌, ◌≤◌}
 use Rattle.block.specs.Cell.{Cell}
 use Rattle.block.specs.Reading.{Taxon}
 use Rattle.block.specs.Sound.{gap_among, sound_cells, sound_name}
@@ -10,8 +11,6 @@ use Rattle.judging.specs.CellsJudged.{CellsJudged}
 use Rattle.judging.specs.Judges.{Judges, Stands}
 use Rattle.judging.specs.Parts.{CellsTold, RowGood, RowTold, RowsTold, spell_row, row_gap}
 use Rattle.judging.specs.Tells.{Part, nothing, until, Tells, behind_of, cells_of}
-use Rattle.judging.specs.declared.Behind.{Behind}
-use Rattle.judging.specs.declared.cells.Cells.{Cells}
 use Rattle.lexer.specs.Base.{bytes}
 use Rattle.record.specs.Spell.{escaped, line, spell_cells}
 use lib.ListN.{length, drop, length-append}
@@ -26,37 +25,37 @@ unfolding line
 line-behind key v behind = ap (λ l. bytes key ++ l) (sym (append_assoc v (10 ∷ []) behind)) ∙ sym (append_assoc (bytes key) (v ++ (10 ∷ [])) behind)
 
 -- A name behind a key.
-module _ (b : List ℕ) (i : ℕ) (key : List ℕ) (r : Behind) (judged : Judges b i (λ (u : Unit {0}). Unit {0}) (λ u. key) r) where
-  abbrev Named : Behind → Type 0
+module _ (b : List ℕ) (i : ℕ) (key : List ℕ) (r : Option ℕ) (judged : Judges b i (λ (u : Unit {0}). Unit {0}) (λ u. key) r) where
+  abbrev Named : Option ℕ → Type 0
   Named s = Judges b i (λ n. sound_name n ≡ true) (λ n. key ++ (escaped n ++ (10 ∷ []))) s
 
-  pub name-keyed : (j : ℕ) → r ≡ Behind.At j → (s : Behind) → Judges b j (λ n. sound_name n ≡ true) (λ n. escaped n ++ (10 ∷ [])) s → Named s
+  pub name-keyed : (j : ℕ) → r ≡ Some j → (s : Option ℕ) → Judges b j (λ n. sound_name n ≡ true) (λ n. escaped n ++ (10 ∷ [])) s → Named s
   name-keyed j here s named = tells-judges b i _ _ s (tells-keyed b i key _ _ (λ n. tt) r judged j here (behind_of s) (tells-end b j _ _ s named))
 
-  pub name-no-key : r ≡ Behind.Wrong → Named Behind.Wrong
+  pub name-no-key : r ≡ None → Named None
   unfolding behind_of
-  name-no-key none = tells-judges b i _ _ Behind.Wrong (tells-no-key b i key _ _ (λ n. tt) r judged none)
+  name-no-key none = tells-judges b i _ _ None (tells-no-key b i key _ _ (λ n. tt) r judged none)
 
 -- Cells and the LF behind them.
 module _ (b : List ℕ) (characters states : ℕ) where
   abbrev CellsGood : List Cell → Type 0
   CellsGood cs = (sound_cells states cs ≡ true) × (length cs ≡ characters)
 
-  cells_told : (i : ℕ) → 1 ≤ characters → (r : Cells) → CellsJudged b i characters states r
+  cells_told : (i : ℕ) → 1 ≤ characters → (r : Option (ℕ × Bool)) → CellsJudged b i characters states r
       → Tells b i CellsGood (λ cs. spell_cells cs ++ (10 ∷ [])) gap_among (cells_of r)
   unfolding cells_of
   cells_told i some r judged = record { found = found r judged; all = all }
     where
-      found : (r : Cells) → CellsJudged b i characters states r → (j : ℕ) (g : Bool) → cells_of r ≡ until j g
+      found : (r : Option (ℕ × Bool)) → CellsJudged b i characters states r → (j : ℕ) (g : Bool) → cells_of r ≡ until j g
           → (s : Stands b i CellsGood (λ cs. spell_cells cs ++ (10 ∷ [])) j) × (g ≡ gap_among s.what)
-      found (Cells.Behind k h) judged j g e =
+      found (Some (k, h)) judged j g e =
           let (kj, hg) = same-told e in
-          let same : Cells.Behind k h ≡ Cells.Behind j g = rw (kj, hg) refl in
+          let same : Some (k, h) ≡ Some (j, g) = rw (kj, hg) refl in
           let s = judged.found j g same in
           let end : j ≡ i + length (spell_cells s.cells ++ (10 ∷ [])) = simp length-append (omega (arith, s.end)) in
           let stands : drop i b ≡ (spell_cells s.cells ++ (10 ∷ [])) ++ drop j b = s.here ∙ sym (append_assoc (spell_cells s.cells) (10 ∷ []) (drop j b)) in
           (record { what = s.cells; sound = (s.sound, s.count); here = stands; end = end }, s.gap)
-      found Cells.Wrong judged j g e = absurd (no_end e)
+      found None judged j g e = absurd (no_end e)
 
       all : (cs : List Cell) (rest : List ℕ) → CellsGood cs → drop i b ≡ (spell_cells cs ++ (10 ∷ [])) ++ rest
           → cells_of r ≡ until (i + length (spell_cells cs ++ (10 ∷ []))) (gap_among cs)
@@ -66,17 +65,17 @@ module _ (b : List ℕ) (characters states : ℕ) where
           ap cells_of told ∙ ap (λ n. until n (gap_among cs)) end
 
   -- The key and the cells.
-  module _ (i : ℕ) (r : Behind) (judged : Judges b i (λ (u : Unit {0}). Unit {0}) (λ u. bytes "cells=") r) where
-    pub cells-keyed : (j : ℕ) → r ≡ Behind.At j → 1 ≤ characters → (s : Cells) → CellsJudged b j characters states s → CellsTold b i characters states s
+  module _ (i : ℕ) (r : Option ℕ) (judged : Judges b i (λ (u : Unit {0}). Unit {0}) (λ u. bytes "cells=") r) where
+    pub cells-keyed : (j : ℕ) → r ≡ Some j → 1 ≤ characters → (s : Option (ℕ × Bool)) → CellsJudged b j characters states s → CellsTold b i characters states s
     unfolding line
     cells-keyed j here some s told = tells-keyed b i (bytes "cells=") _ _ gap_among r judged j here (cells_of s) (cells_told j some s told)
 
-    pub cells-no-key : r ≡ Behind.Wrong → CellsTold b i characters states Cells.Wrong
+    pub cells-no-key : r ≡ None → CellsTold b i characters states None
     unfolding line cells_of
     cells-no-key none = tells-no-key b i (bytes "cells=") _ _ gap_among r judged none
 
   -- The name and the cells.
-  module _ (i : ℕ) (r : Behind) (judged : Judges b i (λ n. sound_name n ≡ true) (λ n. bytes "name=" ++ (escaped n ++ (10 ∷ []))) r) where
+  module _ (i : ℕ) (r : Option ℕ) (judged : Judges b i (λ n. sound_name n ≡ true) (λ n. bytes "name=" ++ (escaped n ++ (10 ∷ []))) r) where
     abbrev named : List ℕ → List ℕ
     named n = bytes "name=" ++ (escaped n ++ (10 ∷ []))
 
@@ -97,14 +96,14 @@ module _ (b : List ℕ) (characters states : ℕ) where
         (λ p g. refl)
         (λ t g. ((t.name, t.cells), (g.name, (g.cells, g.long)), refl))
 
-    pub row-named : (j : ℕ) → r ≡ Behind.At j → (s : Cells) → CellsTold b j characters states s → RowTold b i characters states s
+    pub row-named : (j : ℕ) → r ≡ Some j → (s : Option (ℕ × Bool)) → CellsTold b j characters states s → RowTold b i characters states s
     unfolding behind_of
     row-named j here s told =
         let first : Tells b i (λ n. sound_name n ≡ true) named (λ n. tt) (until j tt) =
         subst (λ a. Tells b i (λ n. sound_name n ≡ true) named (λ n. tt) (behind_of a)) here told_name in
         as_row (cells_of s) (tells-then b i (λ n. sound_name n ≡ true) named (λ n. tt) (λ v. CellsGood) (λ v cs. line "cells=" (spell_cells cs) []) (λ v. gap_among) j tt (cells_of s) first told)
 
-    pub row-unnamed : r ≡ Behind.Wrong → RowTold b i characters states Cells.Wrong
+    pub row-unnamed : r ≡ None → RowTold b i characters states None
     unfolding behind_of cells_of
     row-unnamed none =
         let first : Tells b i (λ n. sound_name n ≡ true) named (λ n. tt) nothing =
@@ -118,22 +117,22 @@ RowsLeft b i characters states n at gap left =
 
 module _ (b : List ℕ) (i : ℕ) (characters : CharacterNumber) (states n at : ℕ) (gap : Bool) (left : ℕ) (walk : RowsLeft b i characters states n at gap left) where
   -- A row more stands there.
-  pub rows_step : 0 < left → {r : Cells} → (1 ≤ characters.0 → RowTold b at characters.0 states r) → (j : ℕ) (g : Bool) → r ≡ Cells.Behind j g
-      → RowsLeft b i characters states n j (gap || g) (left - 1)
+  pub rows_step : {less : ℕ} → left ≡ suc less → {r : Option (ℕ × Bool)} → (1 ≤ characters.0 → RowTold b at characters.0 states r) → (j : ℕ) (g : Bool) → r ≡ Some (j, g)
+      → RowsLeft b i characters states n j (gap || g) less
   unfolding cells_of
   rows_step more told j g here some =
       let (next, listing) = walk some in
       (suc next, listing_step b _ _ _ _ listing more j g (subst (λ a. RowTold b at characters.0 states a) here (told some)))
 
   -- None stands there.
-  pub rows_short : 0 < left → {r : Cells} → (1 ≤ characters.0 → RowTold b at characters.0 states r) → r ≡ Cells.Wrong
-      → 1 ≤ characters.0 → RowsTold b i n characters.0 states Cells.Wrong
+  pub rows_short : {less : ℕ} → left ≡ suc less → {r : Option (ℕ × Bool)} → (1 ≤ characters.0 → RowTold b at characters.0 states r) → r ≡ None
+      → 1 ≤ characters.0 → RowsTold b i n characters.0 states None
   unfolding cells_of
   rows_short more told none some =
       let (next, listing) = walk some in
       listing-short b _ _ _ _ listing more (subst (λ a. RowTold b at characters.0 states a) none (told some))
 
   -- No rows are left.
-  pub rows-over : left ≤ 0 → 1 ≤ characters.0 → RowsTold b i n characters.0 states (Cells.Behind at gap)
+  pub rows-over : left ≤ 0 → 1 ≤ characters.0 → RowsTold b i n characters.0 states (Some (at, gap))
   unfolding cells_of
   rows-over over some = let (next, listing) = walk some in listing-over b _ _ _ _ listing over

@@ -3,10 +3,11 @@ use Prim.Native.Nat.{ℕ, suc, ◌+◌, ◌-◌, ◌≤◌, ◌<◌}
 use Rattle.block.specs.Format.{all_valid, valid_symbol}
 use Rattle.block.specs.Sound.{distinct}
 use Rattle.judging.specs.Opening.{run_of}
-use Rattle.lexer.proofs.Basics.{among-append, and_both, and_left, and_right, by-test, eqb_same, not-both, or-both, or-false, or-first, or_right, or-second, pick_first, pick_second}
-use Rattle.lexer.proofs.ListLaws.{drop-next, take_next}
+use Rattle.lexer.proofs.Basics.{among-append, and_both, and_left, and_right, by-test, eqb-sym, eqb_same, not-both, or-both, or-false, or-first, or_right, or-second, pick_first, pick_second}
+use Rattle.lexer.proofs.ListLaws.{drop-next}
 use Rattle.lexer.specs.Base.{among, pick}
-use borrow.Author.Tests.{eq-eqb, eqb-true, not-true}
+use Rattle.std.specs.List.{list_any}
+use borrow.Author.Tests.{eqb-true, not-true}
 use lib.Dec.{eqb}
 use lib.ListN.{length, drop, get_or, take, drop_of_length-le, length-drop}
 use lib.Seq.{get_or-drop, take-suc}
@@ -21,32 +22,11 @@ or_comm false y = sym (or-false y)
 or_comm true false = refl
 or_comm true true = refl
 
--- A byte looked for among those from one place up to another: what is found from here on is found in all.
-pub record Seeking (b : List ℕ) (from to x at : ℕ) : Type 0 where
-  pub ahead : from ≤ at
-  pub rest : among x (take (to - at) (drop at b)) ≡ among x (take (to - from) (drop from b))
-
-module _ (b : List ℕ) (from to x at : ℕ) (within : to ≤ length b) (s : Seeking b from to x at) (more : at < to) where
-  next : among x (take (to - at) (drop at b)) ≡ eqb x (get_or b at 0) || among x (take (to - (at + 1)) (drop (at + 1) b))
-  unfolding among
-  next = ap (among x) (take_next b at to more (omega arith))
-
-  -- It stands here.
-  pub seeking-here : x ≡ get_or b at 0 → true ≡ among x (take (to - from) (drop from b))
-  seeking-here same = sym (sym s.rest ∙ next ∙ ap (λ t. t || among x (take (to - (at + 1)) (drop (at + 1) b))) (eq-eqb x (get_or b at 0) same))
-
-  -- It does not.
-  pub seeking-on : eqb x (get_or b at 0) ≡ false → Seeking b from to x (at + 1)
-  seeking-on other =
-      record {
-        ahead = omega (arith, s.ahead);
-        rest = sym (next ∙ ap (λ t. t || among x (take (to - (at + 1)) (drop (at + 1) b))) other) ∙ s.rest;
-      }
-
--- Where nothing is left, it was not found.
-pub seeking-over : (b : List ℕ) (from to x at : ℕ) → Seeking b from to x at → to ≤ at → false ≡ among x (take (to - from) (drop from b))
+-- A byte is among these where one of them is equal to it.
+pub any-among : (x : ℕ) (l : List ℕ) → list_any (λ y. eqb y x) l ≡ among x l
 unfolding among
-seeking-over b from to x at s over = let none : to - at ≡ 0 = omega arith in sym (sym s.rest ∙ ap (λ n. among x (take n (drop at b))) none)
+any-among x [] = refl
+any-among x (y ∷ l) = rw (eqb-sym y x, any-among x l)
 
 -- A run of symbols: what stands in front from here on, beside those that were seen, is the rest of the run.
 pub record Running (b : List ℕ) (from at : ℕ) : Type 0 where

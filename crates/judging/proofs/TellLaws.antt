@@ -1,11 +1,11 @@
 -- Laws of judging parts of which something is told: where nothing stands, where one thing stands, a part made of another, a part that must pass a test besides, and a part
 -- behind another, which may depend on what is told of the first. Assumes nothing.
+use Rattle.std.specs.Prelude.{Some, None, Option}
 use Prim.Native.Nat.{ℕ, ◌+◌}
 use Rattle.judging.proofs.JudgeLaws.{wrong-no-end}
 use Rattle.naming.proofs.RowLaws.{drop-behind}
 use Rattle.judging.specs.Judges.{Stands, Judges}
 use Rattle.judging.specs.Tells.{Part, nothing, until, Tells, behind_of}
-use Rattle.judging.specs.declared.Behind.{Behind}
 use Rattle.lexer.proofs.Basics.{not-both}
 use lib.ListN.{length, drop, length-append}
 use mathlib.Core.Bool.{Bool, true, false}
@@ -47,25 +47,25 @@ module _ {A T : Type 0} (b : List ℕ) (i : ℕ) (good : A → Type 0) (spelled 
   tells-value j v told what rest g e = (same-told (told.all what rest g e)).1
 
 -- A part of which nothing is told but its end.
-pub tells-end : {A : Type 0} (b : List ℕ) (i : ℕ) (good : A → Type 0) (spelled : A → List ℕ) (r : Behind) → Judges b i good spelled r
+pub tells-end : {A : Type 0} (b : List ℕ) (i : ℕ) (good : A → Type 0) (spelled : A → List ℕ) (r : Option ℕ) → Judges b i good spelled r
     → Tells b i good spelled (λ a. tt) (behind_of r)
 unfolding behind_of
 tells-end {A} b i good spelled r judged = record { found = found r judged; all = λ what rest g e. ap behind_of (judged.all what rest g e) }
   where
-    found : (r : Behind) → Judges b i good spelled r → (j : ℕ) (v : Unit {0}) → behind_of r ≡ until j v → (s : Stands b i good spelled j) × (v ≡ tt)
-    found (Behind.At k) judged j tt e = (judged.found j (ap Behind.At (same-told e).0), refl)
-    found Behind.Wrong judged j v e = absurd (no_end e)
+    found : (r : Option ℕ) → Judges b i good spelled r → (j : ℕ) (v : Unit {0}) → behind_of r ≡ until j v → (s : Stands b i good spelled j) × (v ≡ tt)
+    found (Some k) judged j tt e = (judged.found j (ap Some (same-told e).0), refl)
+    found None judged j v e = absurd (no_end e)
 
 -- And back: where nothing is told, its end is all.
-pub tells-judges : {A : Type 0} (b : List ℕ) (i : ℕ) (good : A → Type 0) (spelled : A → List ℕ) (r : Behind) → Tells b i good spelled (λ a. tt) (behind_of r)
+pub tells-judges : {A : Type 0} (b : List ℕ) (i : ℕ) (good : A → Type 0) (spelled : A → List ℕ) (r : Option ℕ) → Tells b i good spelled (λ a. tt) (behind_of r)
     → Judges b i good spelled r
 unfolding behind_of
 tells-judges {A} b i good spelled r told = record { found = λ j e. (told.found j tt (ap behind_of e)).0; all = all r told }
   where
-    all : (r : Behind) → Tells b i good spelled (λ a. tt) (behind_of r) → (what : A) (rest : List ℕ) → good what → drop i b ≡ spelled what ++ rest
-        → r ≡ Behind.At (i + length (spelled what))
-    all (Behind.At k) told what rest g e = ap Behind.At (same-told (told.all what rest g e)).0
-    all Behind.Wrong told what rest g e = absurd (no_end (told.all what rest g e))
+    all : (r : Option ℕ) → Tells b i good spelled (λ a. tt) (behind_of r) → (what : A) (rest : List ℕ) → good what → drop i b ≡ spelled what ++ rest
+        → r ≡ Some (i + length (spelled what))
+    all (Some k) told what rest g e = ap Some (same-told (told.all what rest g e)).0
+    all None told what rest g e = absurd (no_end (told.all what rest g e))
 
 -- A part that is made of another: spelled alike, good alike, and told of alike.
 module _ {A B T W : Type 0} (b : List ℕ) (i : ℕ) {good : A → Type 0} {spelled : A → List ℕ} {tell : A → T}
@@ -203,10 +203,10 @@ module _ {A B T W : Type 0} (b : List ℕ) (i : ℕ) (good : A → Type 0) (spel
           last ∙ ap (λ n. until n (tell' (tell x) y)) sum
 
 -- A part behind a key.
-module _ {A T : Type 0} (b : List ℕ) (i : ℕ) (key : List ℕ) (good : A → Type 0) (spelled : A → List ℕ) (tell : A → T) (r : Behind)
+module _ {A T : Type 0} (b : List ℕ) (i : ℕ) (key : List ℕ) (good : A → Type 0) (spelled : A → List ℕ) (tell : A → T) (r : Option ℕ)
     (judged : Judges b i (λ (u : Unit {0}). Unit {0}) (λ u. key) r) where
   -- The key stands there: it is judged as what stands behind it.
-  pub tells-keyed : (j : ℕ) → r ≡ Behind.At j → (s : Part T) → Tells b j good spelled tell s → Tells b i good (λ a. key ++ spelled a) tell s
+  pub tells-keyed : (j : ℕ) → r ≡ Some j → (s : Part T) → Tells b j good spelled tell s → Tells b i good (λ a. key ++ spelled a) tell s
   unfolding behind_of
   tells-keyed j here s told =
       tells-same b i good (λ a. key ++ spelled a) tell (λ (p : Unit {0} × A). p.1) (λ p g. refl) (λ p g. g.1) (λ p g. refl) (λ a g. ((tt, a), (tt, g), refl)) s
@@ -216,7 +216,7 @@ module _ {A T : Type 0} (b : List ℕ) (i : ℕ) (key : List ℕ) (good : A → 
       first = subst (λ a. Tells b i (λ (u : Unit {0}). Unit {0}) (λ u. key) (λ u. tt) (behind_of a)) here (tells-end b i _ _ r judged)
 
   -- It does not: there is none.
-  pub tells-no-key : r ≡ Behind.Wrong → Tells b i good (λ a. key ++ spelled a) tell nothing
+  pub tells-no-key : r ≡ None → Tells b i good (λ a. key ++ spelled a) tell nothing
   tells-no-key none =
       tells_none b i good (λ a. key ++ spelled a) tell
       (λ a rest g e. wrong-no-end _ (sym none ∙ judged.all tt (spelled a ++ rest) tt (e ∙ append_assoc key (spelled a) rest)))

@@ -1,10 +1,10 @@
 -- UTF-8 byte by byte: what each byte leaves open of a character. Assumes nothing.
 use Prim.Native.Nat.{ℕ, zero, suc, ◌-◌, ◌≤◌, ◌<◌}
-use Rattle.lexer.proofs.Basics.{by-test, all_under, under_at}
+use Rattle.lexer.proofs.Basics.{by-test}
 use Rattle.lexer.specs.Base.{pick}
-use Rattle.lexer.specs.Utf8.{utf8_from, after_lead, is_lead, follow}
-use borrow.Author.Tests.{eqb-true, ltb-true, ltb-false, lt-ltb, le-ltb, le-leb, lt-leb}
-use lib.Dec.{eqb, ltb, leb}
+use Rattle.lexer.specs.Utf8.{utf8_from, after_lead, is_lead}
+use borrow.Author.Tests.{ltb-true, ltb-false, lt-ltb, le-ltb, le-leb, lt-leb}
+use lib.Dec.{ltb, leb}
 use mathlib.Core.Bool.{Bool, true, false, ◌&&◌, ◌||◌, not}
 use mathlib.Core.List.{List, ◌∷◌}
 use mathlib.Core.Path.{◌≡◌, refl, ◌∙◌}
@@ -51,20 +51,3 @@ module _ (more low high b : ℕ) (n : List ℕ) (some : more ≡ 0 → ⊥) wher
 
   pub no-later : ltb b low || ltb high b ≡ true → utf8_from more low high (b ∷ n) ≡ false
   no-later h = later-open more low high b n some ∙ rw h
-
--- What follows a character's first byte, each number by itself: the same for each byte, by computing.
-module _ (b : ℕ) (small : b < 256) where
-  computed : (f g : ℕ → ℕ) → all_under (λ k. eqb (f k) (g k)) 256 ≡ true → f b ≡ g b
-  computed f g h = eqb-true (f b) (g b) (under_at (λ k. eqb (f k) (g k)) 256 b h small)
-
-  pub lead-more : pick (ltb b 224) 1 (pick (ltb b 240) 2 3) ≡ (after_lead b).more
-  unfolding after_lead follow pick all_under
-  lead-more = computed (λ k. pick (ltb k 224) 1 (pick (ltb k 240) 2 3)) (λ k. (after_lead k).more) refl
-
-  pub lead_low : pick (eqb b 224) 160 (pick (eqb b 240) 144 128) ≡ (after_lead b).low
-  unfolding after_lead follow pick all_under
-  lead_low = computed (λ k. pick (eqb k 224) 160 (pick (eqb k 240) 144 128)) (λ k. (after_lead k).low) refl
-
-  pub lead_high : pick (eqb b 237) 159 (pick (eqb b 244) 143 191) ≡ (after_lead b).high
-  unfolding after_lead follow pick all_under
-  lead_high = computed (λ k. pick (eqb k 237) 159 (pick (eqb k 244) 143 191)) (λ k. (after_lead k).high) refl

@@ -1,5 +1,6 @@
 -- A record judged as a whole: bytes are the record of a reading just if its first four lines, its rows and its characters stand there, one behind
 -- another, and nothing behind them. Assumes nothing.
+use Rattle.std.specs.Prelude.{Some, Option}
 use Prim.Native.Nat.{ℕ, ◌+◌, ◌-◌, ◌≤◌, ◌<◌}
 use Rattle.block.proofs.SoundParts.{sound-parts}
 use Rattle.block.specs.Blocks.{has_ordered}
@@ -16,12 +17,8 @@ use Rattle.judging.specs.Parts.{CharacterGood, CharactersTold, RowGood, RowsTold
 use Rattle.judging.specs.Shapes.{RecordJudged, ShapeOf}
 use Rattle.judging.specs.Tells.{Marks, cells_of, characters_of}
 use Rattle.judging.specs.Whole.{is_dna}
-use Rattle.judging.specs.declared.Judged.{Judged}
 use Rattle.judging.specs.declared.Shape.{Shape}
-use Rattle.judging.specs.declared.cells.Cells.{Cells}
-use Rattle.judging.specs.declared.characters.Characters.{Characters}
 use Rattle.judging.specs.declared.heads.Head.{Head}
-use Rattle.judging.specs.declared.heads.Headed.{Headed}
 use Rattle.lexer.proofs.Basics.{or_left, or_right}
 use Rattle.naming.proofs.RowLaws.{drop-behind}
 use Rattle.naming.specs.Rows.{NamesJudged, RowsStand}
@@ -36,10 +33,10 @@ use mathlib.Core.Path.{◌≡◌, refl, sym, ap, ◌∙◌}
 use native.Mathlib.Omega.{arith}
 
 -- All is well: the bytes are the record of a reading.
-module _ (b : List ℕ) (i : ℕ) (h : Head) (told : OpeningTold b 0 (Headed.At i h))
-    (j : ℕ) (gaps : Bool) (rows_told : RowsTold b i h.taxa.0 h.characters.0 h.states (Cells.Behind j gaps))
-    (end : ℕ) (label order : Bool) (x : Characters) (lines : h.states ≤ 1048576 → CharactersTold b j h.characters.0 h.states x)
-    (is : x ≡ Characters.Behind end label order)
+module _ (b : List ℕ) (i : ℕ) (h : Head) (told : OpeningTold b 0 (Some (i, h)))
+    (j : ℕ) (gaps : Bool) (rows_told : RowsTold b i h.taxa.0 h.characters.0 h.states (Some (j, gaps)))
+    (end : ℕ) (label order : Bool) (x : Option (ℕ × Bool × Bool)) (lines : h.states ≤ 1048576 → CharactersTold b j h.characters.0 h.states x)
+    (is : x ≡ Some (end, label, order))
     (room : gaps && ltb 72 h.states ≡ false) (differ : NamesJudged b i h.taxa.0 h.characters.0 true)
     (dna : Bool) (same-dna : dna ≡ is_dna h.data_type) (good : not (eqb end (length b)) || (order && dna) ≡ false) where
   made : (r : Reading) × Reads b r
@@ -112,7 +109,7 @@ module _ (b : List ℕ) (i : ℕ) (h : Head) (told : OpeningTold b 0 (Headed.At 
   -- They have its shape.
   pub judged-whole : (s : Shape) → s.data_type ≡ h.data_type → s.taxa.0 ≡ h.taxa.0 → s.characters.0 ≡ h.characters.0 → s.states ≡ h.states
       → (h.states < i → s.symbols ≡ i - 1 - h.states) → s.rows ≡ i → s.lines ≡ j → s.gaps ≡ gaps → s.labelled ≡ label → s.ordered ≡ order
-      → RecordJudged b (Judged.Record s)
+      → RecordJudged b (Some s)
   judged-whole s typed taxa characters states symbols rows lines-from gap labels ordered = let (r, reads) = made in judged-shape b s r reads (shape r reads)
     where
       shape : (r : Reading) → Reads b r → ShapeOf b s r

@@ -1,11 +1,10 @@
 -- Cells read byte by byte: what was read of the cell that is open is a mode, and each byte leads from one mode to the next.
-use Rattle.std.specs.Prelude.{ℕ, ◌+◌, ◌*◌, ◌-◌, ◌<◌, eqb, leb, ltb, length, drop, get_or, Bool, true, false, ◌&&◌, ◌||◌, List, [], ◌∷◌, ◌++◌, ◌≡◌}
-use Rattle.judging.specs.declared.cells.Cells.{Cells}
+use Rattle.std.specs.Prelude.{ℕ, ◌+◌, ◌*◌, ◌-◌, ◌<◌, eqb, leb, ltb, length, drop, get_or, Bool, true, false, ◌&&◌, ◌||◌, List, [], ◌∷◌, ◌++◌, ◌≡◌, Some, None, Option}
 use Rattle.judging.specs.declared.cells.Mode.{Mode}
 use Rattle.judging.specs.declared.cells.Walk.{Walk}
 use Rattle.lexer.specs.Base.{pick, among, byte}
 
--- Is the byte a is_digit
+-- Is the byte a digit?
 unfoldable pub is_digit : ℕ → Bool
 is_digit b = leb (byte "0") b && leb b (byte "9")
 
@@ -82,5 +81,5 @@ pub record Whole (b : List ℕ) (at count : ℕ) : Type 0 where
   pub whole : ends (step count Mode.Fresh (get_or b at 0)) ≡ true
 
 -- What a row that ends in a mode, behind so many blanks, is judged to be.
-unfoldable pub row_end : ℕ → Mode → ℕ → Bool → ℕ → Cells
-row_end end m blanks gap characters = pick (ends m && eqb (blanks + 1) characters) (Cells.Behind end gap) Cells.Wrong
+unfoldable pub row_end : ℕ → Mode → ℕ → Bool → ℕ → Option (ℕ × Bool)
+row_end end m blanks gap characters = pick (ends m && eqb (blanks + 1) characters) (Some (end, gap)) None

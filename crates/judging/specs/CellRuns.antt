@@ -10,7 +10,7 @@ held low high one other x = leb low x && leb x high || eqb x one || eqb x other
 pub record AllHeld (b : List ℕ) (at : ℕ) (low high one other : List ℕ) (n : ℕ) : Type 0 where
   pub each : (i : ℕ) → i < n → held (get_or low i 0) (get_or high i 0) (get_or one i 0) (get_or other i 0) (get_or b (at + i) 0) ≡ true
 
--- Is one of so many cells of one byte a is_gap
+-- Is one of so many cells of one byte a gap?
 abbrev pub gaps : List ℕ → ℕ → ℕ → Bool
 gaps b at zero = false
 gaps b at (suc n) = gaps b at n || eqb (get_or b (at + 2 * n) 0) (byte "g")

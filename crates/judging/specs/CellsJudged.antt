@@ -1,8 +1,7 @@
 -- What judging the cells of a row answers: where the row ends, exactly if its cells stand there.
-use Rattle.std.specs.Prelude.{ℕ, ◌+◌, ◌≤◌, length, drop, Bool, true, List, ◌∷◌, ◌++◌, ◌≡◌}
+use Rattle.std.specs.Prelude.{ℕ, ◌+◌, ◌≤◌, length, drop, Bool, true, List, ◌∷◌, ◌++◌, ◌≡◌, Some, Option}
 use Rattle.block.specs.Cell.{Cell}
 use Rattle.block.specs.Sound.{sound_cells, gap_among}
-use Rattle.judging.specs.declared.cells.Cells.{Cells}
 use Rattle.lexer.specs.Base.{byte}
 use Rattle.record.specs.Spell.{spell_cells}
 
@@ -16,7 +15,7 @@ pub record CellsStand (b : List ℕ) (i characters symbols j : ℕ) (g : Bool) :
   pub gap : g ≡ gap_among cells
 
 -- If the answer is an end, such cells stand there, up to that end; and if such cells stand there, their end is the answer.
-pub record CellsJudged (b : List ℕ) (i characters symbols : ℕ) (r : Cells) : Type 0 where
-  pub found : (j : ℕ) (g : Bool) → r ≡ Cells.Behind j g → CellsStand b i characters symbols j g
+pub record CellsJudged (b : List ℕ) (i characters symbols : ℕ) (r : Option (ℕ × Bool)) : Type 0 where
+  pub found : (j : ℕ) (g : Bool) → r ≡ Some (j, g) → CellsStand b i characters symbols j g
   pub all : (cells : List Cell) (rest : List ℕ) → sound_cells symbols cells ≡ true → length cells ≡ characters → 1 ≤ characters
-      → drop i b ≡ spell_cells cells ++ (byte "\n" ∷ rest) → r ≡ Cells.Behind (i + length (spell_cells cells) + 1) (gap_among cells)
+      → drop i b ≡ spell_cells cells ++ (byte "\n" ∷ rest) → r ≡ Some ((i + length (spell_cells cells) + 1), (gap_among cells))

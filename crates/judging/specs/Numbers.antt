@@ -1,6 +1,5 @@
 -- Numbers of a record's lines, as the code reads them.
-use Rattle.std.specs.Prelude.{ℕ, ◌+◌, ◌*◌, ◌-◌, ◌≤◌, leb, length, drop, ◌&&◌, List, [], ◌∷◌, ◌++◌, ◌≡◌}
-use Rattle.judging.specs.declared.numbers.Number.{Number}
+use Rattle.std.specs.Prelude.{ℕ, ◌+◌, ◌*◌, ◌-◌, ◌≤◌, leb, length, drop, ◌&&◌, List, [], ◌∷◌, ◌++◌, ◌≡◌, Some, Option}
 use Rattle.lexer.specs.Base.{pick, byte}
 use Rattle.record.specs.Decimal.{decimal}
 
@@ -16,6 +15,6 @@ pub record NumberStands (b : List ℕ) (i v j : ℕ) : Type 0 where
   pub end : j ≡ i + length (decimal v) + 1
 
 -- If the answer is a number and an end, that number stands there; and if a number that is no larger than the largest count stands there, it is the answer.
-pub record NumberJudged (b : List ℕ) (i : ℕ) (r : Number) : Type 0 where
-  pub found : (v j : ℕ) → r ≡ Number.At v j → NumberStands b i v j
-  pub all : (v : ℕ) (rest : List ℕ) → v ≤ 1048576 → drop i b ≡ decimal v ++ (10 ∷ rest) → r ≡ Number.At v (i + length (decimal v) + 1)
+pub record NumberJudged (b : List ℕ) (i : ℕ) (r : Option (ℕ × ℕ)) : Type 0 where
+  pub found : (v j : ℕ) → r ≡ Some (v, j) → NumberStands b i v j
+  pub all : (v : ℕ) (rest : List ℕ) → v ≤ 1048576 → drop i b ≡ decimal v ++ (10 ∷ rest) → r ≡ Some (v, (i + length (decimal v) + 1))

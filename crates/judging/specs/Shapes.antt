@@ -1,9 +1,8 @@
 -- What the shape of a record says of it.
-use Rattle.std.specs.Prelude.{ℕ, length, drop, List, [], ◌∷◌, ◌++◌, ◌≡◌}
+use Rattle.std.specs.Prelude.{ℕ, length, drop, List, [], ◌∷◌, ◌++◌, ◌≡◌, Some, None, Option}
 use Rattle.block.specs.Blocks.{has_ordered}
 use Rattle.block.specs.Reading.{Reading}
 use Rattle.block.specs.Sound.{Sound, gap_in}
-use Rattle.judging.specs.declared.Judged.{Judged}
 use Rattle.judging.specs.declared.Shape.{Shape}
 use Rattle.lexer.specs.Base.{byte}
 use Rattle.record.specs.Form.{labelled}
@@ -28,6 +27,6 @@ pub record ShapeOf (b : List ℕ) (s : Shape) (r : Reading) : Type 0 where
   pub ordered : s.ordered ≡ has_ordered r.characters
 
 -- If the answer is a shape, the bytes are the record of a reading, and it is that record's shape; if it is none, they are none.
-pub record RecordJudged (b : List ℕ) (answer : Judged) : Type 0 where
-  pub found : (s : Shape) → answer ≡ Judged.Record s → (r : Reading) × (unspell b ≡ some r) × ShapeOf b s r
-  pub none : answer ≡ Judged.Wrong → unspell b ≡ none
+pub record RecordJudged (b : List ℕ) (answer : Option Shape) : Type 0 where
+  pub found : (s : Shape) → answer ≡ Some s → (r : Reading) × (unspell b ≡ some r) × ShapeOf b s r
+  pub none : answer ≡ None → unspell b ≡ none

@@ -1,11 +1,6 @@
 -- What judging a part of a record answers that also tells something of it: where it ends and what is told, exactly if it stands there.
-use Rattle.std.specs.Prelude.{ℕ, ◌+◌, length, drop, Bool, List, ◌++◌, ◌≡◌}
+use Rattle.std.specs.Prelude.{ℕ, ◌+◌, length, drop, Bool, List, ◌++◌, ◌≡◌, Some, None, Option}
 use Rattle.judging.specs.Judges.{Stands}
-use Rattle.judging.specs.declared.Behind.{Behind}
-use Rattle.judging.specs.declared.cells.Cells.{Cells}
-use Rattle.judging.specs.declared.characters.Characters.{Characters}
-use Rattle.judging.specs.declared.characters.Flag.{Flag}
-use Rattle.judging.specs.declared.numbers.Number.{Number}
 
 -- What judging a part comes to: an end and what is told; or nothing stands there.
 pub data Part (T : Type 0) : Type 0 where
@@ -19,27 +14,27 @@ pub record Tells {A T : Type 0} (b : List ℕ) (i : ℕ) (good : A → Type 0) (
   pub all : (what : A) (rest : List ℕ) → good what → drop i b ≡ spelled what ++ rest → r ≡ until (i + length (spelled what)) (tell what)
 
 -- What the code's answers mean.
-unfoldable pub behind_of : Behind → Part (Unit {0})
-behind_of (Behind.At j) = until j tt
-behind_of Behind.Wrong = nothing
+unfoldable pub behind_of : Option ℕ → Part (Unit {0})
+behind_of (Some j) = until j tt
+behind_of None = nothing
 
-unfoldable pub number_of : Number → Part ℕ
-number_of (Number.At v j) = until j v
-number_of Number.Wrong = nothing
+unfoldable pub number_of : Option (ℕ × ℕ) → Part ℕ
+number_of (Some (v, j)) = until j v
+number_of None = nothing
 
-unfoldable pub cells_of : Cells → Part Bool
-cells_of (Cells.Behind j g) = until j g
-cells_of Cells.Wrong = nothing
+unfoldable pub cells_of : Option (ℕ × Bool) → Part Bool
+cells_of (Some (j, g)) = until j g
+cells_of None = nothing
 
-unfoldable pub flag_of : Flag → Part Bool
-flag_of (Flag.At j g) = until j g
-flag_of Flag.Wrong = nothing
+unfoldable pub flag_of : Option (ℕ × Bool) → Part Bool
+flag_of (Some (j, g)) = until j g
+flag_of None = nothing
 
 -- What is told of characters: whether one has a label or a state label, and whether one is ordered.
 pub record Marks : Type 0 where
   pub labelled : Bool
   pub ordered : Bool
 
-unfoldable pub characters_of : Characters → Part Marks
-characters_of (Characters.Behind j l o) = until j (record { labelled = l; ordered = o })
-characters_of Characters.Wrong = nothing
+unfoldable pub characters_of : Option (ℕ × Bool × Bool) → Part Marks
+characters_of (Some (j, l, o)) = until j (record { labelled = l; ordered = o })
+characters_of None = nothing

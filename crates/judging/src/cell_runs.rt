@@ -13,11 +13,9 @@ fn all_held(source: &[u8], at: usize, low: &[u8], high: &[u8], one: &[u8], other
     ensures { result ≡ true → AllHeld source.now at low.now high.now one.now other.now 16 }
 {
     let mut good = true;
-    let mut i = 0;
-    while i < 16 {
+    for i in 0..16 {
         let x = source[at + i];
-        good = good & (((low[i] <= x) & (x <= high[i])) | (x == one[i]) | (x == other[i]));
-        i += 1;
+        good &= ((low[i] <= x) & (x <= high[i])) | (x == one[i]) | (x == other[i]);
     }
     good
 }
@@ -28,10 +26,8 @@ fn eight_gaps(source: &[u8], at: usize) -> bool
     ensures { result ≡ gaps source.now at 8 }
 {
     let mut gap = false;
-    let mut i = 0;
-    while i < 8 {
-        gap = gap | (source[at + 2 * i] == b'g');
-        i += 1;
+    for i in 0..8 {
+        gap |= source[at + 2 * i] == b'g';
     }
     gap
 }
@@ -40,10 +36,7 @@ fn eight_gaps(source: &[u8], at: usize) -> bool
 fn top_digit(symbols: usize) -> u8
     ensures { (result ≤ 57) × (result < 48 + symbols) }
 {
-    if symbols < 10 {
-        return b'/' + symbols as u8;
-    }
-    b'9'
+    b'/' + symbols.min(10) as u8
 }
 
 // A walk that is at the first byte of a cell, with so many blanks read, and a gap or none.
@@ -58,7 +51,8 @@ fn fresh(at: usize, blanks: usize, gap: bool) -> Walk
     }
 }
 
-// Reads eight cells at a time, as long as each of the next eight is one byte with a blank behind it: a digit up to `top`, `m` or `g`.
+// Reads eight cells at a time, as long as each of the next eight is one byte with a blank behind it: a digit up to `top`, `m` or `g`. The place
+// is part of the answer, so the loop counts it.
 fn eights(source: &[u8], from: usize, blanks: usize, gap: bool, top: u8) -> Walk
     requires { (from ≤ length source.now) × (blanks ≤ from) }
     ensures { (from ≤ result.at) × ((count : _) → top ≤ 57 → top < 48 + count → Moves source.now count (record { at = from; mode = Mode.Fresh; blanks = blanks; gap = gap }) result) }
@@ -80,7 +74,7 @@ fn eights(source: &[u8], from: usize, blanks: usize, gap: bool, top: u8) -> Walk
         ) {
             return fresh(at, many, any);
         }
-        any = any | eight_gaps(source, at);
+        any |= eight_gaps(source, at);
         at += 16;
         many += 8;
     }

@@ -8,13 +8,6 @@ ghost use Rattle.lexer.specs.Base.{pick};
 use super::cell_runs::cells_run;
 use block::CharacterNumber;
 
-// The cells of a row end at a place, and whether a gap is among them; or there are none.
-#[derive(Clone, Copy)]
-pub enum Cells {
-    Behind(usize, bool),
-    Wrong,
-}
-
 // What was read of a cell: nothing; a set up to where an index begins that must be at least so large; part of an index, with whether it is a set's, how
 // large it must be at least, and its value so far; or `m` or `g`, which are whole. `Wrong`: no cell begins so.
 #[derive(Clone, Copy)]
@@ -36,7 +29,7 @@ pub struct Walk {
 }
 
 // Which bytes can be a cell by themselves, a bit for each byte from `0` on: 0 to 9 for the digits, 55 for `g`, 61 for `m`.
-const SINGLE: u64 = 2341871806232658943;
+const SINGLE: u64 = 1023 | (1 << 55) | (1 << 61);
 
 // May a cell end here?
 fn ends_cell(mode: Mode) -> bool
@@ -64,7 +57,7 @@ fn begin_index(set: bool, low: usize, digit: u8, symbols: usize) -> Mode
     requires { 48 ≤ digit }
     ensures { result ≡ begun symbols set low digit }
 {
-    let n = (digit - 48) as usize;
+    let n = (digit - b'0') as usize;
     if n < symbols {
         return Mode::Index(set, low, n);
     }
@@ -76,7 +69,7 @@ fn grow_index(set: bool, low: usize, n: usize, digit: u8, symbols: usize) -> Mod
     requires { 48 ≤ digit }
     ensures { result ≡ grown symbols set low n digit }
 {
-    let d = (digit - 48) as usize;
+    let d = (digit - b'0') as usize;
     if n == 0 {
         return Mode::Wrong;
     }
@@ -93,46 +86,40 @@ fn grow_index(set: bool, low: usize, n: usize, digit: u8, symbols: usize) -> Mod
 fn fresh_step(b: u8, symbols: usize) -> Mode
     ensures { result ≡ step_fresh symbols b }
 {
-    if (48 <= b) & (b <= 57) {
-        return begin_index(false, 0, b, symbols);
+    match b {
+        b'0'..=b'9' => begin_index(false, 0, b, symbols),
+        b'u' | b'p' => Mode::Opened(0),
+        b'm' | b'g' => Mode::Whole,
+        _ => Mode::Wrong,
     }
-    if (b == 117) | (b == 112) {
-        return Mode::Opened(0);
-    }
-    if (b == 109) | (b == 103) {
-        return Mode::Whole;
-    }
-    Mode::Wrong
 }
 
 // The mode behind the first byte of an index of a set.
 fn opened_step(low: usize, b: u8, symbols: usize) -> Mode
     ensures { result ≡ step_opened symbols low b }
 {
-    if (48 <= b) & (b <= 57) {
-        return begin_index(true, low, b, symbols);
+    match b {
+        b'0'..=b'9' => begin_index(true, low, b, symbols),
+        _ => Mode::Wrong,
     }
-    Mode::Wrong
 }
 
 // The mode behind a further byte of an index, or behind the dot that ends it.
 fn index_step(set: bool, low: usize, n: usize, b: u8, symbols: usize) -> Mode
     ensures { result ≡ step_index symbols set low n b }
 {
-    if (48 <= b) & (b <= 57) {
-        return grow_index(set, low, n, b, symbols);
+    match b {
+        b'0'..=b'9' => grow_index(set, low, n, b, symbols),
+        b'.' if set & (low <= n) & (n < symbols) => Mode::Opened(n + 1),
+        _ => Mode::Wrong,
     }
-    if set & (b == 46) & (low <= n) & (n < symbols) {
-        return Mode::Opened(n + 1);
-    }
-    Mode::Wrong
 }
 
 // The mode behind a byte.
 fn cell_step(mode: Mode, b: u8, symbols: usize) -> Mode
     ensures { result ≡ step symbols mode b }
 {
-    if b == 32 {
+    if b == b' ' {
         return next_cell(mode);
     }
     match mode {
@@ -140,16 +127,6 @@ fn cell_step(mode: Mode, b: u8, symbols: usize) -> Mode
         Mode::Opened(low) => opened_step(low, b, symbols),
         Mode::Index(set, low, n) => index_step(set, low, n, b, symbols),
         _ => Mode::Wrong,
-    }
-}
-
-// Is a cell to begin here?
-fn is_fresh(mode: Mode) -> bool
-    ensures { result ≡ true → mode ≡ Mode.Fresh }
-{
-    match mode {
-        Mode::Fresh => true,
-        _ => false,
     }
 }
 
@@ -168,10 +145,10 @@ fn index_of(d: u8) -> usize
 fn is_whole(b: u8, symbols: usize) -> bool
     ensures { result ≡ true → ends (step symbols Mode.Fresh b) ≡ true }
 {
-    if b < 48 {
+    if b < b'0' {
         return false;
     }
-    let d = b - 48;
+    let d = b - b'0';
     if 63 < d {
         return false;
     }
@@ -189,7 +166,7 @@ fn whole_at(source: &[u8], at: usize, symbols: usize) -> bool
     if source.len() - at < 2 {
         return false;
     }
-    if source[at + 1] != 32 {
+    if source[at + 1] != b' ' {
         return false;
     }
     is_whole(source[at], symbols)
@@ -200,7 +177,7 @@ fn count_blank(blanks: usize, b: u8) -> usize
     requires { blanks < 18446744073709551615 }
     ensures { result ≡ pick (eqb b 32) (blanks + 1) blanks }
 {
-    if b == 32 {
+    if b == b' ' {
         return blanks + 1;
     }
     blanks
@@ -216,36 +193,39 @@ fn walk_on(source: &[u8], walk: Walk, symbols: usize) -> Walk
     let at = walk.at;
     let mode = walk.mode;
     let b = source[at];
-    let gap = walk.gap | (b == 103);
-    if is_fresh(mode) {
-        if whole_at(source, at, symbols) {
-            return cells_run(source, at + 2, walk.blanks + 1, gap, symbols);
-        }
+    let gap = walk.gap | (b == b'g');
+    if matches!(mode, Mode::Fresh) && whole_at(source, at, symbols) {
+        return cells_run(source, at + 2, walk.blanks + 1, gap, symbols);
     }
     Walk {
         at: at + 1,
         mode: cell_step(mode, b, symbols),
         blanks: count_blank(walk.blanks, b),
-        gap: gap,
+        gap,
     }
 }
 
 // What a row that was read up to its LF is: as many cells as there are characters, or none.
-fn end_row(end: usize, walk: Walk, characters: CharacterNumber) -> Cells
+fn end_row(end: usize, walk: Walk, characters: CharacterNumber) -> Option<(usize, bool)>
     ensures { result ≡ row_end end walk.mode walk.blanks walk.gap characters.0 }
 {
     if characters.0 == 0 {
-        return Cells::Wrong;
+        return None;
     }
     let mode = walk.mode;
     if ends_cell(mode) & (characters.0 - 1 == walk.blanks) {
-        return Cells::Behind(end, walk.gap);
+        return Some((end, walk.gap));
     }
-    Cells::Wrong
+    None
 }
 
 // Judges the cells of a row that begins at a place: where the row ends, behind its LF, and whether a gap is among its cells.
-pub fn cells_line(source: &[u8], i: usize, characters: CharacterNumber, symbols: usize) -> Cells
+pub fn cells_line(
+    source: &[u8],
+    i: usize,
+    characters: CharacterNumber,
+    symbols: usize,
+) -> Option<(usize, bool)>
     ensures { CellsJudged source.now i characters.0 symbols result }
 {
     let mut walk = Walk {
@@ -256,10 +236,10 @@ pub fn cells_line(source: &[u8], i: usize, characters: CharacterNumber, symbols:
     };
     while walk.at < source.len() {
         let at = walk.at;
-        if source[at] == 10 {
+        if source[at] == b'\n' {
             return end_row(at + 1, walk, characters);
         }
         walk = walk_on(source, walk, symbols);
     }
-    Cells::Wrong
+    None
 }

@@ -5,10 +5,8 @@ ghost use Rattle.lexer.specs.Base.{pick};
 ghost use Rattle.block.specs.declared.data.DataType.{DataType};
 ghost use Rattle.std.specs.Prelude.{◌≡◌};
 
-use super::Behind;
-use super::characters::Flag;
 use super::keys::key_at;
-use super::numbers::{Number, keyed_number};
+use super::numbers::keyed_number;
 use super::symbols::symbols_line;
 use block::{CharacterNumber, DataType, TaxonNumber};
 
@@ -21,39 +19,26 @@ pub struct Head {
     pub states: usize,
 }
 
-// They end at a place, and say this; or there are none.
-#[derive(Clone, Copy)]
-pub enum Headed {
-    At(usize, Head),
-    Wrong,
-}
-
-// Which of two words stands at a place: the second, or not.
-pub fn two_words(source: &[u8], i: usize, first: &[u8], second: &[u8]) -> Flag
+// Which of two words stands at a place: where it ends, and whether it is the second.
+pub fn two_words(source: &[u8], i: usize, first: &[u8], second: &[u8]) -> Option<(usize, bool)>
     ensures { Apart first.now second.now → WordTold source.now i first.now second.now result }
 {
-    match key_at(source, i, first) {
-        Behind::At(j) => Flag::At(j, false),
-        Behind::Wrong => match key_at(source, i, second) {
-            Behind::At(k) => Flag::At(k, true),
-            Behind::Wrong => Flag::Wrong,
-        },
+    if let Some(j) = key_at(source, i, first) {
+        return Some((j, false));
     }
+    let k = key_at(source, i, second)?;
+    Some((k, true))
 }
 
-// A count behind a key, which is not 0.
-fn count_line(source: &[u8], i: usize, word: &[u8]) -> Number
+// A count behind a key, which is not 0, and where its line ends.
+fn count_line(source: &[u8], i: usize, word: &[u8]) -> Option<(usize, usize)>
     ensures { CountTold source.now i word.now result }
 {
-    match keyed_number(source, i, word) {
-        Number::At(n, j) => {
-            if n == 0 {
-                return Number::Wrong;
-            }
-            Number::At(n, j)
-        }
-        Number::Wrong => Number::Wrong,
+    let (n, j) = keyed_number(source, i, word)?;
+    if n == 0 {
+        return None;
     }
+    Some((n, j))
 }
 
 // The type of the data.
@@ -66,43 +51,38 @@ fn data_type_of(dna: bool) -> DataType
     DataType::Standard
 }
 
-// The lines behind the count of taxa.
-fn behind_taxa(source: &[u8], i: usize, data_type: DataType, taxa: TaxonNumber) -> Headed
+// The lines behind the count of taxa: where they end, and what the first lines say.
+fn behind_taxa(
+    source: &[u8],
+    i: usize,
+    data_type: DataType,
+    taxa: TaxonNumber,
+) -> Option<(usize, Head)>
     ensures { BehindTaxa source.now i data_type taxa result }
 {
-    match count_line(source, i, b"characters=") {
-        Number::At(n, j) => match symbols_line(source, j, data_type) {
-            Number::At(states, k) => Headed::At(
-                k,
-                Head {
-                    data_type,
-                    taxa,
-                    characters: CharacterNumber(n),
-                    states,
-                },
-            ),
-            Number::Wrong => Headed::Wrong,
-        },
-        Number::Wrong => Headed::Wrong,
-    }
+    let (n, j) = count_line(source, i, b"characters=")?;
+    let (states, k) = symbols_line(source, j, data_type)?;
+    let head = Head {
+        data_type,
+        taxa,
+        characters: CharacterNumber(n),
+        states,
+    };
+    Some((k, head))
 }
 
-// The lines behind the type of the data.
-fn behind_type(source: &[u8], i: usize, data_type: DataType) -> Headed
+// The lines behind the type of the data: where they end, and what the first lines say.
+fn behind_type(source: &[u8], i: usize, data_type: DataType) -> Option<(usize, Head)>
     ensures { BehindType source.now i data_type result }
 {
-    match count_line(source, i, b"taxa=") {
-        Number::At(n, j) => behind_taxa(source, j, data_type, TaxonNumber(n)),
-        Number::Wrong => Headed::Wrong,
-    }
+    let (n, j) = count_line(source, i, b"taxa=")?;
+    behind_taxa(source, j, data_type, TaxonNumber(n))
 }
 
-// The first four lines.
-pub fn head_lines(source: &[u8]) -> Headed
+// The first four lines: where they end, and what they say.
+pub fn head_lines(source: &[u8]) -> Option<(usize, Head)>
     ensures { OpeningTold source.now 0 result }
 {
-    match two_words(source, 0, b"datatype=STANDARD\n", b"datatype=DNA\n") {
-        Flag::At(i, dna) => behind_type(source, i, data_type_of(dna)),
-        Flag::Wrong => Headed::Wrong,
-    }
+    let (i, dna) = two_words(source, 0, b"datatype=STANDARD\n", b"datatype=DNA\n")?;
+    behind_type(source, i, data_type_of(dna))
 }

@@ -14,21 +14,14 @@ mod symbols;
 mod whole;
 
 use block::{CharacterNumber, DataType, TaxonNumber};
-pub use cells::{Cells, cells_line};
-pub use characters::{Characters, character_lines};
-pub use heads::{Head, Headed, head_lines};
+pub use cells::cells_line;
+pub use characters::character_lines;
+pub use heads::{Head, head_lines};
 pub use keys::key_at;
 pub use names::{label_line, name_line};
-pub use numbers::{Number, decimal_at, number_line};
+pub use numbers::{decimal_at, number_line};
 pub use rows::row_lines;
 pub use whole::judge;
-
-// Where a part of a record ends, or that there is none.
-#[derive(Clone, Copy)]
-pub enum Behind {
-    At(usize),
-    Wrong,
-}
 
 // What a record has, and where its parts stand: the type of its data; how many taxa, characters and states; where its symbols, its rows and the lines
 // of its characters begin; whether a cell is a gap, whether a character has a label or a state label, and whether one is ordered.
@@ -44,11 +37,4 @@ pub struct Shape {
     pub gaps: bool,
     pub labelled: bool,
     pub ordered: bool,
-}
-
-// What bytes are: a record of a shape, or none.
-#[derive(Clone, Copy)]
-pub enum Judged {
-    Record(Shape),
-    Wrong,
 }

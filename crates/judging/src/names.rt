@@ -1,17 +1,15 @@
 // Names and labels of a record, judged byte by byte.
 
-ghost use Rattle.std.specs.Prelude.{ℕ, ◌+◌, ◌<◌, ◌≤◌, length, get_or, drop, true, false, List, [], ◌∷◌, ◌++◌, ◌≡◌};
+ghost use Rattle.std.specs.Prelude.{ℕ, Option, ◌+◌, ◌<◌, ◌≤◌, length, get_or, drop, true, false, List, [], ◌∷◌, ◌++◌, ◌≡◌};
 ghost use Rattle.block.specs.Sound.{sound_name, sound_label};
 ghost use Rattle.judging.specs.Judges.{Judges};
-ghost use Rattle.judging.specs.NameRest.{name_rest, RestJudged, unescape};
-ghost use Rattle.judging.specs.declared.Behind.{Behind};
+ghost use Rattle.judging.specs.NameRest.{name_rest, RestJudged, Unescaped};
 ghost use Rattle.judging.specs.declared.names.Naming.{Naming};
 ghost use Rattle.lexer.specs.Base.{pick};
 ghost use Rattle.lexer.specs.Classes.{wide_blank};
 ghost use Rattle.lexer.specs.Utf8.{after_lead};
 ghost use Rattle.record.specs.Spell.{escaped};
 
-use super::Behind;
 use super::keys::key_at;
 use lexer::{byte_or_zero, wide_blank};
 
@@ -25,25 +23,22 @@ pub struct Naming {
     pub blank: bool,
 }
 
-// The first number if the test holds, else the second.
-fn choose(test: bool, first: u8, second: u8) -> u8
-    ensures { result ≡ pick test first second }
-{
-    if test {
-        return first;
-    }
-    second
-}
-
 // What is open behind bytes that begin no name.
 fn no_name() -> Naming
     ensures { (n : List ℕ) → name_rest result n ≡ false }
 {
+    open(1, 1, 0, true)
+}
+
+// So many bytes of a character are open, the next of them from low to high.
+fn open(more: u8, low: u8, high: u8, blank: bool) -> Naming
+    ensures { result ≡ record { more = more; low = low; high = high; blank = blank } }
+{
     Naming {
-        more: 1,
-        low: 1,
-        high: 0,
-        blank: true,
+        more,
+        low,
+        high,
+        blank,
     }
 }
 
@@ -51,11 +46,14 @@ fn no_name() -> Naming
 fn lead(b: u8, blank: bool) -> Naming
     ensures { (result.more ≡ (after_lead b).more) × (result.low ≡ (after_lead b).low) × (result.high ≡ (after_lead b).high) × (result.blank ≡ blank) }
 {
-    Naming {
-        more: choose(b < 224, 1, choose(b < 240, 2, 3)),
-        low: choose(b == 224, 160, choose(b == 240, 144, 128)),
-        high: choose(b == 237, 159, choose(b == 244, 143, 191)),
-        blank,
+    match b {
+        ..=223 => open(1, 128, 191, blank),
+        224 => open(2, 160, 191, blank),
+        237 => open(2, 128, 159, blank),
+        ..=239 => open(2, 128, 191, blank),
+        240 => open(3, 144, 191, blank),
+        244 => open(3, 128, 143, blank),
+        _ => open(3, 128, 191, blank),
     }
 }
 
@@ -70,12 +68,7 @@ fn next_byte(s: Naming, b: u8, wide: bool) -> Naming
     let blank = s.blank & hollow;
     if s.more == 0 {
         if b < 128 {
-            return Naming {
-                more: 0,
-                low: 128,
-                high: 191,
-                blank,
-            };
+            return open(0, 128, 191, blank);
         }
         if (b < 194) | (244 < b) {
             return no_name();
@@ -85,12 +78,7 @@ fn next_byte(s: Naming, b: u8, wide: bool) -> Naming
     if (b < s.low) | (s.high < b) {
         return no_name();
     }
-    Naming {
-        more: s.more - 1,
-        low: 128,
-        high: 191,
-        blank,
-    }
+    open(s.more - 1, 128, 191, blank)
 }
 
 // Does a character of White_Space beyond ASCII begin with the byte at i?
@@ -105,28 +93,32 @@ fn wide_at(source: &[u8], i: usize) -> bool
     wide_blank(source, b, i + 1)
 }
 
-// The byte that a backslash before this byte means, or 0 if it means none.
-fn unescape(b: u8) -> u8
-    ensures { result ≡ unescape b }
+// The byte that a backslash before this byte means, if it means one.
+fn unescape(b: u8) -> Option<u8>
+    ensures { Unescaped b result }
 {
-    choose(b == b'0', b'\n', choose(b == b'1', b'\\', 0))
+    match b {
+        b'0' => Some(b'\n'),
+        b'1' => Some(b'\\'),
+        _ => None,
+    }
 }
 
 // The name's end at j, if it may end where this is open.
-fn name_end(s: Naming, j: usize) -> Behind
-    ensures { result ≡ pick (name_rest s []) (Behind.At j) Behind.Wrong }
+fn name_end(s: Naming, j: usize) -> Option<usize>
+    ensures { result ≡ pick (name_rest s []) (Some j) None }
 {
     if (s.more == 0) & !s.blank {
-        return Behind::At(j);
+        return Some(j);
     }
-    Behind::Wrong
+    None
 }
 
 // Passes ASCII bytes of a name that need no judging, up to LF, a backslash, or `_` or CR, which no name holds. No character of several bytes may be open,
-// and the name must be known not to be blank.
+// and the name must be known not to be blank. The place is the answer, wherever the run ends, so the loop counts it.
 fn ascii_run(source: &[u8], from: usize) -> usize
     ensures ahead { from ≤ result }
-    ensures back { (s : Naming) → s.more ≡ 0 → s.blank ≡ false → (w : Behind) → RestJudged source.now result s w → RestJudged source.now from s w }
+    ensures back { (s : Naming) → s.more ≡ 0 → s.blank ≡ false → (w : Option ℕ) → RestJudged source.now result s w → RestJudged source.now from s w }
 {
     let mut at = from;
     while at < source.len() {
@@ -142,26 +134,19 @@ fn ascii_run(source: &[u8], from: usize) -> usize
 // Passes bytes of a name that need no judging, if what is open lets any be passed.
 fn skip(source: &[u8], s: Naming, from: usize) -> usize
     ensures ahead { from ≤ result }
-    ensures back { (w : Behind) → RestJudged source.now result s w → RestJudged source.now from s w }
+    ensures back { (w : Option ℕ) → RestJudged source.now result s w → RestJudged source.now from s w }
 {
-    if s.more == 0 {
-        if !s.blank {
-            return ascii_run(source, from);
-        }
+    if s.more == 0 && !s.blank {
+        return ascii_run(source, from);
     }
     from
 }
 
 // A name at i with the LF behind it: where they end, or that there is no name.
-pub fn name_line(source: &[u8], i: usize) -> Behind
+pub fn name_line(source: &[u8], i: usize) -> Option<usize>
     ensures { Judges source.now i (λ n. sound_name n ≡ true) (λ n. escaped n ++ (10 ∷ [])) result }
 {
-    let mut s = Naming {
-        more: 0,
-        low: 128,
-        high: 191,
-        blank: true,
-    };
+    let mut s = open(0, 128, 191, true);
     let mut at = i;
     while at < source.len() {
         let b = source[at];
@@ -169,10 +154,7 @@ pub fn name_line(source: &[u8], i: usize) -> Behind
             return name_end(s, at + 1);
         }
         if b == b'\\' {
-            let meant = unescape(byte_or_zero(source, at + 1));
-            if meant == 0 {
-                return Behind::Wrong;
-            }
+            let meant = unescape(byte_or_zero(source, at + 1))?;
             s = next_byte(s, meant, false);
             at += 2;
         } else {
@@ -180,25 +162,23 @@ pub fn name_line(source: &[u8], i: usize) -> Behind
             at = skip(source, s, at + 1);
         }
     }
-    Behind::Wrong
+    None
 }
 
 // A label at i with the LF behind it, the empty one too: where they end, or that there is no label.
-pub fn label_line(source: &[u8], i: usize) -> Behind
+pub fn label_line(source: &[u8], i: usize) -> Option<usize>
     ensures { Judges source.now i (λ n. sound_label n ≡ true) (λ n. escaped n ++ (10 ∷ [])) result }
 {
     if byte_or_zero(source, i) == b'\n' {
-        return Behind::At(i + 1);
+        return Some(i + 1);
     }
     name_line(source, i)
 }
 
 // A line of a key and a name: where it ends, or that there is none.
-pub fn keyed_name(source: &[u8], i: usize, word: &[u8]) -> Behind
+pub fn keyed_name(source: &[u8], i: usize, word: &[u8]) -> Option<usize>
     ensures { Judges source.now i (λ n. sound_name n ≡ true) (λ n. word.now ++ (escaped n ++ (10 ∷ []))) result }
 {
-    match key_at(source, i, word) {
-        Behind::At(j) => name_line(source, j),
-        Behind::Wrong => Behind::Wrong,
-    }
+    let j = key_at(source, i, word)?;
+    name_line(source, j)
 }

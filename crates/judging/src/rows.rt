@@ -3,30 +3,30 @@
 ghost use Rattle.std.specs.Prelude.{◌≤◌};
 ghost use Rattle.judging.specs.Parts.{CellsTold, RowTold, RowsTold};
 
-use super::Behind;
-use super::cells::{Cells, cells_line};
+use super::cells::cells_line;
 use super::keys::key_at;
 use super::names::keyed_name;
 use block::{CharacterNumber, TaxonNumber};
 
 // The line of a row's cells.
-fn keyed_cells(source: &[u8], i: usize, characters: CharacterNumber, states: usize) -> Cells
+fn keyed_cells(
+    source: &[u8],
+    i: usize,
+    characters: CharacterNumber,
+    states: usize,
+) -> Option<(usize, bool)>
     ensures { 1 ≤ characters.0 → CellsTold source.now i characters.0 states result }
 {
-    match key_at(source, i, b"cells=") {
-        Behind::At(j) => cells_line(source, j, characters, states),
-        Behind::Wrong => Cells::Wrong,
-    }
+    let j = key_at(source, i, b"cells=")?;
+    cells_line(source, j, characters, states)
 }
 
 // A row: its name, and its cells.
-fn row(source: &[u8], i: usize, characters: CharacterNumber, states: usize) -> Cells
+fn row(source: &[u8], i: usize, characters: CharacterNumber, states: usize) -> Option<(usize, bool)>
     ensures { 1 ≤ characters.0 → RowTold source.now i characters.0 states result }
 {
-    match keyed_name(source, i, b"name=") {
-        Behind::At(j) => keyed_cells(source, j, characters, states),
-        Behind::Wrong => Cells::Wrong,
-    }
+    let j = keyed_name(source, i, b"name=")?;
+    keyed_cells(source, j, characters, states)
 }
 
 // So many rows from a place on: where they end, and whether a gap is among their cells.
@@ -36,23 +36,15 @@ pub fn row_lines(
     taxa: TaxonNumber,
     characters: CharacterNumber,
     states: usize,
-) -> Cells
+) -> Option<(usize, bool)>
     ensures { 1 ≤ characters.0 → RowsTold source.now i taxa.0 characters.0 states result }
 {
     let mut at = i;
     let mut gap = false;
-    let mut left = taxa.0;
-    while 0 < left {
-        match row(source, at, characters, states) {
-            Cells::Behind(j, g) => {
-                at = j;
-                gap = gap | g;
-            }
-            Cells::Wrong => {
-                return Cells::Wrong;
-            }
-        }
-        left -= 1;
+    for _row in 0..taxa.0 {
+        let (j, g) = row(source, at, characters, states)?;
+        at = j;
+        gap |= g;
     }
-    Cells::Behind(at, gap)
+    Some((at, gap))
 }

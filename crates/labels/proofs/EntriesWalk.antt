@@ -90,9 +90,6 @@ module _ (text : List ℕ) (here n : ℕ) (before : List ℕ) (symbols : ℕ) (c
 
     -- the end: in front of the last index
     module _ (h : to ≤ i) where
-      pub ended-placed : placed n to e
-      ended-placed = by-test (ltb to i) (λ t. rw (k.within (ltb-true to i t)) tt) (λ t. let l = ltb-false to i t in let met : i ≡ to = omega arith in rw met at k.place)
-
       pub entering-end : done (at (labels_held text work here n) (entry_of text (take here work) to e)) ≡ whole
       unfolding entry_of
       entering-end = rw (k.front, last) (walking-end text (take here before) to i k.walk h)

@@ -22,7 +22,7 @@ use borrow.Author.Tests.{lt-ltb, le-ltb}
 use lib.Dec.{eqb, leb}
 use lib.ListN.{length, get_or, take, set, length-map}
 use lib.Seq.{take-set-le}
-use mathlib.Core.Bool.{Bool, true, false, not, ◌&&◌, ◌||◌}
+use mathlib.Core.Bool.{Bool, true, false, not, ◌&&◌, ◌||◌, cond, true≢false, false≢true}
 use mathlib.Core.List.{List, [], ◌∷◌, ◌++◌, map-append}
 use mathlib.Core.Path.{◌≡◌, refl, sym, ap, ◌∙◌}
 use native.Mathlib.Omega.{arith}
@@ -52,7 +52,7 @@ module _ (what : Labelling) (head : ℕ) (ws : List Numbered) (cs : List Labelle
     unfolding entry_begins pick
     begins-number t = rw (e, ← spelled, all, t)
 
--- A word behind the number of a character
+-- A word behind the number of a character, or behind its label
 module _ (count : ℕ) (c : LabelCommand) (cs : List Labelled) (k i : ℕ) (w : Numbered) where
   labelled-one : entry_label cs k i w ≡ then (label_one cs k i w) (λ ds. done (at ds (labelled k i)))
   unfolding entry_label label_one pick then need
@@ -60,32 +60,27 @@ module _ (count : ℕ) (c : LabelCommand) (cs : List Labelled) (k i : ℕ) (w : 
       by-test (given (character k cs).label) (λ e. rw e refl)
       (λ e. by-test (given (label w)) (λ g. rw (e, label-some w g) refl) (λ g. rw (e, label-none w g) refl))
 
-  pub number-comma : punct (byte ",") w ≡ true → done (at cs next) ≡ entry_turn count c cs (numbered k i) w
+  pub character-comma : (has_label : Bool) → punct (byte ",") w ≡ true → done (at cs next) ≡ entry_turn count c cs (cond has_label (labelled k i) (numbered k i)) w
   unfolding entry_turn pick
-  number-comma e = rw e
+  character-comma true e = rw e
+  character-comma false e = rw e
 
   module _ (e : punct (byte ",") w ≡ false) where
-    pub number-slash : punct (byte "/") w ≡ true → entry_turn count c cs (numbered k i) w ≡ begin_states cs k i
+    pub character-slash : (has_label : Bool) → punct (byte "/") w ≡ true → entry_turn count c cs (cond has_label (labelled k i) (numbered k i)) w ≡ begin_states cs k i
     unfolding entry_turn pick
-    number-slash f = rw (e, f)
+    character-slash true f = rw (e, f)
+    character-slash false f = rw (e, f)
 
-    pub number-label : punct (byte "/") w ≡ false → entry_turn count c cs (numbered k i) w ≡ then (label_one cs k i w) (λ ds. done (at ds (labelled k i)))
-    unfolding entry_turn pick
-    number-label f = rw (e, f) labelled-one
+    module _ (f : punct (byte "/") w ≡ false) where
+      pub character-label : (has_label : Bool) → has_label ≡ false → entry_turn count c cs (cond has_label (labelled k i) (numbered k i)) w ≡ then (label_one cs k i w) (λ ds. done (at ds (labelled k i)))
+      unfolding entry_turn pick
+      character-label true h = absurd (true≢false h)
+      character-label false h = rw (e, f) labelled-one
 
-  -- and behind its label
-  pub label-comma : punct (byte ",") w ≡ true → done (at cs next) ≡ entry_turn count c cs (labelled k i) w
-  unfolding entry_turn pick
-  label-comma e = rw e
-
-  module _ (e : punct (byte ",") w ≡ false) where
-    pub label-slash : punct (byte "/") w ≡ true → entry_turn count c cs (labelled k i) w ≡ begin_states cs k i
-    unfolding entry_turn pick
-    label-slash f = rw (e, f)
-
-    pub label-more : punct (byte "/") w ≡ false → refused Refusal.LabelEntry w.index ≡ entry_turn count c cs (labelled k i) w
-    unfolding entry_turn pick
-    label-more f = rw (e, f)
+      pub character-more : (has_label : Bool) → has_label ≡ true → refused Refusal.LabelEntry w.index ≡ entry_turn count c cs (cond has_label (labelled k i) (numbered k i)) w
+      unfolding entry_turn pick
+      character-more true h = rw (e, f)
+      character-more false h = absurd (false≢true h)
 
   -- and among its state labels
   module _ (s : List (List ℕ)) where

@@ -1,9 +1,8 @@
--- Label commands: which walk each takes, and one command after the other. Assumes nothing.
-use Prim.Native.Nat.{ℕ, zero, suc, ◌+◌, ◌≤◌, ◌<◌, min}
+-- Label commands, one after the other. Assumes nothing.
+use Prim.Native.Nat.{ℕ, ◌+◌, ◌≤◌, ◌<◌, min}
 use Rattle.block.specs.Commands.{words}
-use Rattle.block.specs.Labels.{Labelled, LabelCommand, unlabelled, char_labels, label_entries, label_command, apply_labels}
+use Rattle.block.specs.Labels.{unlabelled, label_command, apply_labels}
 use Rattle.block.specs.Outcome.{done, refused, then, fold}
-use Rattle.block.specs.declared.kinds.Labelling.{Labelling}
 use Rattle.labels.specs.LabelLists.{command_held, commands_held, command_step, listed, Fits}
 use Rattle.labels.specs.LabelSlots.{labels_held}
 use Rattle.labels.specs.declared.labels.LabelCommand as code
@@ -11,56 +10,41 @@ use Rattle.labels.specs.declared.labels.LabelCommands.{LabelCommands}
 use Rattle.lexer.proofs.RangeLaws.{range_front}
 use Rattle.lexer.specs.Stored.{range}
 use Rattle.lexer.specs.declared.refusal.Refusal.{Refusal}
-use lib.ListN.{length, get_or, take, drop, replicate, length-take, drop_of_length-le, get_or-map}
-use lib.Seq.{drop-cons, get_or-take}
+use Rattle.std.proofs.lemmas.List.{take_min, take-map}
+use Rattle.std.proofs.lemmas.List.Elements.{All-cons, All-get_or, All-take}
+use lib.ListN.{length, get_or, take, drop, replicate, length-map, drop_of_length-le, get_or-map}
+use lib.Seq.{drop-cons}
 use mathlib.Core.List.{List, [], ◌∷◌, map}
-use mathlib.Core.Path.{◌≡◌, refl, sym, ap, ◌∙◌}
+use mathlib.Core.Path.{◌≡◌, sym, ap, ◌∙◌}
 use native.Mathlib.Numerals.{add-one}
 use native.Mathlib.Omega.{arith}
 
-module _ (n : ℕ) (what : Labelling) (c : LabelCommand) (cs : List Labelled) where
-  pub command-each : what ≡ Labelling.CharLabels → label_command n what c cs ≡ char_labels c.head c.words cs
-  unfolding label_command
-  command-each h = rw h
-
-  pub command-states : what ≡ Labelling.StateLabels → label_command n what c cs ≡ label_entries n c cs
-  unfolding label_command
-  command-states h = rw h
-
-  pub command-both : what ≡ Labelling.CharStateLabels → label_command n what c cs ≡ label_entries n c cs
-  unfolding label_command
-  command-both h = rw h
-
--- The command of an index: the third from 2 on.
-module _ (a b c : code.LabelCommand) where
-  pub third-on : (i : ℕ) → (i ≡ 0 → ⊥) → (i ≡ 1 → ⊥) → c ≡ get_or (a ∷ b ∷ c ∷ []) i c
-  third-on zero p q = absurd (p refl)
-  third-on (suc zero) p q = absurd (q refl)
-  third-on (suc (suc zero)) p q = refl
-  third-on (suc (suc (suc n))) p q = refl
-
-  pub all_fit : (at i : ℕ) → Fits at a → Fits at b → Fits at c → Fits at (get_or (a ∷ b ∷ c ∷ []) i c)
-  all_fit at zero p q r = p
-  all_fit at (suc zero) p q r = q
-  all_fit at (suc (suc zero)) p q r = r
-  all_fit at (suc (suc (suc n))) p q r = r
-
--- What is left of the commands
-module _ (text work : List ℕ) (ls : LabelCommands) where
-  commands-length : length (commands_held text work ls) ≡ min ls.count 3
+-- The commands that are there, so many of the three
+module _ (ls : LabelCommands) (m : ℕ) (all : m ≡ min ls.count 3) where
+  commands-taken : (text work : List ℕ) → commands_held text work ls ≡ map (command_held text work) (take m (listed ls))
   unfolding commands_held
-  commands-length = length-take ls.count (map (command_held text work) (listed ls))
+  commands-taken text work =
+      let held = map (command_held text work) (listed ls) in
+      sym (take_min ls.count held) ∙ ap (λ k. take k held) (sym all) ∙ take-map (command_held text work) m (listed ls)
 
-  command-at : (i : ℕ) → i < ls.count → get_or (commands_held text work ls) i (command_held text work ls.third) ≡ command_held text work (get_or (listed ls) i ls.third)
-  unfolding commands_held
-  command-at i h = get_or-take ls.count (map (command_held text work) (listed ls)) i (command_held text work ls.third) h ∙ get_or-map (command_held text work) (listed ls) i ls.third
+  module _ (i : ℕ) where
+    commands-next : (text work : List ℕ) (d : code.LabelCommand) → i < length (take m (listed ls)) → drop i (commands_held text work ls) ≡ command_held text work (get_or (take m (listed ls)) i d) ∷ drop (i + 1) (commands_held text work ls)
+    commands-next text work d h =
+        let f = command_held text work in
+        let l : i < length (map f (take m (listed ls))) = rw (length-map (take m (listed ls)) f) h in
+        rw (commands-taken text work, add-one i) (drop-cons (map f (take m (listed ls))) i (f d) l ∙ rw (get_or-map f (take m (listed ls)) i d))
 
-  commands-next : (i : ℕ) → i < ls.count → i < 3 → drop i (commands_held text work ls) ≡ command_held text work (get_or (listed ls) i ls.third) ∷ drop (i + 1) (commands_held text work ls)
-  commands-next i h l =
-      drop-cons (commands_held text work ls) i (command_held text work ls.third) (omega (arith, commands-length)) ∙ rw (command-at i h, add-one i)
+    commands-end : (text work : List ℕ) → length (take m (listed ls)) ≤ i → drop i (commands_held text work ls) ≡ []
+    commands-end text work h =
+        let f = command_held text work in
+        let l : length (map f (take m (listed ls))) ≤ i = rw (length-map (take m (listed ls)) f) h in
+        rw (commands-taken text work) (drop_of_length-le (map f (take m (listed ls))) l)
 
-  commands-end : (i : ℕ) → min ls.count 3 ≤ i → drop i (commands_held text work ls) ≡ []
-  commands-end i h = let past : length (commands_held text work ls) ≤ i = omega (arith, commands-length) in drop_of_length-le (commands_held text work ls) past
+    pub commands-fit : (at : ℕ) (d : code.LabelCommand) → Fits at ls.first → Fits at ls.second → Fits at ls.third → i < length (take m (listed ls)) → Fits at (get_or (take m (listed ls)) i d)
+    commands-fit at d p q r h =
+        let F = Fits at in
+        let three = All-cons F ls.first (ls.second ∷ ls.third ∷ []) p (All-cons F ls.second (ls.third ∷ []) q (All-cons F ls.third [] r (λ k e l. absurd (omega arith)))) in
+        All-get_or F (take m (listed ls)) i d h (All-take F m (listed ls) three)
 
 -- The walk: the labels so far, with the commands from an index on, come to the whole.
 pub record Applying (text : List ℕ) (at n symbols : ℕ) (ls : LabelCommands) (before work : List ℕ) (i : ℕ) : Type 0 where
@@ -69,29 +53,26 @@ pub record Applying (text : List ℕ) (at n symbols : ℕ) (ls : LabelCommands) 
   pub rest : fold (command_step symbols) (labels_held text work at n) (drop i (commands_held text before ls)) ≡ fold (command_step symbols) (labels_held text before at n) (commands_held text before ls)
 
 module _ (text : List ℕ) (at n symbols : ℕ) (ls : LabelCommands) (before : List ℕ) where
-  pub applying-start : Applying text at n symbols ls before before 0
-  applying-start = record { size = refl; front = refl; rest = refl }
-
-  module _ (work : List ℕ) (i : ℕ) (k : Applying text at n symbols ls before work i) where
-    pub applying-end : min ls.count 3 ≤ i → done (labels_held text work at n) ≡ fold (command_step symbols) (labels_held text before at n) (commands_held text before ls)
+  module _ (work : List ℕ) (i : ℕ) (k : Applying text at n symbols ls before work i) (m : ℕ) (all : m ≡ min ls.count 3) where
+    pub applying-end : length (take m (listed ls)) ≤ i → done (labels_held text work at n) ≡ fold (command_step symbols) (labels_held text before at n) (commands_held text before ls)
     unfolding fold
-    applying-end h = rw (commands-end text before ls i h) at k.rest
+    applying-end h = rw (commands-end ls m all i text before h) at k.rest
 
-    module _ (h : i < ls.count) (l : i < 3) (c : code.LabelCommand) (this : c ≡ get_or (listed ls) i ls.third) (within : c.to ≤ at) where
+    module _ (d : code.LabelCommand) (h : i < length (take m (listed ls))) (c : code.LabelCommand) (this : c ≡ get_or (take m (listed ls)) i d) (within : c.to ≤ at) where
       same : words (range text work (c.head + 1) c.to) ≡ words (range text before (c.head + 1) c.to)
       same = ap words (sym (range_front text work at (c.head + 1) c.to within) ∙ ap (λ (f : List ℕ). range text f (c.head + 1) c.to) k.front ∙ range_front text before at (c.head + 1) c.to within)
 
       next : then (label_command symbols c.what (command_held text work c) (labels_held text work at n)) (λ ds. fold (command_step symbols) ds (drop (i + 1) (commands_held text before ls))) ≡ fold (command_step symbols) (labels_held text before at n) (commands_held text before ls)
       unfolding fold
-      next = rw same (rw (commands-next text before ls i h l, ← this) at k.rest)
+      next = rw same (rw (commands-next ls m all i text before d h, ← this) at k.rest)
 
       pub applying-turn : (after : List ℕ) → length after ≡ length work → take at after ≡ take at work → done (labels_held text after at n) ≡ label_command symbols c.what (command_held text work c) (labels_held text work at n) → Applying text at n symbols ls before after (i + 1)
       unfolding then
       applying-turn after size front o = record { size = size ∙ k.size; front = front ∙ k.front; rest = rw (← o) at next }
 
-      pub applying-refused : (m : Refusal) (j : ℕ) → refused m j ≡ label_command symbols c.what (command_held text work c) (labels_held text work at n) → refused m j ≡ fold (command_step symbols) (labels_held text before at n) (commands_held text before ls)
+      pub applying-refused : (r : Refusal) (j : ℕ) → refused r j ≡ label_command symbols c.what (command_held text work c) (labels_held text work at n) → refused r j ≡ fold (command_step symbols) (labels_held text before at n) (commands_held text before ls)
       unfolding then
-      applying-refused m j o = rw (← o) at next
+      applying-refused r j o = rw (← o) at next
 
 -- Commands whose tokens stand in front of a place are what they were.
 module _ (text work after : List ℕ) (at : ℕ) (front : take at after ≡ take at work) where

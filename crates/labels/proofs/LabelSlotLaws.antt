@@ -9,6 +9,7 @@ use Rattle.lexer.proofs.Basics.{by-test}
 use Rattle.lexer.proofs.RangeLaws.{word-front, range_front}
 use Rattle.lexer.specs.Base.{given}
 use Rattle.lexer.specs.Stored.{word_of, range}
+use Rattle.std.proofs.lemmas.List.{get_or-append_right, get_or_append_left}
 use borrow.Author.Tests.{ne_eqb, eqb-true, eqb-false}
 use lib.Dec.{eqb}
 use lib.ListN.{length, get_or, take, set, replicate, length-set, length-map, length-replicate, get_or-replicate}
@@ -85,6 +86,16 @@ module _ (text work after : List ℕ) (at n : ℕ) (front : take at after ≡ ta
       held-told (replicate n unlabelled) (length-replicate n unlabelled)
       (λ j h. rw (clear (at + j) (omega arith) (omega arith), clear (at + n + j) (omega arith) (omega arith)) (sym (get_or-replicate n j unlabelled unlabelled h)))
 
+-- Where the numbers of all were filled with 0, none is labelled.
+pub held-filled : (text work zeros rest : List ℕ) (at n : ℕ) → at + 2 * n ≤ length work → zeros ≡ replicate (2 * n) 0 → labels_held text (take at work ++ (zeros ++ rest)) at n ≡ replicate n unlabelled
+held-filled text work zeros rest at n fits filled =
+    let whole : length (take at work) ≡ at = length-take-le at work (omega arith) in
+    let cleared : length zeros ≡ 2 * n = rw filled (length-replicate (2 * n) 0) in
+    held_none text work (take at work ++ (zeros ++ rest)) at n (take_at (take at work) (zeros ++ rest) at whole)
+    (λ j l h. get_or-append_right (take at work) (zeros ++ rest) at j 0 whole l
+    ∙ get_or_append_left zeros rest 0 (j - at) (omega arith)
+    ∙ rw filled (get_or-replicate (2 * n) (j - at) 0 0 (omega arith)))
+
 -- What changes one character alone
 module _ (text work : List ℕ) (at n : ℕ) (fits : at + 2 * n ≤ length work) (k : ℕ) (from : 1 ≤ k) (to : k ≤ n) where
   held-changed : (after : List ℕ) (this : Labelled) → take at after ≡ take at work
@@ -153,27 +164,3 @@ module _ (text work : List ℕ) (at n : ℕ) (fits : at + 2 * n ≤ length work)
       let whole : length (take at work) ≡ at = length-take-le at work (omega arith) in
       held-set-states text work at n fits k from to (first * 128 + count + 1)
       ∙ rw (add-one (first * 128 + count), quotient, remainder, whole, range_front text work at first at (omega arith), e, names-front text work at first i l h)
-
--- The walk that clears: the numbers up to an index are 0.
-pub record Emptying (at : ℕ) (before work : List ℕ) (i : ℕ) : Type 0 where
-  pub since : at ≤ i
-  pub size : length work ≡ length before
-  pub front : take at work ≡ take at before
-  pub clear : (j : ℕ) → at ≤ j → j < i → get_or work j 0 ≡ 0
-
-module _ (at : ℕ) (before : List ℕ) where
-  pub emptying-start : Emptying at before before at
-  emptying-start = record { since = omega arith; size = refl; front = refl; clear = λ j l h. absurd (omega arith) }
-
-  module _ (work : List ℕ) (i : ℕ) (e : Emptying at before work i) where
-    pub emptying-turn : i < length before → Emptying at before (set work i 0) (i + 1)
-    emptying-turn h =
-        record {
-          since = omega (arith, e.since);
-          size = length-set work i 0 ∙ e.size;
-          front = take-set-le at work i 0 e.since ∙ e.front;
-          clear = λ j l u. by-test (eqb j i) (λ s. rw (eqb-true j i s) (get_or-set_same work i 0 0 (omega (arith, e.size)))) (λ s. let other = eqb-false j i s in get_or-set_other work i j 0 0 other ∙ e.clear j l (omega (arith, other)));
-        }
-
-    pub emptying-end : (text : List ℕ) (n : ℕ) → at + 2 * n ≤ i → labels_held text work at n ≡ replicate n unlabelled
-    emptying-end text n h = held_none text before work at n e.front (λ j l u. e.clear j l (omega arith))

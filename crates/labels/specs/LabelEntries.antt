@@ -1,14 +1,14 @@
 -- Where the code is in an entry list of labels, and what its answers mean.
-use Rattle.std.specs.Prelude.{ℕ, ◌≤◌, List}
+use Rattle.std.specs.Prelude.{ℕ, ◌≤◌, List, Ok, Err, Result}
 use Rattle.block.specs.Commands.{words}
 use Rattle.block.specs.Labels.{Labelled, LabelCommand, Entry, first, next, numbered, labelled, states, Entries, at}
 use Rattle.block.specs.NamesHeld.{names_of}
 use Rattle.block.specs.Outcome.{Outcome, done, refused}
 use Rattle.block.specs.declared.kinds.Labelling.{Labelling}
-use Rattle.labels.specs.declared.entries.Entered.{Entered}
 use Rattle.labels.specs.declared.entries.Entry as code
 use Rattle.lexer.specs.Stored.{range}
 use Rattle.lexer.specs.Words.{Numbered}
+use Rattle.lexer.specs.declared.Fault.{Fault}
 
 -- In front of an index: the state labels so far are the names of the words from where they begin up to there.
 unfoldable pub entry_of : List ℕ → List ℕ → ℕ → code.Entry → Entry
@@ -27,13 +27,13 @@ placed count here (code.Entry.Labelled k i) = (1 ≤ k.0) × (k.0 ≤ count)
 placed count here (code.Entry.States k i from) = (1 ≤ k.0) × (k.0 ≤ count) × (from ≤ here)
 
 -- The list with one word more: the labels of the characters and the place in front of an index, or the refusal.
-unfoldable pub entered : List ℕ → List ℕ → List Labelled → ℕ → Entered → Outcome Entries
-entered text work cs here (Entered.On e) = done (at cs (entry_of text work here e))
-entered text work cs here (Entered.Refused n i) = refused n i
+unfoldable pub entered : List ℕ → List ℕ → List Labelled → ℕ → Result code.Entry (Fault ℕ) → Outcome Entries
+entered text work cs here (Ok e) = done (at cs (entry_of text work here e))
+entered text work cs here (Err f) = refused f.0 f.1
 
-abbrev pub placed_answer : ℕ → ℕ → Entered → Type 0
-placed_answer count here (Entered.On e) = placed count here e
-placed_answer count here (Entered.Refused n i) = Unit {0}
+abbrev pub placed_answer : ℕ → ℕ → Result code.Entry (Fault ℕ) → Type 0
+placed_answer count here (Ok e) = placed count here e
+placed_answer count here (Err f) = Unit {0}
 
 -- A label command by its parts.
 abbrev pub command_of : Labelling → ℕ → List Numbered → LabelCommand

@@ -1,23 +1,21 @@
 -- Which bytes are those of a blank: a byte below 192 by its class, a later one by the two bytes behind it. Assumes nothing.
 use Prim.Native.Nat.{ℕ, ◌+◌, ◌≤◌, ◌<◌}
 use Rattle.lexer.proofs.Basics.{chosen, and-false}
-use Rattle.lexer.specs.contracts.Class as tags
 use Rattle.lexer.proofs.SymbolLaws.{symbol_high}
 use Rattle.lexer.specs.Base.{pick}
 use Rattle.lexer.specs.Classes.{class, symbol, symbol_of, wide_blank, next1, next2, general_blank, general, rank, is_newline, is_return, is_blank, is_part, is_space}
 use Rattle.lexer.specs.declared.Class.{Class}
 use Rattle.lexer.specs.declared.Symbol.{Symbol}
 use borrow.Author.Tests.{lt-ltb, le-ltb}
-use denote.Enum.Declared.{tag_of}
 use lib.Dec.{eqb}
 use lib.ListN.{get_or, drop}
 use lib.Seq.{get_or-drop}
 use mathlib.Core.Bool.{Bool, true, false, ◌&&◌, ◌||◌}
 use mathlib.Core.List.{List, [], ◌∷◌}
-use mathlib.Core.Path.{◌≡◌, refl, ◌∙◌}
+use mathlib.Core.Logic.{◌⊎◌, inl, inr}
+use mathlib.Core.Path.{◌≡◌, refl, sym, ap, ◌∙◌}
 use native.Mathlib.Nat.{add-zero}
 use native.Mathlib.Omega.{arith}
-use types.Run.{OneOf, miss}
 
 -- Is a byte before these bytes one of a is_blank
 abbrev pub blank_part : ℕ → List ℕ → Bool
@@ -52,33 +50,25 @@ blank-low b r low k e = rw (← e) (go k)
     go Class.Other = refl
     go Class.Part = rw (lt-ltb b 192 low)
 
--- the arms of a `match` on the class
-tags-blank : (k : Class) → OneOf (0 ∷ 1 ∷ 6 ∷ []) (tag_of tags.the_type k) → true ≡ blank-class k
+full-class : (k : Class) → (k ≡ Class.Newline → ⊥) → (k ≡ Class.Blank → ⊥) → (k ≡ Class.Part → ⊥) → false ≡ blank-class k
 unfolding blank-class
-tags-blank Class.Newline o = refl
-tags-blank Class.Blank o = refl
-tags-blank Class.Quote o = absurd (miss (0 ∷ 1 ∷ 6 ∷ []) 2 tt o)
-tags-blank Class.Comment o = absurd (miss (0 ∷ 1 ∷ 6 ∷ []) 3 tt o)
-tags-blank Class.Punctuation o = absurd (miss (0 ∷ 1 ∷ 6 ∷ []) 4 tt o)
-tags-blank Class.Other o = absurd (miss (0 ∷ 1 ∷ 6 ∷ []) 5 tt o)
-tags-blank Class.Part o = refl
-
-tags-full : (k : Class) → OneOf (2 ∷ 3 ∷ 4 ∷ 5 ∷ []) (tag_of tags.the_type k) → false ≡ blank-class k
-unfolding blank-class
-tags-full Class.Newline o = absurd (miss (2 ∷ 3 ∷ 4 ∷ 5 ∷ []) 0 tt o)
-tags-full Class.Blank o = absurd (miss (2 ∷ 3 ∷ 4 ∷ 5 ∷ []) 1 tt o)
-tags-full Class.Quote o = refl
-tags-full Class.Comment o = refl
-tags-full Class.Punctuation o = refl
-tags-full Class.Other o = refl
-tags-full Class.Part o = absurd (miss (2 ∷ 3 ∷ 4 ∷ 5 ∷ []) 6 tt o)
+full-class Class.Newline n b p = absurd (n refl)
+full-class Class.Blank n b p = absurd (b refl)
+full-class Class.Quote n b p = refl
+full-class Class.Comment n b p = refl
+full-class Class.Punctuation n b p = refl
+full-class Class.Other n b p = refl
+full-class Class.Part n b p = absurd (p refl)
 
 module _ (b : ℕ) (r : List ℕ) (low : b < 192) (k : Class) (e : k ≡ class b) where
-  pub low-blank : OneOf (0 ∷ 1 ∷ 6 ∷ []) (tag_of tags.the_type k) → true ≡ blank_part b r
-  low-blank o = tags-blank k o ∙ blank-low b r low k e
+  pub low-blank : (k ≡ Class.Newline) ⊎ (k ≡ Class.Blank) ⊎ (k ≡ Class.Part) → true ≡ blank_part b r
+  unfolding blank-class
+  low-blank (inl o) = sym (ap blank-class o) ∙ blank-low b r low k e
+  low-blank (inr (inl o)) = sym (ap blank-class o) ∙ blank-low b r low k e
+  low-blank (inr (inr o)) = sym (ap blank-class o) ∙ blank-low b r low k e
 
-  pub low-full : OneOf (2 ∷ 3 ∷ 4 ∷ 5 ∷ []) (tag_of tags.the_type k) → false ≡ blank_part b r
-  low-full o = tags-full k o ∙ blank-low b r low k e
+  pub low-full : (k ≡ Class.Newline → ⊥) → (k ≡ Class.Blank → ⊥) → (k ≡ Class.Part → ⊥) → false ≡ blank_part b r
+  low-full n o p = full-class k n o p ∙ blank-low b r low k e
 
 -- Of the bytes behind it at most two matter, and 0 stands for one that is not there.
 wide-two : (b : ℕ) (r : List ℕ) → wide_blank b (get_or r 0 0 ∷ get_or r 1 0 ∷ []) ≡ wide_blank b r

@@ -4,10 +4,9 @@ use Prim.Native.Nat.{ℕ, zero, suc, ◌+◌, ◌/◌, ◌≤◌, ◌<◌}
 use Rattle.lexer.proofs.Basics.{and_left, and_right, and_assoc, and-true, chosen}
 use Rattle.lexer.specs.Base.{pick}
 use Rattle.lexer.specs.ByteBlocks.{all_first, blocks_behind, blocks_end}
-use borrow.Author.Tests.{not-true, not-false}
 use lib.ListN.{length, get_or, drop, length-drop}
 use lib.Seq.{drop-cons, drop-drop}
-use mathlib.Core.Bool.{Bool, true, false, ◌&&◌, not, false≢true}
+use mathlib.Core.Bool.{Bool, true, false, ◌&&◌, false≢true}
 use mathlib.Core.List.{List, [], ◌∷◌}
 use mathlib.Core.Path.{◌≡◌, refl, sym, ap, ◌∙◌}
 use native.Mathlib.Nat.{add-div_right, div-eq_of_lt, zero-add, suc-add}
@@ -142,8 +141,8 @@ module _ (p : ℕ → Bool) (size : ℕ) (some : 0 < size) (text : List ℕ) (fr
 -- Blocks of sixteen, by the tests of both eights.
 module _ (p : ℕ → Bool) (text : List ℕ) (from i : ℕ) (k : Passing p 16 text from i) (room : i + 16 ≤ length text) (a b : Bool)
     (e : a ≡ all_first p 8 (drop i text)) (e' : b ≡ all_first p 8 (drop (i + 8) text)) where
-  pub passing-sixteen : not (a && b) ≡ false → Passing p 16 text from (i + 16)
-  passing-sixteen t = passing-block p 16 (omega arith) text from i k room (sym (all-sixteen p text i a b e e') ∙ not-false (a && b) t)
+  pub passing-sixteen : a && b ≡ true → Passing p 16 text from (i + 16)
+  passing-sixteen t = passing-block p 16 (omega arith) text from i k room (sym (all-sixteen p text i a b e e') ∙ t)
 
-  pub sixteen-stops : not (a && b) ≡ true → i ≡ blocks_end p 16 from (drop from text)
-  sixteen-stops f = passing-stops p 16 (omega arith) text from i k room (sym (all-sixteen p text i a b e e') ∙ not-true (a && b) f)
+  pub sixteen-stops : a && b ≡ false → i ≡ blocks_end p 16 from (drop from text)
+  sixteen-stops f = passing-stops p 16 (omega arith) text from i k room (sym (all-sixteen p text i a b e e') ∙ f)

@@ -10,7 +10,7 @@ use Rattle.lexer.specs.declared.Class.{Class}
 use Rattle.lexer.specs.declared.Symbol.{Symbol}
 use borrow.Author.Tests.{eqb-true, ne_eqb, lt-leb, ltb-true, ltb-false}
 use lib.Dec.{eqb, ltb}
-use lib.ListN.{length, get_or, drop, drop_of_length-le}
+use lib.ListN.{length, get_or, drop, drop_of_length-le, get_or-eq_default}
 use mathlib.Core.Bool.{Bool, true, false, ◌||◌, not, false≢true}
 use mathlib.Core.List.{List}
 use mathlib.Core.Path.{◌≡◌, refl, sym, ◌∙◌}
@@ -24,6 +24,13 @@ next1-here text i b h = rw (drop-next text i)
 pub next1-past : (text : List ℕ) (i b : ℕ) → length text ≤ i → next1 b (drop i text) ≡ false
 unfolding next1
 next1-past text i b h = rw (drop_of_length-le text h)
+
+-- past the end of the text a byte that is read as 0 is no other
+pub next1-told : (text : List ℕ) (i b : ℕ) → eqb 0 b ≡ false → next1 b (drop i text) ≡ eqb (get_or text i 0) b
+next1-told text i b z = by-test (ltb i (length text)) (λ t. next1-here text i b (ltb-true i (length text) t)) (λ f. past (ltb-false i (length text) f))
+  where
+    past : length text ≤ i → next1 b (drop i text) ≡ eqb (get_or text i 0) b
+    past h = next1-past text i b h ∙ sym (rw (get_or-eq_default text 0 h) z)
 
 pub next1-found : (text : List ℕ) (i b : ℕ) → next1 b (drop i text) ≡ true → (i < length text) × (get_or text i 0 ≡ b)
 next1-found text i b t = by-test (ltb i (length text)) (λ h. here (ltb-true i (length text) h)) (λ f. not-both (next1-past text i b (ltb-false i (length text) f)) t)

@@ -11,9 +11,10 @@ use borrow.Author.Tests.{eqb-true, eqb-false, ne_eqb, ltb-false, lt-ltb, le-ltb}
 use lib.Dec.{eqb, ltb}
 use lib.ListN.{length, get_or, drop, length-drop}
 use lib.Seq.{drop-cons, drop-drop}
-use mathlib.Core.Bool.{true, false}
+use mathlib.Core.Bool.{Bool, true, false}
 use mathlib.Core.List.{List, [], ◌∷◌}
 use mathlib.Core.Path.{◌≡◌, refl, sym, ap, ◌∙◌}
+use mir.Val.{bool_byte}
 use native.Mathlib.Nat.{div-eq_of_lt, div-mul-le_self}
 use native.Mathlib.Numerals.{add-one}
 use native.Mathlib.Omega.{arith}
@@ -35,10 +36,16 @@ module _ (text : List ℕ) where
   unfolding pick
   count-miss b n i j h e t = rw t at (count_next b n i j h e)
 
-  pub count-eight : (b i o o' o'' o₃ o₄ o₅ o₆ o₇ : ℕ) → i + 8 ≤ length text → o ≡ pick (eqb (get_or text i 0) b) 1 0
-      → o' ≡ pick (eqb (get_or text (i + 1) 0) b) 1 0 → o'' ≡ pick (eqb (get_or text (i + 2) 0) b) 1 0 → o₃ ≡ pick (eqb (get_or text (i + 3) 0) b) 1 0
-      → o₄ ≡ pick (eqb (get_or text (i + 4) 0) b) 1 0 → o₅ ≡ pick (eqb (get_or text (i + 5) 0) b) 1 0 → o₆ ≡ pick (eqb (get_or text (i + 6) 0) b) 1 0
-      → o₇ ≡ pick (eqb (get_or text (i + 7) 0) b) 1 0 → o + o' + o'' + o₃ + o₄ + o₅ + o₆ + o₇ ≡ count_at b 8 i
+  -- a test as a number
+  as-number : (t : Bool) → bool_byte t ≡ pick t 1 0
+  unfolding pick
+  as-number true = refl
+  as-number false = refl
+
+  pub count-eight : (b i o o' o'' o₃ o₄ o₅ o₆ o₇ : ℕ) → i + 8 ≤ length text → o ≡ bool_byte (eqb (get_or text i 0) b)
+      → o' ≡ bool_byte (eqb (get_or text (i + 1) 0) b) → o'' ≡ bool_byte (eqb (get_or text (i + 2) 0) b) → o₃ ≡ bool_byte (eqb (get_or text (i + 3) 0) b)
+      → o₄ ≡ bool_byte (eqb (get_or text (i + 4) 0) b) → o₅ ≡ bool_byte (eqb (get_or text (i + 5) 0) b) → o₆ ≡ bool_byte (eqb (get_or text (i + 6) 0) b)
+      → o₇ ≡ bool_byte (eqb (get_or text (i + 7) 0) b) → o + o' + o'' + o₃ + o₄ + o₅ + o₆ + o₇ ≡ count_at b 8 i
   unfolding count_in
   count-eight b i o o' o'' o₃ o₄ o₅ o₆ o₇ room e e' e'' e₃ e₄ e₅ e₆ e₇ =
       let s = count_next b 7 i (i + 1) (omega arith) (omega arith) in
@@ -50,12 +57,20 @@ module _ (text : List ℕ) where
       let s₆ = count_next b 1 (i + 6) (i + 7) (omega arith) (omega arith) in
       let s₇ = count_next b 0 (i + 7) (i + 8) (omega arith) (omega arith) in
       let z = none (i + 8) in
+      let t = e ∙ as-number _ in
+      let t' = e' ∙ as-number _ in
+      let t'' = e'' ∙ as-number _ in
+      let t₃ = e₃ ∙ as-number _ in
+      let t₄ = e₄ ∙ as-number _ in
+      let t₅ = e₅ ∙ as-number _ in
+      let t₆ = e₆ ∙ as-number _ in
+      let t₇ = e₇ ∙ as-number _ in
       omega arith
     where
       none : (j : ℕ) → count_at b 0 j ≡ 0
       none j = refl
 
-  count_most : (b n i : ℕ) → count_at b n i ≤ n
+  pub count_most : (b n i : ℕ) → count_at b n i ≤ n
   unfolding count_in
   count_most b n i = go n (drop i text)
     where

@@ -1,10 +1,13 @@
 -- One byte of each scan for an end, as the loops of src/scanning.rt take it, with what their turns keep. Assumes nothing.
+use Rattle.std.specs.Prelude.{Ok, Err}
 use Prim.Native.Nat.{ℕ, zero, suc, ◌+◌, ◌-◌, ◌≤◌, ◌<◌}
 use Rattle.lexer.specs.Base.{pick}
+use Rattle.lexer.proofs.Basics.{by-test}
 use Rattle.lexer.specs.Scanning.{comment_end, quote_end, string_end}
-use Rattle.lexer.specs.declared.Scan.{Scan}
-use borrow.Author.Tests.{eq-eqb, ne_eqb}
-use lib.Dec.{eqb}
+use Rattle.lexer.specs.Refusals.{fault}
+use Rattle.lexer.specs.declared.refusal.Refusal.{Refusal}
+use borrow.Author.Tests.{eq-eqb, ne_eqb, ltb-true, ltb-false}
+use lib.Dec.{eqb, ltb}
 use lib.ListN.{length, get_or, drop, drop_of_length-le}
 use lib.Seq.{drop-cons}
 use mathlib.Core.Bool.{Bool, true, false}
@@ -15,7 +18,7 @@ use native.Mathlib.Omega.{arith}
 
 -- Double-quoted text
 module _ (text : List ℕ) (mark i : ℕ) (h : i < length text) where
-  pub string-over : get_or text i 0 ≡ 34 → string_end mark i (drop i text) ≡ Scan.At (i + 1)
+  pub string-over : get_or text i 0 ≡ 34 → string_end mark i (drop i text) ≡ Ok (i + 1)
   unfolding string_end pick
   string-over e = rw (add-one i, drop-cons text i 0, eq-eqb (get_or text i 0) 34 e)
 
@@ -25,7 +28,7 @@ module _ (text : List ℕ) (mark i : ℕ) (h : i < length text) where
 
 -- Comments
 module _ (text : List ℕ) (mark i : ℕ) (h : i < length text) where
-  pub comment-over : get_or text i 0 ≡ 93 → (d : ℕ) → d ≡ 0 → comment_end mark d i (drop i text) ≡ Scan.At (i + 1)
+  pub comment-over : get_or text i 0 ≡ 93 → (d : ℕ) → d ≡ 0 → comment_end mark d i (drop i text) ≡ Ok (i + 1)
   unfolding comment_end pick
   comment-over e d z =
       let e' : eqb (get_or text i 0) 91 ≡ false = ne_eqb (get_or text i 0) 91 (λ b. omega arith) in
@@ -51,7 +54,7 @@ module _ (text : List ℕ) (mark i : ℕ) (h : i < length text) where
 
 -- Single-quoted text
 module _ (text : List ℕ) (mark i : ℕ) (h : i < length text) where
-  pub quote-over : eqb (get_or text i 0) 39 ≡ false → (closing : Bool) → closing ≡ true → quote_end mark closing i (drop i text) ≡ Scan.At i
+  quote-over : eqb (get_or text i 0) 39 ≡ false → (closing : Bool) → closing ≡ true → quote_end mark closing i (drop i text) ≡ Ok i
   unfolding quote_end pick
   quote-over e c t = rw (t, drop-cons text i 0, e)
 
@@ -73,22 +76,28 @@ module _ (text : List ℕ) (mark i : ℕ) (h : i < length text) where
 
 -- At the end of the text
 module _ (text : List ℕ) (mark i : ℕ) (h : length text ≤ i) where
-  pub string-open : string_end mark i (drop i text) ≡ Scan.Open mark
+  pub string-open : string_end mark i (drop i text) ≡ Err (fault Refusal.OpenQuote mark)
   unfolding string_end
   string-open = rw (drop_of_length-le text h)
 
-  pub comment-open : (d : ℕ) → comment_end mark d i (drop i text) ≡ Scan.Open mark
+  pub comment-open : (d : ℕ) → comment_end mark d i (drop i text) ≡ Err (fault Refusal.OpenComment mark)
   unfolding comment_end
   comment-open zero = rw (drop_of_length-le text h)
   comment-open (suc d) = rw (drop_of_length-le text h)
 
-  pub quote-closed : (closing : Bool) → closing ≡ true → quote_end mark closing i (drop i text) ≡ Scan.At i
+  quote-closed : (closing : Bool) → closing ≡ true → quote_end mark closing i (drop i text) ≡ Ok i
   unfolding quote_end
   quote-closed c t = rw (t, drop_of_length-le text h)
 
-  pub quote-open : (closing : Bool) → closing ≡ false → quote_end mark closing i (drop i text) ≡ Scan.Open mark
+  pub quote-open : (closing : Bool) → closing ≡ false → quote_end mark closing i (drop i text) ≡ Err (fault Refusal.OpenQuote mark)
   unfolding quote_end
   quote-open c f = rw (f, drop_of_length-le text h)
+
+-- Behind a quote, at another byte or past the text
+pub quote-ended : (text : List ℕ) (mark i : ℕ) → (get_or text i 0 ≡ 39 → ⊥) → (closing : Bool) → closing ≡ true → quote_end mark closing i (drop i text) ≡ Ok i
+quote-ended text mark i n c t =
+    by-test (ltb i (length text)) (λ h. quote-over text mark i (ltb-true i (length text) h) (ne_eqb (get_or text i 0) 39 n) c t)
+    (λ f. quote-closed text mark i (ltb-false i (length text) f) c t)
 
 -- What the turns of each loop keep: from here, as it stands, the end is the same as from behind the mark.
 pub record Stringing (text : List ℕ) (mark i : ℕ) : Type 0 where

@@ -5,6 +5,7 @@ pub mod LabelLaws
 pub mod LexedAnswers
 pub mod ListLaws
 pub mod NextBytes
+pub mod OptionLaws
 pub mod PlainRuns
 pub mod RangeLaws
 pub mod SmallBytes

@@ -24,6 +24,9 @@ take_next l i e h k =
 pub some-within : (l : List ℕ) (i : ℕ) → (get_or l i 0 ≡ 0 → ⊥) → i < length l
 some-within l i some = by-test (ltb i (length l)) (ltb-true i (length l)) (λ f. absurd (some (get_or-eq_default l 0 (ltb-false i (length l) f))))
 
+pub within-at : (l : List ℕ) (i b : ℕ) → 0 < b → get_or l i 0 ≡ b → i < length l
+within-at l i b some e = some-within l i (λ z. omega arith)
+
 -- What holds of a rest, by whether the text has a byte there.
 pub drop-cases : (P : List ℕ → Type 0) (l : List ℕ) (i : ℕ) → (i < length l → P (get_or l i 0 ∷ drop (i + 1) l)) → P [] → P (drop i l)
 drop-cases P l i here past =

@@ -1,29 +1,24 @@
 -- The byte order mark at the front of a text: where the text begins behind it. Assumes nothing.
-use Prim.Native.Nat.{ℕ, ◌+◌, ◌≤◌, ◌<◌}
-use Rattle.lexer.proofs.Basics.{by-test}
+use Prim.Native.Nat.{ℕ, ◌+◌, ◌≤◌}
+use Rattle.lexer.proofs.Basics.{by-test, and-false, and-true, and_assoc, eqb-sym}
+use Rattle.std.specs.List.{starts_with}
 use Rattle.lexer.specs.Base.{pick}
 use Rattle.lexer.specs.Places.{first_byte}
 use Rattle.lexer.specs.Tokens.{marked, unmarked}
 use lib.Dec.{eqb}
-use lib.ListN.{length, get_or, drop}
+use lib.ListN.{length, drop}
 use mathlib.Core.Bool.{Bool, true, false, ◌&&◌}
 use mathlib.Core.List.{List, [], ◌∷◌}
 use mathlib.Core.Path.{◌≡◌, refl}
 use native.Mathlib.Omega.{arith}
 
-pub first_short : (text : List ℕ) → length text < 3 → first_byte text ≡ 0
+-- The first byte by a test whether the text starts with the mark.
+pub first-told : (text : List ℕ) (b : Bool) → b ≡ starts_with eqb text (239 ∷ 187 ∷ 191 ∷ []) → first_byte text ≡ pick b 3 0
 unfolding first_byte marked pick
-first_short [] h = refl
-first_short (a ∷ []) h = refl
-first_short (a ∷ b ∷ []) h = refl
-first_short (a ∷ b ∷ c ∷ r) h = absurd (omega arith)
-
-pub first-long : (text : List ℕ) → 3 ≤ length text → first_byte text ≡ pick (eqb (get_or text 0 0) 239 && eqb (get_or text 1 0) 187 && eqb (get_or text 2 0) 191) 3 0
-unfolding first_byte marked
-first-long [] h = absurd (omega arith)
-first-long (a ∷ []) h = absurd (omega arith)
-first-long (a ∷ b ∷ []) h = absurd (omega arith)
-first-long (a ∷ b ∷ c ∷ r) h = refl
+first-told [] b e = rw e
+first-told (x ∷ []) b e = rw (e, and-false (eqb 239 x))
+first-told (x ∷ y ∷ []) b e = rw (e, and-false (eqb 187 y), and-false (eqb 239 x))
+first-told (x ∷ y ∷ z ∷ r) b e = rw (e, eqb-sym 239 x, eqb-sym 187 y, eqb-sym 191 z, and-true, and_assoc)
 
 -- What stands from the first byte on is the text without its mark.
 pub drop-first : (text : List ℕ) → drop (first_byte text) text ≡ unmarked text

@@ -1,5 +1,6 @@
 -- A token's text by its cursors: at the front all of it is left; the next byte is the first of what is left, and the cursor behind it stands further
 -- on; where there is no next byte, nothing is left. Assumes nothing.
+use Rattle.std.specs.Prelude.{Option, Some, None, is_some}
 use Prim.Native.Nat.{ℕ, ◌+◌, ◌≤◌, ◌<◌}
 use Rattle.lexer.proofs.Basics.{by-test}
 use Rattle.lexer.proofs.ListLaws.{drop-next}
@@ -7,21 +8,21 @@ use Rattle.lexer.proofs.QuotedBytes.{quoted-yields, string-yields, mark-yields}
 use Rattle.lexer.proofs.TokenParts.{here, text-symbol, front-symbol, text-past, front-past}
 use Rattle.lexer.proofs.WordBytes.{word-yields}
 use Rattle.lexer.proofs.Yielded.{Yields, yields-end}
-use Rattle.lexer.specs.Base.{pick}
+use Rattle.lexer.specs.Base.{pick, is_empty}
 use Rattle.lexer.specs.Bytes.{front_at, front_of, next_item, item_of, left, rest_of, first}
 use Rattle.lexer.specs.Classes.{symbol, rank, is_newline, is_single, is_double, is_open, is_other, is_part}
 use Rattle.lexer.specs.Lexing.{token_at}
 use Rattle.lexer.specs.Scanning.{symbol_at}
 use Rattle.lexer.specs.Tokens.{text_of, tail, next, after_word, after_between, text_step}
 use Rattle.lexer.specs.declared.Cursor.{Cursor}
-use Rattle.lexer.specs.declared.Item.{Item}
 use Rattle.lexer.specs.declared.Mode.{Mode}
 use Rattle.lexer.specs.declared.Symbol.{Symbol}
 use borrow.Author.Tests.{ltb-true, ltb-false}
 use lib.Dec.{ltb}
 use lib.ListN.{length, get_or, drop, drop_of_length-le}
+use mathlib.Core.Bool.{Bool, true, false, not, false≢true}
 use mathlib.Core.List.{List}
-use mathlib.Core.Path.{◌≡◌, refl}
+use mathlib.Core.Path.{◌≡◌, refl, sym}
 
 -- At the front
 front-text : (text : List ℕ) (i : ℕ) → i < length text → (s : Symbol) → s ≡ symbol (get_or text i 0) (drop (i + 1) text)
@@ -52,7 +53,7 @@ pub front-left : (text : List ℕ) (i : ℕ) (c : Cursor) → c ≡ front_at tex
 front-left text i c e = rw e (by-test (ltb i (length text)) (λ t. front-within text i (ltb-true i (length text) t)) (λ f. front-beyond text i (ltb-false i (length text) f)))
 
 -- The next byte
-pub yielded : (text : List ℕ) (c : Cursor) (r : Item) → r ≡ next_item text c → Yields text c.at (left text c) r
+pub yielded : (text : List ℕ) (c : Cursor) (r : Option (ℕ × Cursor)) → r ≡ next_item text c → Yields text c.at (left text c) r
 unfolding next_item item_of left rest_of
 yielded text c r e = rw e (go c.mode c.at)
   where
@@ -64,3 +65,11 @@ yielded text c r e = rw e (go c.mode c.at)
     go Mode.String i = string-yields text i
     go (Mode.Comment d) i = yields-end refl
     go (Mode.WordComment d) i = yields-end refl
+
+-- Where there is no next byte, nothing is left.
+pub ended-told : (text : List ℕ) (c : Cursor) (r : Option (ℕ × Cursor)) (n : Bool) → r ≡ next_item text c → is_some r ≡ not n → n ≡ is_empty (left text c)
+unfolding is_empty
+ended-told text c (Some (b, d)) false e h = rw ((yielded text c (Some (b, d)) e).byte b d refl).here refl
+ended-told text c (Some (b, d)) true e h = absurd (false≢true (sym h))
+ended-told text c None false e h = absurd (false≢true h)
+ended-told text c None true e h = rw ((yielded text c None e).end refl) refl

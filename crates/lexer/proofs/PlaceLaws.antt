@@ -1,6 +1,5 @@
 -- Laws of lines and columns: what one byte adds, and the loop that passes over the bytes before a place. Assumes nothing.
 use Prim.Native.Nat.{ℕ, zero, suc, ◌+◌, ◌-◌, ◌≤◌, ◌<◌}
-use Rattle.lexer.proofs.Basics.{by-test, both_below}
 use Rattle.lexer.proofs.ListLaws.{drop-next}
 use Rattle.lexer.specs.Base.{pick}
 use Rattle.lexer.specs.Classes.{is_newline, is_return, is_part}
@@ -8,11 +7,10 @@ use Rattle.lexer.specs.Places.{move, place_from}
 use Rattle.lexer.specs.Scanning.{first_symbol, symbol_at}
 use Rattle.lexer.specs.declared.Place.{Place}
 use Rattle.lexer.specs.declared.Symbol.{Symbol}
-use borrow.Author.Tests.{ltb-false}
-use lib.Dec.{ltb}
 use lib.ListN.{length, drop, drop_of_length-le}
-use mathlib.Core.Bool.{Bool, true, false, ◌&&◌, ◌||◌}
+use mathlib.Core.Bool.{Bool, true, false, ◌||◌}
 use mathlib.Core.List.{List, []}
+use mathlib.Core.Logic.{◌⊎◌, inl, inr}
 use mathlib.Core.Path.{◌≡◌, refl, sym, ◌∙◌}
 use native.Mathlib.Omega.{arith}
 
@@ -42,12 +40,9 @@ unfolding place_from symbol_at first_symbol
 passed text p k i h = rw (drop-next text i)
 
 pub placing-turn : {text : List ℕ} {at most : ℕ} {asked p q : Place} {i : ℕ} {s : Symbol}
-    → Placing text at most asked p i → 0 < most → ltb i at && ltb i (length text) ≡ true → s ≡ symbol_at text i → q ≡ move p s → Placing text at most asked q (i + 1)
-placing-turn {text} {at} {most} {asked} {p} {q} {i} {s} h pos more here moved = rw (moved, here) (record { small = small; rest = rest })
+    → Placing text at most asked p i → 0 < most → (i < at) × (i < length text) → s ≡ symbol_at text i → q ≡ move p s → Placing text at most asked q (i + 1)
+placing-turn {text} {at} {most} {asked} {p} {q} {i} {s} h pos below here moved = rw (moved, here) (record { small = small; rest = rest })
   where
-    below : (i < at) × (i < length text)
-    below = both_below i at (length text) more
-
     one : at - i ≡ suc (at - (i + 1))
     one = omega (arith, below.0)
 
@@ -63,9 +58,7 @@ unfolding place_from
 stays p zero = refl
 stays p (suc k) = refl
 
-pub placing-end : {text : List ℕ} {at most : ℕ} {asked p : Place} {i : ℕ} → Placing text at most asked p i → ltb i at && ltb i (length text) ≡ false → p ≡ asked
+pub placing-end : {text : List ℕ} {at most : ℕ} {asked p : Place} {i : ℕ} → Placing text at most asked p i → (at ≤ i) ⊎ (length text ≤ i) → p ≡ asked
 unfolding place_from
-placing-end {text} {at} {most} {asked} {p} {i} h over =
-    by-test (ltb i at)
-    (λ below. let all = ltb-false i (length text) (rw below at over) in sym (stays p (at - i)) ∙ (rw (drop_of_length-le text all) at h.rest))
-    (λ past. let none : at - i ≡ 0 = omega (arith, ltb-false i at past) in rw none at h.rest)
+placing-end {text} {at} {most} {asked} {p} {i} h (inl past) = let none : at - i ≡ 0 = omega arith in rw none at h.rest
+placing-end {text} {at} {most} {asked} {p} {i} h (inr all) = sym (stays p (at - i)) ∙ (rw (drop_of_length-le text all) at h.rest)

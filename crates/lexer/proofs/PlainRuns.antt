@@ -4,7 +4,6 @@ use Rattle.lexer.proofs.Basics.{chosen}
 use Rattle.lexer.proofs.ByteBlocks.{blocks-alike}
 use Rattle.lexer.proofs.ClassLaws.{plain-is-other, plain-small}
 use Rattle.lexer.proofs.ListLaws.{drop-next}
-use Rattle.lexer.specs.contracts.Mode as modes
 use Rattle.lexer.specs.Base.{pick}
 use Rattle.lexer.specs.ByteBlocks.{is_plain, plain_end, blocks_end}
 use Rattle.lexer.specs.Bytes.{cursor, left, rest_of, run_behind, run_of}
@@ -12,14 +11,12 @@ use Rattle.lexer.specs.Classes.{symbol, symbol_of, rank, is_single, is_double, i
 use Rattle.lexer.specs.Tokens.{tail, next, after_word, after_between, text_step}
 use Rattle.lexer.specs.declared.Cursor.{Cursor}
 use Rattle.lexer.specs.declared.Mode.{Mode}
-use denote.Enum.Declared.{tag_of}
 use lib.ListN.{length, get_or, drop, take, drop_of_length-le, length-drop}
 use lib.Seq.{drop-drop, get_or-drop}
 use mathlib.Core.Bool.{true, false}
 use mathlib.Core.List.{List, [], ◌∷◌, ◌++◌}
 use mathlib.Core.Path.{◌≡◌, refl, ap, ◌∙◌}
 use native.Mathlib.Omega.{arith}
-use types.Run.{OneOf, miss}
 
 -- Where the plain bytes from an index on end.
 module _ (text : List ℕ) where
@@ -119,17 +116,17 @@ run-left text c d e = rw e (go c.mode c.at)
     go (Mode.WordComment d) i = run_none text (cursor (Mode.WordComment d) i)
 
 -- The cursor behind the plain bytes, by the mode.
-pub run-word-end : (text : List ℕ) (c : Cursor) (e : ℕ) → c.mode ≡ Mode.Word → e ≡ plain_end c.at (drop c.at text) → cursor Mode.Word e ≡ run_behind text c
+pub run-word-end : (text : List ℕ) (c : Cursor) (e : ℕ) → c.mode ≡ Mode.Word → e ≡ plain_end c.at (drop c.at text) → cursor c.mode e ≡ run_behind text c
 unfolding run_behind run_of
 run-word-end text c e m h = rw (m, h)
 
-pub run-stays : (text : List ℕ) (c : Cursor) → OneOf (0 ∷ 2 ∷ 3 ∷ 4 ∷ 5 ∷ 6 ∷ []) (tag_of modes.the_type c.mode) → c ≡ run_behind text c
+pub run-stays : (text : List ℕ) (c : Cursor) → (c.mode ≡ Mode.Word → ⊥) → c ≡ run_behind text c
 unfolding run_behind run_of
 run-stays text c o = go c.mode o
   where
-    go : (m : Mode) → OneOf (0 ∷ 2 ∷ 3 ∷ 4 ∷ 5 ∷ 6 ∷ []) (tag_of modes.the_type m) → cursor m c.at ≡ run_of m c.at (drop c.at text)
+    go : (m : Mode) → (m ≡ Mode.Word → ⊥) → cursor m c.at ≡ run_of m c.at (drop c.at text)
     go Mode.Between o = refl
-    go Mode.Word o = absurd (miss (0 ∷ 2 ∷ 3 ∷ 4 ∷ 5 ∷ 6 ∷ []) 1 tt o)
+    go Mode.Word o = absurd (o refl)
     go Mode.Quoted o = refl
     go Mode.Closing o = refl
     go Mode.String o = refl

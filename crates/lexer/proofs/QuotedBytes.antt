@@ -1,4 +1,5 @@
 -- Quoted text byte by byte, as it stands in a text: every newline is LF, two single quotes are one. Assumes nothing.
+use Rattle.std.specs.Prelude.{Some, None}
 use Prim.Native.Nat.{ℕ, ◌+◌, ◌<◌}
 use Rattle.lexer.proofs.Basics.{chosen, by-test, not-both, or_left, or_right, or-both, pick_second}
 use Rattle.lexer.proofs.ClassLaws.{next1-found}
@@ -10,7 +11,6 @@ use Rattle.lexer.specs.Base.{pick}
 use Rattle.lexer.specs.Bytes.{cursor, text_item, quoted_item, string_item, mark_item, left, rest_of, first}
 use Rattle.lexer.specs.Classes.{class, symbol, symbol_of, next1, rank, is_newline, is_return, is_single, is_double}
 use Rattle.lexer.specs.Tokens.{tail, next, text_step, quoted_byte}
-use Rattle.lexer.specs.declared.Item.{Item}
 use Rattle.lexer.specs.declared.Mode.{Mode}
 use borrow.Author.Tests.{ne_eqb, eqb-true, eqb-false}
 use lib.Dec.{eqb}
@@ -80,17 +80,17 @@ return_alone (Mode.WordComment d) r p e = absurd p
 
 -- The next byte of quoted text that is not its quote.
 module _ (text : List ℕ) (i : ℕ) (m : Mode) (h : i < length text) (p : Plain m (get_or text i 0)) where
-  returned : get_or text i 0 ≡ 13 → Yields text i (rest_of m (get_or text i 0 ∷ drop (i + 1) text)) (Item.Byte 10 (cursor m (pick (next1 10 (drop (i + 1) text)) (i + 2) (i + 1))))
+  returned : get_or text i 0 ≡ 13 → Yields text i (rest_of m (get_or text i 0 ∷ drop (i + 1) text)) (Some (10, (cursor m (pick (next1 10 (drop (i + 1) text)) (i + 2) (i + 1)))))
   unfolding left
-  returned e = chosen (λ j. Yields text i (rest_of m (get_or text i 0 ∷ drop (i + 1) text)) (Item.Byte 10 (cursor m j))) (next1 10 (drop (i + 1) text)) line alone
+  returned e = chosen (λ j. Yields text i (rest_of m (get_or text i 0 ∷ drop (i + 1) text)) (Some (10, (cursor m j)))) (next1 10 (drop (i + 1) text)) line alone
     where
-      line : next1 10 (drop (i + 1) text) ≡ true → Yields text i (rest_of m (get_or text i 0 ∷ drop (i + 1) text)) (Item.Byte 10 (cursor m (i + 2)))
+      line : next1 10 (drop (i + 1) text) ≡ true → Yields text i (rest_of m (get_or text i 0 ∷ drop (i + 1) text)) (Some (10, (cursor m (i + 2))))
       line t =
           let n = next1-found text (i + 1) 10 t in
           let two : i + 1 + 1 ≡ i + 2 = omega arith in
           yields-byte (record { here = rw (e, drop-next text (i + 1) n.0, n.1, two) (return-line m (drop (i + 2) text) (rw e at p)); ahead = omega arith; within = omega (arith, n.0) })
 
-      alone : next1 10 (drop (i + 1) text) ≡ false → Yields text i (rest_of m (get_or text i 0 ∷ drop (i + 1) text)) (Item.Byte 10 (cursor m (i + 1)))
+      alone : next1 10 (drop (i + 1) text) ≡ false → Yields text i (rest_of m (get_or text i 0 ∷ drop (i + 1) text)) (Some (10, (cursor m (i + 1))))
       alone f = yields-byte (record { here = rw e (return_alone m (drop (i + 1) text) (rw e at p) f); ahead = omega arith; within = omega arith })
 
   text-yields : Yields text i (rest_of m (get_or text i 0 ∷ drop (i + 1) text)) (text_item m i (get_or text i 0 ∷ drop (i + 1) text))
@@ -126,7 +126,7 @@ nothing_left (Mode.WordComment d) = refl
 -- The next byte of each kind of text is the first of what is left.
 module _ (text : List ℕ) (i : ℕ) where
   twice : get_or text i 0 ≡ 39 → next1 39 (drop (i + 1) text) ≡ true
-      → Yields text i (rest_of Mode.Quoted (get_or text i 0 ∷ drop (i + 1) text)) (Item.Byte 39 (cursor Mode.Quoted (i + 2)))
+      → Yields text i (rest_of Mode.Quoted (get_or text i 0 ∷ drop (i + 1) text)) (Some (39, (cursor Mode.Quoted (i + 2))))
   unfolding left
   twice e t =
       let n = next1-found text (i + 1) 39 t in
@@ -143,7 +143,7 @@ module _ (text : List ℕ) (i : ℕ) where
       (yields-end (nothing_left Mode.Quoted))
     where
       quote : get_or text i 0 ≡ 39
-          → Yields text i (rest_of Mode.Quoted (get_or text i 0 ∷ drop (i + 1) text)) (pick (next1 39 (drop (i + 1) text)) (Item.Byte 39 (cursor Mode.Quoted (i + 2))) Item.End)
+          → Yields text i (rest_of Mode.Quoted (get_or text i 0 ∷ drop (i + 1) text)) (pick (next1 39 (drop (i + 1) text)) (Some (39, (cursor Mode.Quoted (i + 2)))) None)
       quote e =
           chosen (Yields text i (rest_of Mode.Quoted (get_or text i 0 ∷ drop (i + 1) text))) (next1 39 (drop (i + 1) text)) (twice e)
           (λ f. yields-end (rw e (quote-once (drop (i + 1) text) f)))

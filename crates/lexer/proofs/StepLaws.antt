@@ -1,4 +1,5 @@
 -- One step between two tokens: what `token_step` says of the rest of a text is what the modes make of it. Assumes nothing.
+use Rattle.std.specs.Prelude.{Ok, Err, Result}
 use Prim.Native.Nat.{ℕ, suc, ◌≤◌, ◌<◌}
 use Rattle.lexer.proofs.ScanLaws.{Passed, Unclosed, Ends, here, comment-ends, string-ends, quote-ends, word-ends}
 use Rattle.lexer.proofs.SymbolLaws.{each-symbol}
@@ -6,10 +7,10 @@ use Rattle.lexer.specs.Base.{pick}
 use Rattle.lexer.specs.Classes.{symbol, rank, is_newline, is_return, is_blank, is_single, is_double, is_open, is_other, is_part}
 use Rattle.lexer.specs.Lexing.{token_at, first_token}
 use Rattle.lexer.specs.Places.{starts_from, opened_from, opens, opens_between}
-use Rattle.lexer.specs.Scanning.{comment_end, quote_end, string_end, word_end, skipped, quoted, worded, step_of, token_step}
+use Rattle.lexer.specs.Scanning.{comment_end, quote_end, string_end, word_end, skipped, taken, step_of, token_step}
 use Rattle.lexer.specs.Tokens.{Token, token, kind_of, next, after_between, begins, begins_between, tokens_from, left_open, open_kind}
+use Rattle.lexer.specs.declared.Fault.{Fault}
 use Rattle.lexer.specs.declared.Mode.{Mode}
-use Rattle.lexer.specs.declared.Scan.{Scan}
 use Rattle.lexer.specs.declared.Step.{Step}
 use Rattle.lexer.specs.declared.Symbol.{Symbol}
 use Rattle.lexer.specs.declared.refusal.Refusal.{Refusal}
@@ -44,42 +45,35 @@ pub record Unended (text : List ℕ) (i : ℕ) (n : Refusal) (mark : ℕ) : Type
   pub within : mark < length text
 
 -- What a step says of the rest behind the byte with this symbol, at which it begins.
-abbrev Behind : Symbol → ℕ → List ℕ → Step → Type 0
-Behind s i r (Step.Skip j) = (begins_between s ≡ false) × Passed (after_between s) (suc i) j r
-Behind s i r (Step.Token j) = (begins_between s ≡ true) × Passed (after_between s) (suc i) j r
-Behind s i r (Step.Quote mark) = (since : ℕ) → Unclosed Refusal.OpenQuote (after_between s) (pick (opens_between s) i since) (suc i) r mark
-Behind s i r (Step.Comment mark) = (since : ℕ) → Unclosed Refusal.OpenComment (after_between s) (pick (opens_between s) i since) (suc i) r mark
+abbrev Behind : Symbol → ℕ → List ℕ → Result Step (Fault ℕ) → Type 0
+Behind s i r (Ok (Step.Skip j)) = (begins_between s ≡ false) × Passed (after_between s) (suc i) j r
+Behind s i r (Ok (Step.Token j)) = (begins_between s ≡ true) × Passed (after_between s) (suc i) j r
+Behind s i r (Err f) = (since : ℕ) → Unclosed f.0 (after_between s) (pick (opens_between s) i since) (suc i) r f.1
 
 module _ (s : Symbol) (i : ℕ) (r : List ℕ) where
-  skipped-behind : (e : Scan) → begins_between s ≡ false
-      → ((since : ℕ) → Ends Refusal.OpenComment (after_between s) (pick (opens_between s) i since) (suc i) r e) → Behind s i r (skipped e)
+  skipped-behind : (e : Result ℕ (Fault ℕ)) → begins_between s ≡ false
+      → ((since : ℕ) → Ends (after_between s) (pick (opens_between s) i since) (suc i) r e) → Behind s i r (skipped e)
   unfolding skipped
-  skipped-behind (Scan.At j) h p = (h, p 0)
-  skipped-behind (Scan.Open mark) h p = p
+  skipped-behind (Ok j) h p = (h, p 0)
+  skipped-behind (Err f) h p = p
 
-  worded-behind : (e : Scan) → begins_between s ≡ true
-      → ((since : ℕ) → Ends Refusal.OpenComment (after_between s) (pick (opens_between s) i since) (suc i) r e) → Behind s i r (worded e)
-  unfolding worded
-  worded-behind (Scan.At j) h p = (h, p 0)
-  worded-behind (Scan.Open mark) h p = p
-
-  quoted-behind : (e : Scan) → begins_between s ≡ true
-      → ((since : ℕ) → Ends Refusal.OpenQuote (after_between s) (pick (opens_between s) i since) (suc i) r e) → Behind s i r (quoted e)
-  unfolding quoted
-  quoted-behind (Scan.At j) h p = (h, p 0)
-  quoted-behind (Scan.Open mark) h p = p
+  taken-behind : (e : Result ℕ (Fault ℕ)) → begins_between s ≡ true
+      → ((since : ℕ) → Ends (after_between s) (pick (opens_between s) i since) (suc i) r e) → Behind s i r (taken e)
+  unfolding taken
+  taken-behind (Ok j) h p = (h, p 0)
+  taken-behind (Err f) h p = p
 
 step-behind : (s : Symbol) (i : ℕ) (r : List ℕ) → Behind s i r (step_of s i r)
 unfolding step_of after_between begins_between opens_between rank is_return is_blank is_single is_double is_open is_other is_part pick
 step-behind Symbol.Newline i r = (refl, here (suc i) r)
 step-behind Symbol.Return i r = (refl, here (suc i) r)
 step-behind Symbol.Blank i r = (refl, here (suc i) r)
-step-behind Symbol.Single i r = quoted-behind Symbol.Single i r (quote_end i false (suc i) r) refl (λ _. quote-ends r i false (suc i) (omega arith))
-step-behind Symbol.Double i r = quoted-behind Symbol.Double i r (string_end i (suc i) r) refl (λ _. string-ends r i (suc i) (omega arith))
+step-behind Symbol.Single i r = taken-behind Symbol.Single i r (quote_end i false (suc i) r) refl (λ _. quote-ends r i false (suc i) (omega arith))
+step-behind Symbol.Double i r = taken-behind Symbol.Double i r (string_end i (suc i) r) refl (λ _. string-ends r i (suc i) (omega arith))
 step-behind Symbol.Open i r = skipped-behind Symbol.Open i r (comment_end i 0 (suc i) r) refl (λ _. comment-ends r i 0 (suc i) (omega arith))
 step-behind Symbol.Close i r = (refl, here (suc i) r)
 step-behind Symbol.Punctuation i r = (refl, here (suc i) r)
-step-behind Symbol.Other i r = worded-behind Symbol.Other i r (word_end 0 0 (suc i) r) refl (λ since. (word-ends r).word 0 since (suc i))
+step-behind Symbol.Other i r = taken-behind Symbol.Other i r (word_end 0 0 (suc i) r) refl (λ since. (word-ends r).word 0 since (suc i))
 step-behind Symbol.Part i r = (refl, here (suc i) r)
 
 -- A token that begins is none that is left open.
@@ -99,7 +93,7 @@ module _ (text : List ℕ) (i : ℕ) (lt : i < length text) where
   at : Symbol
   at = symbol (get_or text i 0) (drop (suc i) text)
 
-  told : (e : Step) → token_step i (drop i text) ≡ e → Behind at i (drop (suc i) text) e
+  told : (e : Result Step (Fault ℕ)) → token_step i (drop i text) ≡ e → Behind at i (drop (suc i) text) e
   unfolding token_step at
   told e h = subst (λ e. Behind (symbol (get_or text i 0) (drop (suc i) text)) i (drop (suc i) text) e) (rw first at h) (step-behind _ i (drop (suc i) text))
 
@@ -113,7 +107,7 @@ module _ (text : List ℕ) (i : ℕ) (lt : i < length text) where
       let o = p.opened (pick (opens_between at) i since) in
       (o.0, rw (first, ← lands p) o.1)
 
-  skip : (j : ℕ) → Behind at i (drop (suc i) text) (Step.Skip j) → Skipped text i j
+  skip : (j : ℕ) → Behind at i (drop (suc i) text) (Ok (Step.Skip j)) → Skipped text i j
   unfolding tokens_from starts_from next begins pick at
   skip j (quiet, p) =
       record {
@@ -124,7 +118,7 @@ module _ (text : List ℕ) (i : ℕ) (lt : i < length text) where
         opened = opened-behind j p;
       }
 
-  take : (j : ℕ) → Behind at i (drop (suc i) text) (Step.Token j) → Taken text i j
+  take : (j : ℕ) → Behind at i (drop (suc i) text) (Ok (Step.Token j)) → Taken text i j
   unfolding tokens_from starts_from next begins pick at token_at first_token
   take j (begun, p) =
       record {
@@ -145,14 +139,11 @@ module _ (text : List ℕ) (i : ℕ) (lt : i < length text) where
       }
 
 -- What each step says of the text.
-pub step_skip : (text : List ℕ) (i j : ℕ) → i < length text → token_step i (drop i text) ≡ Step.Skip j → Skipped text i j
-step_skip text i j lt e = skip text i lt j (told text i lt (Step.Skip j) e)
+pub step_skip : (text : List ℕ) (i j : ℕ) → i < length text → token_step i (drop i text) ≡ Ok (Step.Skip j) → Skipped text i j
+step_skip text i j lt e = skip text i lt j (told text i lt (Ok (Step.Skip j)) e)
 
-pub step-token : (text : List ℕ) (i j : ℕ) → i < length text → token_step i (drop i text) ≡ Step.Token j → Taken text i j
-step-token text i j lt e = take text i lt j (told text i lt (Step.Token j) e)
+pub step-token : (text : List ℕ) (i j : ℕ) → i < length text → token_step i (drop i text) ≡ Ok (Step.Token j) → Taken text i j
+step-token text i j lt e = take text i lt j (told text i lt (Ok (Step.Token j)) e)
 
-pub step-quote : (text : List ℕ) (i mark : ℕ) → i < length text → token_step i (drop i text) ≡ Step.Quote mark → Unended text i Refusal.OpenQuote mark
-step-quote text i mark lt e = unended text i lt Refusal.OpenQuote mark (told text i lt (Step.Quote mark) e)
-
-pub step-comment : (text : List ℕ) (i mark : ℕ) → i < length text → token_step i (drop i text) ≡ Step.Comment mark → Unended text i Refusal.OpenComment mark
-step-comment text i mark lt e = unended text i lt Refusal.OpenComment mark (told text i lt (Step.Comment mark) e)
+pub step-open : (text : List ℕ) (i : ℕ) (f : Fault ℕ) → i < length text → token_step i (drop i text) ≡ Err f → Unended text i f.0 f.1
+step-open text i f lt e = unended text i lt f.0 f.1 (told text i lt (Err f) e)

@@ -1,4 +1,5 @@
 -- The walk that stores where each token begins: what its turns keep, and what they come to. Assumes nothing.
+use Rattle.std.specs.Prelude.{Ok, Err, Result}
 use Prim.Native.Nat.{ℕ, suc, ◌+◌, ◌≤◌, ◌<◌}
 use Rattle.lexer.proofs.MarkLaws.{first-within, drop-first}
 use Rattle.lexer.proofs.StepLaws.{Skipped, Taken, Unended, open-past}
@@ -8,8 +9,8 @@ use Rattle.lexer.specs.Places.{starts_from, opened_from, first_byte, starts, ope
 use Rattle.lexer.specs.Stored.{Stored, walk_of, walked}
 use Rattle.lexer.specs.Tokens.{tokens_from, tokens, left_open, unclosed}
 use Rattle.lexer.specs.declared.Mode.{Mode}
-use Rattle.lexer.specs.declared.Walk.{Walk}
-use Rattle.lexer.specs.declared.refusal.Refusal.{Refusal}
+use Rattle.lexer.specs.declared.Fault.{Fault}
+use Rattle.lexer.specs.Refusals.{fault}
 use lib.ListN.{length, get_or, take, drop, set, length-set, drop_of_length-le}
 use lib.Seq.{drop-cons, length-take-le, take-suc-set}
 use mathlib.Core.Bool.{true}
@@ -45,8 +46,8 @@ storing-start text work h =
     }
 
 -- What the walk answers, and what that says of work memory.
-abbrev pub Finished : List ℕ → List ℕ → Walk → Type 0
-Finished text work r = (r ≡ walked text) × ((n : ℕ) → r ≡ Walk.Done n → Stored text work n)
+abbrev pub Finished : List ℕ → List ℕ → Result ℕ (Fault ℕ) → Type 0
+Finished text work r = record { answer : r ≡ walked text; stored : (n : ℕ) → r ≡ Ok n → Stored text work n }
 
 module _ (text before work : List ℕ) (i n : ℕ) (s : Storing text before work i n) where
   pub storing-skip : (j : ℕ) → Skipped text i j → Storing text before work j n
@@ -84,7 +85,7 @@ module _ (text before work : List ℕ) (i n : ℕ) (s : Storing text before work
         mark = sym o.1 ∙ s.mark;
       }
 
-  pub storing-end : length text ≤ i → Finished text work (Walk.Done n)
+  pub storing-end : length text ≤ i → Finished text work (Ok n)
   unfolding tokens_from starts_from left_open unclosed walk_of walked
   storing-end h =
       let done = drop_of_length-le text h in
@@ -92,11 +93,11 @@ module _ (text before work : List ℕ) (i n : ℕ) (s : Storing text before work
       let held : take n work ≡ starts text = sym (append-nil (take n work)) ∙ rw done at s.stored in
       let count : n ≡ length (starts text) = sym (length-take-le n work (omega arith)) ∙ ap length held in
       let stored : Stored text work n = record { count = count; held = held } in
-      (rw closed (ap Walk.Done count), λ m h. let e : n ≡ m = cc in subst (λ m. Stored text work m) e stored)
+      record { answer = rw closed (ap Ok count); stored = λ m h. let e : n ≡ m = cc in subst (λ m. Stored text work m) e stored }
 
-  pub storing-open : (r : Refusal) (mark : ℕ) → Unended text i r mark → Finished text work (Walk.Open r mark)
+  pub storing-open : (f : Fault ℕ) → Unended text i f.0 f.1 → Finished text work (Err f)
   unfolding walk_of walked
-  storing-open r mark u =
-      let what : left_open (tokens text) ≡ some r = sym s.left ∙ u.what in
-      let at : opened text ≡ mark = sym s.mark ∙ u.opened s.since in
-      (rw what (ap (Walk.Open r) (sym at)), λ m h. absurd (let z : ◌≡◌ {A = ℕ} 0 1 = cc in omega arith))
+  storing-open f u =
+      let what : left_open (tokens text) ≡ some f.0 = sym s.left ∙ u.what in
+      let at : opened text ≡ f.1 = sym s.mark ∙ u.opened s.since in
+      record { answer = rw what (ap (λ i. Err (fault f.0 i)) (sym at)); stored = λ m h. absurd (let z : ◌≡◌ {A = ℕ} 0 1 = cc in omega arith) }

@@ -1,15 +1,14 @@
 -- A table by its rule. Of a constant one: the list of the rule's values computes to the table's entries, and holds the rule at each index. Of one
 -- that a loop fills: each turn stores the rule's value at the next index. Assumes nothing.
-use Prim.Native.Nat.{ℕ, zero, suc, ◌+◌, ◌-◌, ◌*◌, ◌/◌, ◌%◌, ◌≤◌, ◌<◌}
+use Prim.Native.Nat.{ℕ, zero, suc, ◌+◌, ◌*◌, ◌/◌, ◌%◌, ◌<◌}
 use Rattle.lexer.proofs.Basics.{by-test}
-use Rattle.lexer.specs.PlainWords.{filled}
 use Rattle.lexer.specs.Tables.{tabulated}
 use borrow.Author.Tests.{eqb-true, eqb-false}
 use lib.Dec.{eqb}
 use lib.ListN.{length, get_or, set}
 use lib.Seq.{get_or-set_same, get_or-set_other}
 use mathlib.Core.List.{List, []}
-use mathlib.Core.Path.{◌≡◌, refl, sym, ap, ◌∙◌}
+use mathlib.Core.Path.{◌≡◌, sym, ap, ◌∙◌}
 use native.Mathlib.Nat.{add-zero, zero-add, add-suc, suc-add}
 use native.Mathlib.Omega.{arith}
 
@@ -53,20 +52,3 @@ module _ {X : Type 0} (f : ℕ → X) (d : X) (table : List X) where
     where
       earlier : (k : ℕ) → k < i + 1 → (k ≡ i → ⊥) → get_or (set table i (f i)) k d ≡ f k
       earlier k lt ne = get_or-set_other table i k (f i) d ne ∙ s.entry k (omega (arith, ne))
-
--- A table whose entries from a place on become a number, one after another: those that are left make the whole.
-pub record Filling (value : ℕ) (before : List ℕ) (from end : ℕ) (table : List ℕ) (i : ℕ) : Type 0 where
-  pub rest : filled value i (end - i) table ≡ filled value from (end - from) before
-
-module _ (value : ℕ) (before : List ℕ) (from end : ℕ) where
-  pub filling-start : Filling value before from end before from
-  filling-start = record { rest = refl }
-
-  module _ (table : List ℕ) (i : ℕ) (k : Filling value before from end table i) where
-    pub filling-turn : i < end → Filling value before from end (set table i value) (i + 1)
-    unfolding filled
-    filling-turn h = let one : end - i ≡ suc (end - (i + 1)) = omega arith in record { rest = sym (rw one) ∙ k.rest }
-
-    pub filling-end : end ≤ i → table ≡ filled value from (end - from) before
-    unfolding filled
-    filling-end h = let none : end - i ≡ 0 = omega arith in sym (rw none) ∙ k.rest

@@ -1,8 +1,6 @@
 -- The kind and the text of the token that begins at a byte, by the byte's symbol. Assumes nothing.
 use Prim.Native.Nat.{ℕ, ◌+◌, ◌≤◌, ◌<◌}
 use Rattle.lexer.proofs.ListLaws.{drop-next}
-use Rattle.lexer.specs.contracts.Symbol as tags
-use Rattle.lexer.proofs.SymbolTags.{numbered, tag-symbol}
 use Rattle.lexer.specs.Base.{pick}
 use Rattle.lexer.specs.Bytes.{cursor, front_at, front_of}
 use Rattle.lexer.specs.Classes.{symbol, rank, is_newline, is_single, is_double, is_other}
@@ -12,16 +10,39 @@ use Rattle.lexer.specs.Tokens.{token, kind_of, text_of}
 use Rattle.lexer.specs.declared.Kind.{Kind}
 use Rattle.lexer.specs.declared.Mode.{Mode}
 use Rattle.lexer.specs.declared.Symbol.{Symbol}
-use denote.Enum.Declared.{tag_of}
 use lib.ListN.{length, get_or, drop, drop_of_length-le}
-use mathlib.Core.List.{List, [], ◌∷◌}
-use mathlib.Core.Logic.{inl, inr}
-use mathlib.Core.Path.{◌≡◌, sym, ◌∙◌}
-use types.Run.{OneOf}
+use mathlib.Core.List.{List, []}
+use mathlib.Core.Path.{◌≡◌, refl, sym, ◌∙◌}
 
--- The tags of the symbols at which a punctuation mark begins, if a token does.
+-- A symbol at which a punctuation mark begins, if a token does.
 abbrev Marks : Symbol → Type 0
-Marks s = OneOf (1 ∷ 2 ∷ 5 ∷ 6 ∷ 7 ∷ 9 ∷ []) (tag_of tags.the_type s)
+Marks s = (s ≡ Symbol.Newline → ⊥) × (s ≡ Symbol.Single → ⊥) × (s ≡ Symbol.Double → ⊥) × (s ≡ Symbol.Other → ⊥)
+
+kind-marks : (s : Symbol) (b : ℕ) → Marks s → kind_of s b ≡ Kind.Punctuation b
+unfolding kind_of is_newline is_single is_double is_other rank pick
+kind-marks Symbol.Newline b m = absurd (m.0 refl)
+kind-marks Symbol.Return b m = refl
+kind-marks Symbol.Blank b m = refl
+kind-marks Symbol.Single b m = absurd (m.1 refl)
+kind-marks Symbol.Double b m = absurd (m.2 refl)
+kind-marks Symbol.Open b m = refl
+kind-marks Symbol.Close b m = refl
+kind-marks Symbol.Punctuation b m = refl
+kind-marks Symbol.Other b m = absurd (m.3 refl)
+kind-marks Symbol.Part b m = refl
+
+front-marks : (s : Symbol) (i : ℕ) → Marks s → front_of s i ≡ cursor Mode.Between i
+unfolding front_of is_newline is_single is_double is_other rank pick
+front-marks Symbol.Newline i m = absurd (m.0 refl)
+front-marks Symbol.Return i m = refl
+front-marks Symbol.Blank i m = refl
+front-marks Symbol.Single i m = absurd (m.1 refl)
+front-marks Symbol.Double i m = absurd (m.2 refl)
+front-marks Symbol.Open i m = refl
+front-marks Symbol.Close i m = refl
+front-marks Symbol.Punctuation i m = refl
+front-marks Symbol.Other i m = absurd (m.3 refl)
+front-marks Symbol.Part i m = refl
 
 module _ (text : List ℕ) (i : ℕ) (h : i < length text) (s : Symbol) (is : s ≡ symbol_at text i) where
   pub here : s ≡ symbol (get_or text i 0) (drop (i + 1) text)
@@ -53,13 +74,7 @@ module _ (text : List ℕ) (i : ℕ) (h : i < length text) (s : Symbol) (is : s 
   kind-word e = sym (kind-symbol ∙ rw e)
 
   pub kind-mark : Marks s → Kind.Punctuation (get_or text i 0) ≡ (token_at text i).kind
-  unfolding kind_of is_newline is_single is_double is_other rank pick numbered
-  kind-mark (inl e) = sym (kind-symbol ∙ rw (tag-symbol s 1 e))
-  kind-mark (inr (inl e)) = sym (kind-symbol ∙ rw (tag-symbol s 2 e))
-  kind-mark (inr (inr (inl e))) = sym (kind-symbol ∙ rw (tag-symbol s 5 e))
-  kind-mark (inr (inr (inr (inl e)))) = sym (kind-symbol ∙ rw (tag-symbol s 6 e))
-  kind-mark (inr (inr (inr (inr (inl e))))) = sym (kind-symbol ∙ rw (tag-symbol s 7 e))
-  kind-mark (inr (inr (inr (inr (inr e))))) = sym (kind-symbol ∙ rw (tag-symbol s 9 e))
+  kind-mark m = sym (kind-symbol ∙ kind-marks s (get_or text i 0) m)
 
   -- The cursor at the front of the token's text
   pub front-symbol : front_at text i ≡ front_of s i
@@ -83,13 +98,7 @@ module _ (text : List ℕ) (i : ℕ) (h : i < length text) (s : Symbol) (is : s 
   front-word e = sym (front-symbol ∙ rw e)
 
   pub front-mark : Marks s → cursor Mode.Between i ≡ front_at text i
-  unfolding front_of is_newline is_single is_double is_other rank pick numbered
-  front-mark (inl e) = sym (front-symbol ∙ rw (tag-symbol s 1 e))
-  front-mark (inr (inl e)) = sym (front-symbol ∙ rw (tag-symbol s 2 e))
-  front-mark (inr (inr (inl e))) = sym (front-symbol ∙ rw (tag-symbol s 5 e))
-  front-mark (inr (inr (inr (inl e)))) = sym (front-symbol ∙ rw (tag-symbol s 6 e))
-  front-mark (inr (inr (inr (inr (inl e))))) = sym (front-symbol ∙ rw (tag-symbol s 7 e))
-  front-mark (inr (inr (inr (inr (inr e))))) = sym (front-symbol ∙ rw (tag-symbol s 9 e))
+  front-mark m = sym (front-symbol ∙ front-marks s i m)
 
 -- Past the end of the text there is a word without bytes.
 module _ (text : List ℕ) (i : ℕ) (past : length text ≤ i) where

@@ -1,4 +1,5 @@
 -- Blocks of a word: a plain byte goes on with the word, and so behind blocks of them the word ends as from their first. Assumes nothing.
+use Rattle.std.specs.Prelude.{Ok, Result}
 use Prim.Native.Nat.{ℕ, ◌+◌, ◌≤◌, ◌<◌}
 use Rattle.lexer.proofs.ByteBlocks.{all-eight, blocks-ahead, blocks-alike}
 use Rattle.lexer.proofs.ClassLaws.{plain-symbol}
@@ -7,8 +8,8 @@ use Rattle.lexer.proofs.WordEnds.{Wording, resumed, word-goes-on}
 use Rattle.lexer.specs.ByteBlocks.{is_plain, all_first, blocks_end}
 use Rattle.lexer.specs.Classes.{rank, is_open, is_other, is_part}
 use Rattle.lexer.specs.Scanning.{word_end, goes_on}
-use Rattle.lexer.specs.declared.Scan.{Scan}
 use Rattle.lexer.specs.declared.Symbol.{Symbol}
+use Rattle.lexer.specs.declared.Fault.{Fault}
 use lib.ListN.{length, get_or, drop}
 use mathlib.Core.Bool.{Bool, true, ◌&&◌}
 use mathlib.Core.List.{List}
@@ -21,7 +22,7 @@ other-continues = record { closed = refl; on = refl }
 
 module _ (text : List ℕ) where
   -- where the word ends that goes on at an index
-  abbrev end_from : ℕ → Scan
+  abbrev end_from : ℕ → Result ℕ (Fault ℕ)
   end_from i = word_end 0 0 i (drop i text)
 
   -- from a plain byte and from the one behind it the word ends alike
@@ -49,7 +50,7 @@ module _ (text : List ℕ) (i j : ℕ) (h : i ≤ length text) (e : j ≡ blocks
       let same = blocks-alike is_plain text (λ i. word_end 0 0 i (drop i text)) (word_next text) 8 i h in
       record { ahead = omega (arith, plain-ahead, k.ahead); within = rw e within; rest = rw e (same ∙ k.rest) }
 
-pub wording-skips : (text : List ℕ) (from i j : ℕ) (s : Scan) → Wording text from i → (i < j) × (j ≤ length text)
-    → word_end 0 0 i (drop i text) ≡ resumed text s → s ≡ Scan.At j → Wording text from j
+pub wording-skips : (text : List ℕ) (from i j : ℕ) (s : Result ℕ (Fault ℕ)) → Wording text from i → (i < j) × (j ≤ length text)
+    → word_end 0 0 i (drop i text) ≡ resumed text s → s ≡ Ok j → Wording text from j
 wording-skips text from i j s k ahead same at =
     record { ahead = omega (arith, k.ahead, ahead); within = ahead.1; rest = sym (same ∙ ap (resumed text) at) ∙ k.rest }

@@ -1,4 +1,5 @@
 -- Words that are told by their bytes at once, and bytes that are a token by themselves: what the definitions make of them. Assumes nothing.
+use Rattle.std.specs.Prelude.{Ok}
 use Prim.Native.Nat.{ℕ, zero, suc, ◌+◌, ◌-◌, ◌≤◌, ◌<◌}
 use Rattle.lexer.proofs.Basics.{agree, agree-true, all_under, and-false, and_left, and_right, by-test, implied, not-both, or-second, under_at}
 use Rattle.lexer.proofs.ClassLaws.{plain-is-other}
@@ -11,12 +12,11 @@ use Rattle.lexer.specs.ByteBlocks.{is_plain, plain_end}
 use Rattle.lexer.specs.Classes.{class, next1, symbol, symbol_of, marks, rank, is_newline, is_return, is_blank, is_single, is_double, is_open, is_other, is_part, is_space, blank}
 use Rattle.lexer.specs.Lexing.{first_token, token_at, word_at}
 use Rattle.lexer.specs.PlainWords.{PlainWord, is_alone, is_ends, told_end, word_byte, word_bytes, word_stop, word_token}
-use Rattle.lexer.specs.Scanning.{goes_on, step_of, token_step, word_end, worded}
+use Rattle.lexer.specs.Scanning.{goes_on, step_of, token_step, word_end, taken}
 use Rattle.lexer.specs.Tokens.{token, kind_of, text_of, tail, next, text_step}
 use Rattle.lexer.specs.Words.{label, is_word, is_quoted}
 use Rattle.lexer.specs.declared.Class.{Class}
 use Rattle.lexer.specs.declared.Mode.{Mode}
-use Rattle.lexer.specs.declared.Scan.{Scan}
 use Rattle.lexer.specs.declared.Step.{Step}
 use borrow.Author.Tests.{eqb-true, eqb-false, le-ltb, lt-ltb, ltb-true, ltb-false, ne_eqb}
 use lib.Dec.{eqb, leb, ltb}
@@ -106,17 +106,17 @@ alone-mark b t f =
     let both : mark-class (class b) && not (eqb b 93) ≡ true = rw (t, f) at all in
     (mark-known (class b) (and_left (mark-class (class b)) (not (eqb b 93)) both), not-false (eqb b 93) (and_right (mark-class (class b)) (not (eqb b 93)) both))
 
-alone-first : (b : ℕ) (r : List ℕ) (i : ℕ) → is_alone b ≡ true → token_step i (b ∷ r) ≡ Step.Token (suc i)
+alone-first : (b : ℕ) (r : List ℕ) (i : ℕ) → is_alone b ≡ true → token_step i (b ∷ r) ≡ Ok (Step.Token (suc i))
 unfolding token_step symbol class symbol_of step_of pick
 alone-first b r i t = by-test (eqb b 10) (λ e. line (eqb-true b 10 e)) (λ f. let m = alone-mark b t f in rw (m.0, m.1) refl)
   where
-    line : b ≡ 10 → step_of (symbol b r) i r ≡ Step.Token (suc i)
+    line : b ≡ 10 → step_of (symbol b r) i r ≡ Ok (Step.Token (suc i))
     line e = rw e refl
 
-alone-step : (text : List ℕ) (i : ℕ) → i < length text → is_alone (get_or text i 0) ≡ true → token_step i (drop i text) ≡ Step.Token (i + 1)
-alone-step text i h t = rw (drop-next text i h) (alone-first (get_or text i 0) (drop (i + 1) text) i t ∙ ap Step.Token (sym (add-one i)))
+alone-step : (text : List ℕ) (i : ℕ) → i < length text → is_alone (get_or text i 0) ≡ true → token_step i (drop i text) ≡ Ok (Step.Token (i + 1))
+alone-step text i h t = rw (drop-next text i h) (alone-first (get_or text i 0) (drop (i + 1) text) i t ∙ ap (λ n. Ok (Step.Token n)) (sym (add-one i)))
 
-pub blank_step : (text : List ℕ) (i : ℕ) → i < length text → get_or text i 0 ≡ 32 → token_step i (drop i text) ≡ Step.Skip (i + 1)
+pub blank_step : (text : List ℕ) (i : ℕ) → i < length text → get_or text i 0 ≡ 32 → token_step i (drop i text) ≡ Ok (Step.Skip (i + 1))
 unfolding token_step symbol class symbol_of step_of pick
 blank_step text i h e = rw (drop-next text i h, e, add-one i) refl
 
@@ -135,12 +135,12 @@ module _ (b : ℕ) (r : List ℕ) where
       go Class.Other h = absurd (false≢true h)
       go Class.Part h = absurd (false≢true h)
 
-  word-end-here : (i : ℕ) → is_ends b ≡ true → word_end 0 0 i (b ∷ r) ≡ Scan.At i
+  word-end-here : (i : ℕ) → is_ends b ≡ true → word_end 0 0 i (b ∷ r) ≡ Ok i
   unfolding word_end symbol ending-class symbol_of goes_on is_open is_other is_part rank pick
   word-end-here i t = go (class b) (end-class b t)
     where
       go : (k : Class) → ending-class k ≡ true
-          → pick (is_open (symbol_of k b r)) (word_end 1 i (suc i) r) (pick (goes_on (symbol_of k b r)) (word_end 0 0 (suc i) r) (Scan.At i)) ≡ Scan.At i
+          → pick (is_open (symbol_of k b r)) (word_end 1 i (suc i) r) (pick (goes_on (symbol_of k b r)) (word_end 0 0 (suc i) r) (Ok i)) ≡ Ok i
       go Class.Newline h = by-test (eqb b 13 && next1 10 r) (λ t. rw t refl) (λ f. rw f refl)
       go Class.Blank h = refl
       go Class.Quote h = absurd (false≢true h)
@@ -158,7 +158,7 @@ module _ (b : ℕ) (r : List ℕ) where
   unfolding token symbol symbol_of kind_of text_of is_newline is_single is_double is_other rank pick
   token-plain t = rw (plain-is-other b t)
 
-  step-plain : (i : ℕ) → is_plain b ≡ true → token_step i (b ∷ r) ≡ worded (word_end 0 0 (suc i) r)
+  step-plain : (i : ℕ) → is_plain b ≡ true → token_step i (b ∷ r) ≡ taken (word_end 0 0 (suc i) r)
   unfolding token_step symbol symbol_of step_of
   step-plain i t = rw (plain-is-other b t)
 
@@ -169,10 +169,10 @@ module _ where
   run-tail zero (b ∷ r) h each t = tail-ends b r t
   run-tail (suc n) (b ∷ r) h each t = plain-tail b r (each 0 (omega arith)) ∙ ap (λ l. b ∷ l) (run-tail n r (omega arith) (λ k l. each (suc k) (omega arith)) t)
 
-  run-end : (n : ℕ) (l : List ℕ) (i : ℕ) → n < length l → ((k : ℕ) → k < n → is_plain (get_or l k 0) ≡ true) → is_ends (get_or l n 0) ≡ true → word_end 0 0 i l ≡ Scan.At (i + n)
+  run-end : (n : ℕ) (l : List ℕ) (i : ℕ) → n < length l → ((k : ℕ) → k < n → is_plain (get_or l k 0) ≡ true) → is_ends (get_or l n 0) ≡ true → word_end 0 0 i l ≡ Ok (i + n)
   run-end n [] i h each t = absurd (omega arith)
-  run-end zero (b ∷ r) i h each t = word-end-here b r i t ∙ ap Scan.At (omega arith)
-  run-end (suc n) (b ∷ r) i h each t = word-end-on b r i (each 0 (omega arith)) ∙ run-end n r (suc i) (omega arith) (λ k l. each (suc k) (omega arith)) t ∙ ap Scan.At (omega arith)
+  run-end zero (b ∷ r) i h each t = word-end-here b r i t ∙ ap Ok (omega arith)
+  run-end (suc n) (b ∷ r) i h each t = word-end-on b r i (each 0 (omega arith)) ∙ run-end n r (suc i) (omega arith) (λ k l. each (suc k) (omega arith)) t ∙ ap Ok (omega arith)
 
   run-token : (n : ℕ) (l : List ℕ) → 0 < n → n < length l → ((k : ℕ) → k < n → is_plain (get_or l k 0) ≡ true) → is_ends (get_or l n 0) ≡ true → first_token l ≡ word_token (take n l)
   unfolding first_token
@@ -181,12 +181,12 @@ module _ where
   run-token (suc n) (b ∷ r) some h each t =
       token-plain b r (each 0 (omega arith)) ∙ ap (λ l. word_token (b ∷ l)) (run-tail n r (omega arith) (λ k l. each (suc k) (omega arith)) t)
 
-  run_step : (n : ℕ) (l : List ℕ) (i : ℕ) → 0 < n → n < length l → ((k : ℕ) → k < n → is_plain (get_or l k 0) ≡ true) → is_ends (get_or l n 0) ≡ true → token_step i l ≡ Step.Token (i + n)
-  unfolding worded
+  run_step : (n : ℕ) (l : List ℕ) (i : ℕ) → 0 < n → n < length l → ((k : ℕ) → k < n → is_plain (get_or l k 0) ≡ true) → is_ends (get_or l n 0) ≡ true → token_step i l ≡ Ok (Step.Token (i + n))
+  unfolding taken
   run_step zero l i some h each t = absurd (omega arith)
   run_step (suc n) [] i some h each t = absurd (omega arith)
   run_step (suc n) (b ∷ r) i some h each t =
-      step-plain b r i (each 0 (omega arith)) ∙ rw (run-end n r (suc i) (omega arith) (λ k l. each (suc k) (omega arith)) t) (ap Step.Token (omega arith))
+      step-plain b r i (each 0 (omega arith)) ∙ rw (run-end n r (suc i) (omega arith) (λ k l. each (suc k) (omega arith)) t) (ap (λ n. Ok (Step.Token n)) (omega arith))
 
 pub word-told : (text : List ℕ) (start end : ℕ) → start < end → end < length text → ((k : ℕ) → k < end - start → is_plain (get_or text (start + k) 0) ≡ true)
     → is_ends (get_or text end 0) ≡ true → PlainWord text start end
@@ -200,7 +200,7 @@ word-told text start end some within each ends =
       within = omega arith;
       told = run-token (end - start) (drop start text) (omega arith) long plain last;
       each = each;
-      stepped = run_step (end - start) (drop start text) start (omega arith) long plain last ∙ ap Step.Token there;
+      stepped = run_step (end - start) (drop start text) start (omega arith) long plain last ∙ ap (λ n. Ok (Step.Token n)) there;
     }
 
 -- Where the code tells that a word ends, one does: there the plain bytes from a place on end.
@@ -242,9 +242,9 @@ module _ (text : List ℕ) (i : ℕ) where
   unfolding told_end pick
   told-word f = rw f refl
 
-  pub told-step : (end : ℕ) → end ≡ told_end text i → i < length text → i < end → token_step i (drop i text) ≡ Step.Token end
+  pub told-step : (end : ℕ) → end ≡ told_end text i → i < length text → i < end → token_step i (drop i text) ≡ Ok (Step.Token end)
   told-step end e h some =
-      by-test (is_alone (get_or text i 0)) (λ t. alone-step text i h t ∙ ap Step.Token (told-alone t ∙ sym e)) (λ f. (stop-told text i end (e ∙ sym (told-word f)) some).stepped)
+      by-test (is_alone (get_or text i 0)) (λ t. alone-step text i h t ∙ ap (λ n. Ok (Step.Token n)) (told-alone t ∙ sym e)) (λ f. (stop-told text i end (e ∙ sym (told-word f)) some).stepped)
 
 -- The table of how bytes stand to a word: what its entries say, by a computed test of all of them.
 standing : ℕ → Bool

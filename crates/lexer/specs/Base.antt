@@ -3,6 +3,8 @@ use Prim.Native.Char.{code}
 use Rattle.std.specs.Prelude.{ℕ, ◌+◌, leb, eqb, Bool, true, false, ◌&&◌, ◌||◌, List, [], ◌∷◌}
 use Prim.Native.String as Str
 use Rattle.std.proofs.Math.Option.{Option, none, some}
+use Rattle.std.specs.Prelude.{Some, None}
+use Rattle.std.specs.Prelude.{Option as Answer}
 
 module _ {X : Type 0} where
   -- the first where the test holds, else the second
@@ -15,7 +17,12 @@ module _ {X : Type 0} where
   given none = false
   given (some x) = true
 
-  -- is the list is_empty
+  -- what the code answers, if anything
+  unfoldable pub option_of : Answer X → Option X
+  option_of None = none
+  option_of (Some x) = some x
+
+  -- is the list empty?
   unfoldable pub is_empty : List X → Bool
   is_empty [] = true
   is_empty (x ∷ xs) = false

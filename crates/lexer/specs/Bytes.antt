@@ -1,12 +1,11 @@
 -- The bytes of a token's text, one after the other, as they stand in the text.
-use Rattle.std.specs.Prelude.{ℕ, zero, suc, ◌+◌, eqb, drop, List, [], ◌∷◌}
+use Rattle.std.specs.Prelude.{ℕ, zero, suc, ◌+◌, eqb, drop, List, [], ◌∷◌, Some, None, Option}
 use Rattle.lexer.specs.Base.{pick, byte}
 use Rattle.lexer.specs.ByteBlocks.{plain_end}
 use Rattle.lexer.specs.Classes.{symbol, next1, is_newline, is_single, is_double, is_open, is_other}
 use Rattle.lexer.specs.Scanning.{symbol_at, goes_on}
 use Rattle.lexer.specs.Tokens.{tail}
 use Rattle.lexer.specs.declared.Cursor.{Cursor}
-use Rattle.lexer.specs.declared.Item.{Item}
 use Rattle.lexer.specs.declared.Mode.{Mode}
 use Rattle.lexer.specs.declared.Symbol.{Symbol}
 
@@ -28,13 +27,13 @@ unfoldable pub front_at : List ℕ → ℕ → Cursor
 front_at text start = front_of (symbol_at text start) start
 
 -- The next byte of a word and the cursor behind it: comments are passed over, of which so many are open. `i` is where the rest stands.
-unfoldable pub word_item : ℕ → ℕ → List ℕ → Item
-word_item d i [] = Item.End
+unfoldable pub word_item : ℕ → ℕ → List ℕ → Option (ℕ × Cursor)
+word_item d i [] = None
 word_item zero i (b ∷ r) =
     let s = symbol b r in
     let comment = word_item 1 (suc i) r in
-    let this = Item.Byte b (cursor Mode.Word (suc i)) in
-    pick (is_open s) comment (pick (goes_on s) this Item.End)
+    let this = Some (b, (cursor Mode.Word (suc i))) in
+    pick (is_open s) comment (pick (goes_on s) this None)
 word_item (suc d) i (b ∷ r) =
     let deeper = word_item (suc (suc d)) (suc i) r in
     let same = word_item (suc d) (suc i) r in
@@ -42,42 +41,42 @@ word_item (suc d) i (b ∷ r) =
     pick (eqb b (byte "[")) deeper (pick (eqb b (byte "]")) outer same)
 
 -- A byte of quoted text: every newline is LF, and a CR LF is one.
-unfoldable pub text_item : Mode → ℕ → List ℕ → Item
-text_item m i [] = Item.End
+unfoldable pub text_item : Mode → ℕ → List ℕ → Option (ℕ × Cursor)
+text_item m i [] = None
 text_item m i (b ∷ r) =
     let behind = pick (next1 (byte "\n") r) (i + 2) (i + 1) in
-    pick (eqb b (byte "\r")) (Item.Byte (byte "\n") (cursor m behind)) (Item.Byte b (cursor m (i + 1)))
+    pick (eqb b (byte "\r")) (Some ((byte "\n"), (cursor m behind))) (Some (b, (cursor m (i + 1))))
 
 -- Of single-quoted text: two quotes are one, and one is the end.
-unfoldable pub quoted_item : ℕ → List ℕ → Item
-quoted_item i [] = Item.End
+unfoldable pub quoted_item : ℕ → List ℕ → Option (ℕ × Cursor)
+quoted_item i [] = None
 quoted_item i (b ∷ r) =
-    let quote = Item.Byte (byte "'") (cursor Mode.Quoted (i + 2)) in
+    let quote = Some ((byte "'"), (cursor Mode.Quoted (i + 2))) in
     let this = text_item Mode.Quoted i (b ∷ r) in
-    pick (eqb b (byte "'")) (pick (next1 (byte "'") r) quote Item.End) this
+    pick (eqb b (byte "'")) (pick (next1 (byte "'") r) quote None) this
 
 -- Of double-quoted text.
-unfoldable pub string_item : ℕ → List ℕ → Item
-string_item i [] = Item.End
-string_item i (b ∷ r) = let this = text_item Mode.String i (b ∷ r) in pick (eqb b (byte "\"")) Item.End this
+unfoldable pub string_item : ℕ → List ℕ → Option (ℕ × Cursor)
+string_item i [] = None
+string_item i (b ∷ r) = let this = text_item Mode.String i (b ∷ r) in pick (eqb b (byte "\"")) None this
 
 -- A mark is one byte.
-unfoldable pub mark_item : ℕ → List ℕ → Item
-mark_item i [] = Item.End
-mark_item i (b ∷ r) = Item.Byte b (cursor (Mode.Comment 0) (i + 1))
+unfoldable pub mark_item : ℕ → List ℕ → Option (ℕ × Cursor)
+mark_item i [] = None
+mark_item i (b ∷ r) = Some (b, (cursor (Mode.Comment 0) (i + 1)))
 
 -- The next byte in the mode of a token's kind. The modes inside a quoted text's end and a word's comment are no cursor's.
-unfoldable pub item_of : Mode → ℕ → List ℕ → Item
+unfoldable pub item_of : Mode → ℕ → List ℕ → Option (ℕ × Cursor)
 item_of Mode.Between i r = mark_item i r
 item_of Mode.Word i r = word_item 0 i r
 item_of Mode.Quoted i r = quoted_item i r
-item_of Mode.Closing i r = Item.End
+item_of Mode.Closing i r = None
 item_of Mode.String i r = string_item i r
-item_of (Mode.Comment d) i r = Item.End
-item_of (Mode.WordComment d) i r = Item.End
+item_of (Mode.Comment d) i r = None
+item_of (Mode.WordComment d) i r = None
 
 -- The next byte behind a cursor.
-unfoldable pub next_item : List ℕ → Cursor → Item
+unfoldable pub next_item : List ℕ → Cursor → Option (ℕ × Cursor)
 next_item text c = item_of c.mode c.at (drop c.at text)
 
 -- The cursor behind the plain bytes from a place on, in the mode of a token's kind: only a word is passed over so.

@@ -1,5 +1,5 @@
 -- Words that are told by their bytes at once: plain bytes, and behind them one that ends a word whatever comes next.
-use Rattle.std.specs.Prelude.{ℕ, zero, suc, ◌+◌, ◌-◌, ◌≤◌, ◌<◌, eqb, ltb, length, get_or, set, take, drop, Bool, true, ◌&&◌, ◌||◌, List, ◌≡◌}
+use Rattle.std.specs.Prelude.{ℕ, ◌+◌, ◌-◌, ◌≤◌, ◌<◌, eqb, ltb, length, get_or, take, drop, Bool, true, ◌&&◌, ◌||◌, List, ◌≡◌, Ok}
 use Rattle.lexer.specs.Base.{pick, byte}
 use Rattle.lexer.specs.ByteBlocks.{is_plain, plain_end}
 use Rattle.lexer.specs.Lexing.{token_at}
@@ -15,18 +15,13 @@ is_alone b =
     let bracket = eqb b (byte "(") || eqb b (byte ")") || eqb b (byte "{") || eqb b (byte "}") in
     eqb b (byte "\n") || eqb b (byte ",") || eqb b (byte ";") || eqb b (byte "=") || bracket
 
--- Is it one of those that end most words: one of these, CR or a is_blank
+-- Is it one of those that end most words: one of these, CR or a blank?
 unfoldable pub is_ends : ℕ → Bool
 is_ends b = eqb b (byte " ") || eqb b (byte "\r") || is_alone b
 
 -- How a byte stands to a word: 1 goes on with it, 2 ends it, 3 ends it and is a token by itself, and at any other byte one must look at more.
 unfoldable pub word_byte : ℕ → ℕ
 word_byte b = pick (is_plain b) 1 (pick (is_alone b) 3 (pick (is_ends b) 2 0))
-
--- So many entries of a table from a place on become a number.
-unfoldable pub filled : ℕ → ℕ → ℕ → List ℕ → List ℕ
-filled value i zero table = table
-filled value i (suc n) table = filled value (i + 1) n (set table i value)
 
 -- How each byte stands to a word.
 abbrev pub word_bytes : List ℕ
@@ -55,4 +50,4 @@ pub record PlainWord (text : List ℕ) (start end : ℕ) : Type 0 where
   pub within : end ≤ length text
   pub told : token_at text start ≡ word_token (part text start end)
   pub each : (k : ℕ) → k < end - start → is_plain (get_or text (start + k) 0) ≡ true
-  pub stepped : token_step start (drop start text) ≡ Step.Token end
+  pub stepped : token_step start (drop start text) ≡ Ok (Step.Token end)

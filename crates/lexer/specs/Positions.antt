@@ -1,19 +1,18 @@
 -- Positions in a text, each a byte with its line and column; and a lexer, which keeps the text beside its position.
-use Rattle.std.specs.Prelude.{ℕ, ◌+◌, ◌-◌, ◌≤◌, ltb, length, drop, List}
+use Rattle.std.specs.Prelude.{ℕ, ◌+◌, ◌-◌, ◌≤◌, ltb, length, drop, List, Some, None, Ok, Err, Option, Result}
 use Rattle.std.specs.Borrow.{Bor}
 use Rattle.lexer.specs.Base.{pick}
 use Rattle.lexer.specs.Places.{move, place_from}
 use Rattle.lexer.specs.Scanning.{symbol_at, comment_end}
+use Rattle.lexer.specs.declared.Fault.{Fault}
 use Rattle.lexer.specs.declared.Place.{Place}
-use Rattle.lexer.specs.declared.Scan.{Scan}
-use Rattle.lexer.specs.declared.lexer_of.Ahead.{Ahead}
 use Rattle.lexer.specs.declared.lexer_of.Lexer.{Lexer}
-use Rattle.lexer.specs.declared.lexer_of.Passed.{Passed}
 use Rattle.lexer.specs.declared.lexer_of.Position.{Position}
+use Rattle.lexer.specs.declared.Symbol.{Symbol}
 
 -- What stands at a byte: its symbol, or the end behind the last byte.
-unfoldable pub ahead : List ℕ → ℕ → Ahead
-ahead text at = pick (ltb at (length text)) (Ahead.Symbol (symbol_at text at)) Ahead.End
+unfoldable pub ahead : List ℕ → ℕ → Option Symbol
+ahead text at = pick (ltb at (length text)) (Some (symbol_at text at)) None
 
 -- The position of a byte with this place.
 abbrev pub position : ℕ → Place → Position
@@ -31,11 +30,11 @@ moved_to text at line column to = position to (place_from (record { line = line;
 
 -- What is passed over with a comment whose mark is at `at`, which stands at this line and column: to where it has ended; or the place of its
 -- mark, if it does not end.
-unfoldable pub passed : List ℕ → ℕ → ℕ → ℕ → Scan → Passed
-passed text at line column (Scan.At to) = Passed.Behind (moved_to text at line column to)
-passed text at line column (Scan.Open mark) = Passed.Open (record { line = line; column = column })
+unfoldable pub passed : List ℕ → ℕ → ℕ → ℕ → Result ℕ (Fault ℕ) → Result Position Place
+passed text at line column (Ok to) = Ok (moved_to text at line column to)
+passed text at line column (Err f) = Err (record { line = line; column = column })
 
-unfoldable pub passed_comment : List ℕ → ℕ → ℕ → ℕ → Passed
+unfoldable pub passed_comment : List ℕ → ℕ → ℕ → ℕ → Result Position Place
 passed_comment text at line column = passed text at line column (comment_end at 0 (at + 1) (drop (at + 1) text))
 
 -- A text of at most 1,048,576 bytes, and a line and a column that are no larger: they stay small wherever one goes in the text.

@@ -1,5 +1,6 @@
--- Document 01's number for each refusal.
+-- Document 01's number for each refusal, and a refusal with where it is met.
 use Rattle.std.specs.Prelude.{ℕ}
+use Rattle.lexer.specs.declared.Fault.{Fault}
 use Rattle.lexer.specs.declared.refusal.Refusal.{Refusal}
 
 abbrev pub number : Refusal → ℕ
@@ -36,3 +37,7 @@ number Refusal.BufferShort = 30
 number Refusal.NotRecord = 31
 number Refusal.FormTooLong = 32
 number Refusal.NoSuchName = 33
+
+-- A refusal, and the token, the byte or the place at which it is met.
+abbrev pub fault : {P : Type 0} → Refusal → P → Fault P
+fault n p = record { 0 = n; 1 = p }

@@ -3,7 +3,7 @@
 ghost use Rattle.std.specs.Prelude.{◌<◌, ◌≤◌, ◌+◌, ◌-◌, length, get_or, drop, [], ◌∷◌, ◌≡◌};
 ghost use Rattle.lexer.specs.ByteBlocks.{is_plain};
 ghost use Rattle.lexer.specs.Classes.{class, symbol_of, wide_blank};
-ghost use Rattle.lexer.specs.PlainWords.{filled, word_bytes};
+ghost use Rattle.lexer.specs.PlainWords.{word_bytes};
 ghost use Rattle.lexer.specs.Scanning.{symbol_at};
 ghost use Rattle.lexer.specs.declared.Class.{Class};
 
@@ -49,39 +49,30 @@ const CLASSES: [[Class; 16]; 16] = [
     [Class::Part; 16],
 ];
 
-// The entries of a table from a place up to an end become a number.
-fn fill(table: &mut [u8; 256], from: usize, end: usize, value: u8)
-    requires { end ≤ 256 }
-    ensures { table.new ≡ filled value from (end - from) table.old }
-{
-    let mut i = from;
-    while i < end {
-        table[i] = value;
-        i += 1;
-    }
-}
-
 // How each byte stands to a word: 1 goes on with it (letters, digits, `-`, `.`, `?` and `_`), 2 ends it whatever comes next (CR and a blank), 3 ends it and
 // is a token by itself, whatever comes next (LF, brackets of sets, `,`, `;` and `=`), 0 is for all others.
 pub fn word_bytes() -> [u8; 256]
     ensures { result ≡ word_bytes }
 {
+    // Numbers and no enum: the contract of `word_bytes` promises them, and matrix and reading take the table by its type.
     let mut table = [0u8; 256];
-    fill(&mut table, 97, 123, 1);
-    fill(&mut table, 65, 91, 1);
-    fill(&mut table, 48, 58, 1);
-    fill(&mut table, 45, 47, 1);
-    table[63] = 1;
-    table[95] = 1;
-    table[13] = 2;
-    table[32] = 2;
-    table[10] = 3;
-    fill(&mut table, 40, 42, 3);
-    table[44] = 3;
-    table[59] = 3;
-    table[61] = 3;
-    table[123] = 3;
-    table[125] = 3;
+    table[b'a' as usize..=b'z' as usize].fill(1);
+    table[b'A' as usize..=b'Z' as usize].fill(1);
+    table[b'0' as usize..=b'9' as usize].fill(1);
+    table[b'-' as usize] = 1;
+    table[b'.' as usize] = 1;
+    table[b'?' as usize] = 1;
+    table[b'_' as usize] = 1;
+    table[b'\r' as usize] = 2;
+    table[b' ' as usize] = 2;
+    table[b'\n' as usize] = 3;
+    table[b'(' as usize] = 3;
+    table[b')' as usize] = 3;
+    table[b'{' as usize] = 3;
+    table[b'}' as usize] = 3;
+    table[b',' as usize] = 3;
+    table[b';' as usize] = 3;
+    table[b'=' as usize] = 3;
     table
 }
 
@@ -96,10 +87,11 @@ pub fn entry_of(table: &[u8; 256], b: u8) -> u8
 pub fn plain(b: u8) -> bool
     ensures { result ≡ is_plain b }
 {
-    let small = (97 <= b) & (b <= 122);
-    let capital = (65 <= b) & (b <= 90);
-    let numeric = (45 <= b) & (b <= 57) & (b != 47);
-    numeric | small | capital | (b == 63) | (b == 95)
+    // without branches, since it is asked of eight bytes at a time
+    let small = (b'a' <= b) & (b <= b'z');
+    let capital = (b'A' <= b) & (b <= b'Z');
+    let numeric = (b'-' <= b) & (b <= b'9') & (b != b'/');
+    numeric | small | capital | (b == b'?') | (b == b'_')
 }
 
 // The class of a byte by the chart.
@@ -121,10 +113,10 @@ pub fn class_of(b: u8) -> Class
         return Class::Part;
     }
     match b {
-        10 => Class::Newline,
-        32 => Class::Blank,
-        34 | 39 => Class::Quote,
-        91 => Class::Comment,
+        b'\n' => Class::Newline,
+        b' ' => Class::Blank,
+        b'"' | b'\'' => Class::Quote,
+        b'[' => Class::Comment,
         _ => charted(b),
     }
 }
@@ -134,13 +126,8 @@ fn newline_symbol(text: &[u8], i: usize) -> Symbol
     requires { i < length text.now }
     ensures { result ≡ symbol_of Class.Newline (get_or text.now i 0) (drop (i + 1) text.now) }
 {
-    if text[i] == 13 {
-        let next = i + 1;
-        if next < text.len() {
-            if text[next] == 10 {
-                return Symbol::Return;
-            }
-        }
+    if text[i] == b'\r' && byte_or_zero(text, i + 1) == b'\n' {
+        return Symbol::Return;
     }
     Symbol::Newline
 }
@@ -198,13 +185,13 @@ fn classed_symbol(text: &[u8], i: usize) -> Symbol
     match class_of(b) {
         Class::Newline => newline_symbol(text, i),
         Class::Blank => Symbol::Blank,
-        Class::Quote => if b == 39 {
+        Class::Quote => if b == b'\'' {
             Symbol::Single
         } else {
             Symbol::Double
         },
         Class::Comment => Symbol::Open,
-        Class::Punctuation => if b == 93 {
+        Class::Punctuation => if b == b']' {
             Symbol::Close
         } else {
             Symbol::Punctuation
@@ -224,14 +211,15 @@ pub fn symbol_at(text: &[u8], i: usize) -> Symbol
         return Symbol::Other;
     }
     match b {
-        10 => Symbol::Newline,
-        9 | 32 => Symbol::Blank,
-        34 => Symbol::Double,
-        39 => Symbol::Single,
-        91 => Symbol::Open,
-        93 => Symbol::Close,
-        40 | 42 | 44 | 47 | 58 | 61 | 92 | 123 | 125 => Symbol::Punctuation,
-        41 | 59 => Symbol::Punctuation,
+        b'\n' => Symbol::Newline,
+        b'\t' | b' ' => Symbol::Blank,
+        b'"' => Symbol::Double,
+        b'\'' => Symbol::Single,
+        b'[' => Symbol::Open,
+        b']' => Symbol::Close,
+        b'(' | b'*' | b',' | b'/' | b':' | b'=' | b'\\' | b'{' | b'}' => Symbol::Punctuation,
+        // An arm of their own: merged with the above, bytes in a row become ranges, whose goals have no names.
+        b')' | b';' => Symbol::Punctuation,
         _ => classed_symbol(text, i),
     }
 }

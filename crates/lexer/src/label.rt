@@ -11,13 +11,13 @@ ghost use Rattle.lexer.specs.Words.{is, punct, is_line_end, label, spaced, digit
 use super::classes::{byte_or_zero, class_of, plain, wide_bytes};
 use super::scanning::word_stop;
 use super::token::{kind_at, next_byte, text_start};
-use super::{Class, Cursor, Item, Kind};
+use super::{Class, Cursor, Kind};
 
 // An ASCII capital as its small letter; any other byte is itself.
 pub fn lower(b: u8) -> u8
     ensures { result ≡ lower b }
 {
-    if (65 <= b) & (b <= 90) {
+    if (b'A' <= b) & (b <= b'Z') {
         return b + 32;
     }
     b
@@ -27,10 +27,7 @@ pub fn lower(b: u8) -> u8
 fn ended(text: &[u8], c: Cursor) -> bool
     ensures { result ≡ is_empty (left text.now c) }
 {
-    match next_byte(text, c) {
-        Item::Byte(_, _) => false,
-        Item::End => true,
-    }
+    next_byte(text, c).is_none()
 }
 
 // Is what is left of the text this keyword, ASCII case ignored?
@@ -38,21 +35,14 @@ fn text_is(text: &[u8], c: Cursor, keyword: &[u8]) -> bool
     ensures { result ≡ alike keyword.now (left text.now c) }
 {
     let mut d = c;
-    let mut i = 0;
-    while i < keyword.len() {
-        match next_byte(text, d) {
-            Item::Byte(b, e) => {
-                let k = keyword[i];
-                if lower(k) != lower(b) {
-                    return false;
-                }
-                d = e;
-                i += 1;
-            }
-            Item::End => {
-                return false;
-            }
+    for &k in keyword {
+        let Some((b, e)) = next_byte(text, d) else {
+            return false;
+        };
+        if lower(k) != lower(b) {
+            return false;
         }
+        d = e;
     }
     ended(text, d)
 }
@@ -64,10 +54,7 @@ pub fn is_at(text: &[u8], start: usize, keyword: &[u8]) -> bool
     if lower(byte_or_zero(keyword, 0)) != lower(byte_or_zero(text, start)) {
         return false;
     }
-    match kind_at(text, start) {
-        Kind::Word => text_is(text, text_start(text, start), keyword),
-        _ => false,
-    }
+    kind_at(text, start) == Kind::Word && text_is(text, text_start(text, start), keyword)
 }
 
 // Is the token this punctuation mark? Its byte is compared first, since most tokens differ there.
@@ -77,10 +64,7 @@ pub fn punct_at(text: &[u8], start: usize, b: u8) -> bool
     if byte_or_zero(text, start) != b {
         return false;
     }
-    match kind_at(text, start) {
-        Kind::Punctuation(m) => m == b,
-        _ => false,
-    }
+    kind_at(text, start) == Kind::Punctuation(b)
 }
 
 // Is the token a newline? LF is one, and besides it only CR can be.
@@ -88,16 +72,7 @@ pub fn newline_at(text: &[u8], start: usize) -> bool
     ensures { result ≡ is_line_end (token_at text.now start).kind }
 {
     let b = byte_or_zero(text, start);
-    if b == 10 {
-        return true;
-    }
-    if b != 13 {
-        return false;
-    }
-    match kind_at(text, start) {
-        Kind::Newline => true,
-        _ => false,
-    }
+    b == b'\n' || b == b'\r' && kind_at(text, start) == Kind::Newline
 }
 
 // The next byte that is left of the text, or 0.
@@ -105,8 +80,8 @@ fn byte_ahead(text: &[u8], c: Cursor) -> u8
     ensures { result ≡ get_or (left text.now c) 0 0 }
 {
     match next_byte(text, c) {
-        Item::Byte(b, _) => b,
-        Item::End => 0,
+        Some((b, _)) => b,
+        None => 0,
     }
 }
 
@@ -115,8 +90,8 @@ fn second_ahead(text: &[u8], c: Cursor) -> u8
     ensures { result ≡ get_or (left text.now c) 1 0 }
 {
     match next_byte(text, c) {
-        Item::Byte(_, d) => byte_ahead(text, d),
-        Item::End => 0,
+        Some((_, d)) => byte_ahead(text, d),
+        None => 0,
     }
 }
 
@@ -127,10 +102,7 @@ pub fn blank_byte(text: &[u8], b: u8, c: Cursor) -> bool
     if 192 <= b {
         return wide_bytes(b, byte_ahead(text, c), second_ahead(text, c));
     }
-    match class_of(b) {
-        Class::Newline | Class::Blank | Class::Part => true,
-        _ => false,
-    }
+    matches!(class_of(b), Class::Newline | Class::Blank | Class::Part)
 }
 
 // Is what is left of the text all White_Space?
@@ -138,19 +110,13 @@ fn blank_text(text: &[u8], c: Cursor) -> bool
     ensures { result ≡ blank (left text.now c) }
 {
     let mut d = c;
-    loop {
-        match next_byte(text, d) {
-            Item::Byte(b, e) => {
-                if !blank_byte(text, b, e) {
-                    return false;
-                }
-                d = e;
-            }
-            Item::End => {
-                return true;
-            }
+    while let Some((b, e)) = next_byte(text, d) {
+        if !blank_byte(text, b, e) {
+            return false;
         }
+        d = e;
     }
+    true
 }
 
 // Is the token a name? One that begins with a plain byte is.
@@ -160,18 +126,16 @@ pub fn is_label(text: &[u8], start: usize) -> bool
     if plain(byte_or_zero(text, start)) {
         return true;
     }
-    match kind_at(text, start) {
-        Kind::Word | Kind::Quoted => !blank_text(text, text_start(text, start)),
-        _ => false,
-    }
+    matches!(kind_at(text, start), Kind::Word | Kind::Quoted)
+        && !blank_text(text, text_start(text, start))
 }
 
 // A byte of a name as names are compared: `_` is a blank, and ASCII case is ignored.
-fn folded(b: u8) -> u8
+pub fn folded(b: u8) -> u8
     ensures { result ≡ lower (pick (eqb b 95) 32 b) }
 {
-    if b == 95 {
-        return 32;
+    if b == b'_' {
+        return b' ';
     }
     lower(b)
 }
@@ -182,25 +146,17 @@ fn texts_alike(text: &[u8], x: Cursor, y: Cursor) -> bool
 {
     let mut c = x;
     let mut d = y;
-    loop {
-        match next_byte(text, c) {
-            Item::Byte(a, e) => match next_byte(text, d) {
-                Item::Byte(b, f) => {
-                    if folded(a) != folded(b) {
-                        return false;
-                    }
-                    c = e;
-                    d = f;
-                }
-                Item::End => {
-                    return false;
-                }
-            },
-            Item::End => {
-                return ended(text, d);
-            }
+    while let Some((a, e)) = next_byte(text, c) {
+        let Some((b, f)) = next_byte(text, d) else {
+            return false;
+        };
+        if folded(a) != folded(b) {
+            return false;
         }
+        c = e;
+        d = f;
     }
+    ended(text, d)
 }
 
 // Are so many bytes of a text from two places on the same name?
@@ -208,12 +164,10 @@ fn runs_alike(text: &[u8], a: usize, b: usize, count: usize) -> bool
     requires { (a + count ≤ length text.now) × (b + count ≤ length text.now) }
     ensures { result ≡ alike (spaced (take count (drop a text.now))) (spaced (take count (drop b text.now))) }
 {
-    let mut i = 0;
-    while i < count {
+    for i in 0..count {
         if folded(text[a + i]) != folded(text[b + i]) {
             return false;
         }
-        i += 1;
     }
     true
 }
@@ -226,10 +180,7 @@ pub fn labels_alike(text: &[u8], a: usize, b: usize) -> bool
     if a < end {
         let stop = word_stop(text, b);
         if b < stop {
-            if end - a == stop - b {
-                return runs_alike(text, a, b, end - a);
-            }
-            return false;
+            return end - a == stop - b && runs_alike(text, a, b, end - a);
         }
     }
     texts_alike(text, text_start(text, a), text_start(text, b))
@@ -241,25 +192,19 @@ fn digits_value(text: &[u8], c: Cursor) -> u64
 {
     let mut n: u64 = 0;
     let mut d = c;
-    loop {
-        match next_byte(text, d) {
-            Item::Byte(b, e) => {
-                let digit = (48 <= b) & (b <= 57);
-                if !digit {
-                    return 0;
-                }
-                let v = (b - 48) as u64;
-                if (18446744073709551615 - v) / 10 < n {
-                    return 0;
-                }
-                n = n * 10 + v;
-                d = e;
-            }
-            Item::End => {
-                return n;
-            }
+    while let Some((b, e)) = next_byte(text, d) {
+        let digit = (b'0' <= b) & (b <= b'9');
+        if !digit {
+            return 0;
         }
+        let v = (b - b'0') as u64;
+        if (u64::MAX - v) / 10 < n {
+            return 0;
+        }
+        n = n * 10 + v;
+        d = e;
     }
+    n
 }
 
 // The positive number that the token spells, or 0.
@@ -268,12 +213,8 @@ pub fn number_at(text: &[u8], start: usize) -> u64
 {
     let c = text_start(text, start);
     match next_byte(text, c) {
-        Item::Byte(b, d) => {
-            if b == 43 {
-                return digits_value(text, d);
-            }
-            digits_value(text, c)
-        }
-        Item::End => 0,
+        Some((b'+', d)) => digits_value(text, d),
+        Some(_) => digits_value(text, c),
+        None => 0,
     }
 }

@@ -8,7 +8,7 @@ ghost use Rattle.lexer.specs.Positions.{ahead, moved_on, moved_to, passed_commen
 use super::classes::symbol_at;
 use super::places::move_on;
 use super::scanning::comment_end;
-use super::{Place, Scan, Symbol};
+use super::{Place, Symbol};
 
 // A byte of a text, with its line and column.
 #[derive(Clone, Copy)]
@@ -16,20 +16,6 @@ pub struct Position {
     pub at: usize,
     pub line: usize,
     pub column: usize,
-}
-
-// What stands at a byte.
-#[derive(Clone, Copy)]
-pub enum Ahead {
-    Symbol(Symbol),
-    End,
-}
-
-// Behind a comment, or the place of its mark if it does not end.
-#[derive(Clone, Copy)]
-pub enum Passed {
-    Behind(Position),
-    Open(Place),
 }
 
 // A text beside a position in it.
@@ -42,13 +28,13 @@ pub struct Lexer<'a> {
 }
 
 // What stands at `at`: its symbol, or the end behind the last byte.
-fn ahead_at(text: &[u8], at: usize) -> Ahead
+fn ahead_at(text: &[u8], at: usize) -> Option<Symbol>
     ensures { result ≡ ahead text.now at }
 {
     if at < text.len() {
-        return Ahead::Symbol(symbol_at(text, at));
+        return Some(symbol_at(text, at));
     }
-    Ahead::End
+    None
 }
 
 // Behind the byte at `at`, or still there where that is the end.
@@ -73,10 +59,8 @@ fn moved_to(text: &[u8], at: usize, line: usize, column: usize, to: usize) -> Po
     ensures { result ≡ moved_to text.now at line column to }
 {
     let mut p = Place { line, column };
-    let mut i = at;
-    while (i < to) & (i < text.len()) {
+    for i in at..to.min(text.len()) {
         p = move_on(p, symbol_at(text, i));
-        i += 1;
     }
     Position {
         at: to,
@@ -86,14 +70,14 @@ fn moved_to(text: &[u8], at: usize, line: usize, column: usize, to: usize) -> Po
 }
 
 // Behind the comment whose mark is at `at`.
-fn comment_at(text: &[u8], at: usize, line: usize, column: usize) -> Passed
+fn comment_at(text: &[u8], at: usize, line: usize, column: usize) -> Result<Position, Place>
     requires { (at < length text.now) × Bounded text.now line column }
     ensures { result ≡ passed_comment text.now at line column }
 {
-    match comment_end(text, at) {
-        Scan::At(to) => Passed::Behind(moved_to(text, at, line, column, to)),
-        Scan::Open(_) => Passed::Open(Place { line, column }),
-    }
+    let Ok(to) = comment_end(text, at) else {
+        return Err(Place { line, column });
+    };
+    Ok(moved_to(text, at, line, column, to))
 }
 
 impl<'a> Lexer<'a> {
@@ -110,7 +94,7 @@ impl<'a> Lexer<'a> {
     }
 
     // What stands at its place.
-    pub fn peek(self) -> Ahead
+    pub fn peek(self) -> Option<Symbol>
         ensures { result ≡ ahead self.entry.text.now self.entry.at }
     {
         ahead_at(self.text, self.at)
@@ -131,7 +115,7 @@ impl<'a> Lexer<'a> {
     }
 
     // Behind the comment whose mark is at its place.
-    pub fn comment(self) -> Passed
+    pub fn comment(self) -> Result<Position, Place>
         requires { (self.at < length self.text.now) × Bounded self.text.now self.line self.column }
         ensures { result ≡ passed_comment self.entry.text.now self.entry.at self.entry.line self.entry.column }
     {

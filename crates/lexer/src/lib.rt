@@ -14,7 +14,7 @@ mod utf8;
 
 pub use classes::{byte_or_zero, entry_of, wide_blank, word_bytes};
 pub use label::{
-    blank_byte, is_at, is_label, labels_alike, lower, newline_at, number_at, punct_at,
+    blank_byte, folded, is_at, is_label, labels_alike, lower, newline_at, number_at, punct_at,
 };
 pub use lexer_of::place_at;
 pub use lexing::lex;
@@ -62,7 +62,7 @@ pub enum Mode {
 }
 
 // What a token is. The last two stand at the end of a text that leaves a quote or a comment open.
-#[derive(Clone, Copy)]
+#[derive(Clone, Copy, PartialEq, Eq)]
 pub enum Kind {
     Word,
     Quoted,
@@ -80,46 +80,21 @@ pub struct Place {
     pub column: usize,
 }
 
-// What lexing a text answers: the count of its tokens, whose starts stand in work memory, or why there is none.
-#[derive(Clone, Copy)]
-pub enum Lexed {
-    Tokens(usize),
-    Refused(Refusal, Place),
-}
-
-// Where something that a mark opens has ended, or where the mark of a comment stands that does not end.
-#[derive(Clone, Copy)]
-pub enum Scan {
-    At(usize),
-    Open(usize),
-}
-
-// What stands at a byte between two tokens: something to pass over, or a token, and where it goes on; or the mark of what does not end.
+// What stands at a byte between two tokens: something to pass over, or a token, and where it goes on. Neither is a fault, so this is no
+// `Result`.
 #[derive(Clone, Copy)]
 pub enum Step {
     Skip(usize),
     Token(usize),
-    Quote(usize),
-    Comment(usize),
 }
 
-// What storing the starts of a text's tokens comes to: their count, or the refusal of what stays open, with its opening mark.
+// Why a text is refused, and where: at the token with an index, at a byte, or at a place.
 #[derive(Clone, Copy)]
-pub enum Walk {
-    Done(usize),
-    Open(Refusal, usize),
-}
+pub struct Fault<P>(pub Refusal, pub P);
 
 // A place in the text of a token, and a mode by the token's kind: `Between` for a mark, and a comment where nothing is left of the text.
 #[derive(Clone, Copy)]
 pub struct Cursor {
     pub at: usize,
     pub mode: Mode,
-}
-
-// The next byte of a token's text, or none.
-#[derive(Clone, Copy)]
-pub enum Item {
-    Byte(u8, Cursor),
-    End,
 }

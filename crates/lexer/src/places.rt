@@ -22,11 +22,10 @@ pub fn move_on(p: Place, s: Symbol) -> Place
             line: p.line + 1,
             column: 1,
         },
-        Symbol::Return => p,
-        Symbol::Part => p,
+        Symbol::Return | Symbol::Part => p,
         _ => Place {
-            line: p.line,
             column: p.column + 1,
+            ..p
         },
     }
 }

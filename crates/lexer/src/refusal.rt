@@ -5,7 +5,7 @@ ghost use Rattle.lexer.specs.Refusals.{number};
 
 #[derive(Clone, Copy)]
 pub enum Refusal {
-    TextTooLong,
+    TextTooLong = 1,
     WorkMemoryShort,
     NotUtf8,
     OpenQuote,
@@ -44,39 +44,5 @@ pub enum Refusal {
 pub fn refusal_number(r: Refusal) -> u32
     ensures { result ≡ number r }
 {
-    match r {
-        Refusal::TextTooLong => 1,
-        Refusal::WorkMemoryShort => 2,
-        Refusal::NotUtf8 => 3,
-        Refusal::OpenQuote => 4,
-        Refusal::OpenComment => 5,
-        Refusal::NoNexus => 6,
-        Refusal::EmptyCommand => 7,
-        Refusal::UnendedCommand => 8,
-        Refusal::UnendedBlock => 9,
-        Refusal::WordsAfterEnd => 10,
-        Refusal::NotBegin => 11,
-        Refusal::Block => 12,
-        Refusal::Command => 13,
-        Refusal::Absent => 14,
-        Refusal::Dimension => 15,
-        Refusal::Count => 16,
-        Refusal::NotName => 17,
-        Refusal::TaxonTwice => 18,
-        Refusal::NoValue => 19,
-        Refusal::FormatOption => 20,
-        Refusal::Symbols => 21,
-        Refusal::CellSymbol => 22,
-        Refusal::StateSet => 23,
-        Refusal::Row => 24,
-        Refusal::TaxonAbsent => 25,
-        Refusal::LabelEntry => 26,
-        Refusal::TypeSet => 27,
-        Refusal::CharacterList => 28,
-        Refusal::OrderedDna => 29,
-        Refusal::BufferShort => 30,
-        Refusal::NotRecord => 31,
-        Refusal::FormTooLong => 32,
-        Refusal::NoSuchName => 33,
-    }
+    r as u32
 }

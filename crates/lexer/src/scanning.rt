@@ -6,8 +6,8 @@ ghost use Rattle.lexer.specs.ByteBlocks.{all_first, blocks_end, comment_blocks, 
 ghost use Rattle.lexer.specs.PlainWords.{is_alone, is_ends, word_bytes, word_stop};
 ghost use Rattle.lexer.specs.Scanning.{comment_end, quote_end, string_end, word_end};
 
-use super::classes::{entry_of, plain, symbol_at};
-use super::{Scan, Symbol};
+use super::classes::{byte_or_zero, entry_of, plain, symbol_at};
+use super::{Fault, Refusal, Symbol};
 
 // A place in a comment, and how many more comments are open there.
 #[derive(Clone, Copy)]
@@ -16,28 +16,19 @@ pub struct Nesting {
     pub depth: usize,
 }
 
-fn one_if(x: u8, b: u8) -> u8
-    ensures { (result ≡ pick (eqb x b) 1 0) × (result ≤ 1) }
-{
-    if x == b {
-        return 1;
-    }
-    0
-}
-
-// How many of the eight bytes from `i` on are `b`.
+// How many of the eight bytes from `i` on are `b`. Written out, as `word_eight` is: no byte waits for the test of another.
 fn count_eight(text: &[u8], i: usize, b: u8) -> u8
     requires { i + 8 ≤ length text.now }
     ensures { (result ≡ count_in b 8 (drop i text.now)) × (result ≤ 8) }
 {
-    one_if(text[i], b)
-        + one_if(text[i + 1], b)
-        + one_if(text[i + 2], b)
-        + one_if(text[i + 3], b)
-        + one_if(text[i + 4], b)
-        + one_if(text[i + 5], b)
-        + one_if(text[i + 6], b)
-        + one_if(text[i + 7], b)
+    u8::from(text[i] == b)
+        + u8::from(text[i + 1] == b)
+        + u8::from(text[i + 2] == b)
+        + u8::from(text[i + 3] == b)
+        + u8::from(text[i + 4] == b)
+        + u8::from(text[i + 5] == b)
+        + u8::from(text[i + 6] == b)
+        + u8::from(text[i + 7] == b)
 }
 
 // Passes eight bytes of a comment at a time, as long as these have no more closing brackets than there are comments open around it: it cannot end in them.
@@ -48,79 +39,75 @@ fn comment_blocks(text: &[u8], from: usize, depth: usize) -> Nesting
 {
     let mut deep = depth;
     let mut i = from;
+    // by `while`, here and in `word_blocks`: a chain over chunks of eight is no plainer, since the place is asked for
     while 8 <= text.len() - i {
-        let closing = count_eight(text, i, 93) as usize;
+        let closing = usize::from(count_eight(text, i, b']'));
         if deep < closing {
             return Nesting { at: i, depth: deep };
         }
-        deep = deep - closing + count_eight(text, i, 91) as usize;
+        deep = deep - closing + usize::from(count_eight(text, i, b'['));
         i += 8;
     }
     Nesting { at: i, depth: deep }
 }
 
-// Behind the comment that opens at `mark`. Comments nest.
-pub fn comment_end(text: &[u8], mark: usize) -> Scan
+// Behind the comment that opens at `mark`, or the refusal. Comments nest.
+pub fn comment_end(text: &[u8], mark: usize) -> Result<usize, Fault<usize>>
     requires { mark < length text.now }
     ensures { result ≡ comment_end mark 0 (mark + 1) (drop (mark + 1) text.now) }
 {
     let first = comment_blocks(text, mark + 1, 0);
     let mut depth = first.depth;
     let mut i = first.at;
+    // A turn passes a byte, and the blocks of eight behind a bracket.
     while i < text.len() {
         let b = text[i];
         i += 1;
-        if b == 93 {
+        if b == b']' {
             if depth == 0 {
-                return Scan::At(i);
+                return Ok(i);
             }
             let next = comment_blocks(text, i, depth - 1);
             depth = next.depth;
             i = next.at;
-        } else {
-            if b == 91 {
-                depth += 1;
-            }
+        } else if b == b'[' {
+            depth += 1;
         }
     }
-    Scan::Open(mark)
+    Err(Fault(Refusal::OpenComment, mark))
 }
 
-// Behind the single-quoted text that opens at `mark`. Two quotes in it are one.
-pub fn quoted_end(text: &[u8], mark: usize) -> Scan
+// Behind the single-quoted text that opens at `mark`, or the refusal. Two quotes in it are one.
+pub fn quoted_end(text: &[u8], mark: usize) -> Result<usize, Fault<usize>>
     requires { mark < length text.now }
     ensures { result ≡ quote_end mark false (mark + 1) (drop (mark + 1) text.now) }
 {
     let mut i = mark + 1;
+    // A turn passes a byte, or the two quotes that are one.
     while i < text.len() {
-        let quote = text[i] == 39;
-        i += 1;
-        if quote {
-            if text.len() <= i {
-                return Scan::At(i);
-            }
-            if text[i] != 39 {
-                return Scan::At(i);
-            }
+        if text[i] != b'\'' {
             i += 1;
+            continue;
         }
+        if byte_or_zero(text, i + 1) != b'\'' {
+            return Ok(i + 1);
+        }
+        i += 2;
     }
-    Scan::Open(mark)
+    Err(Fault(Refusal::OpenQuote, mark))
 }
 
-// Behind the double-quoted text that opens at `mark`.
-pub fn string_end(text: &[u8], mark: usize) -> Scan
+// Behind the double-quoted text that opens at `mark`, or the refusal.
+pub fn string_end(text: &[u8], mark: usize) -> Result<usize, Fault<usize>>
     requires { mark < length text.now }
     ensures { result ≡ string_end mark (mark + 1) (drop (mark + 1) text.now) }
 {
-    let mut i = mark + 1;
-    while i < text.len() {
-        if text[i] == 34 {
-            return Scan::At(i + 1);
+    for i in mark + 1..text.len() {
+        if text[i] == b'"' {
+            return Ok(i + 1);
         }
-        i += 1;
     }
-    Scan::Open(mark)
+    Err(Fault(Refusal::OpenQuote, mark))
 }
 
 // Are the eight bytes from `i` on all plain?
@@ -155,60 +142,55 @@ pub fn plain_end(text: &[u8], from: usize) -> usize
     if text.len() <= from {
         return from;
     }
-    let mut i = word_blocks(text, from);
-    while i < text.len() {
+    for i in word_blocks(text, from)..text.len() {
         if !plain(text[i]) {
             return i;
         }
-        i += 1;
     }
-    i
+    text.len()
 }
 
 // Where the word ends that goes on at `from`. Comments in it are passed over. The symbol of a byte is asked for only where it is not plain.
-pub fn word_end(text: &[u8], from: usize) -> Scan
+pub fn word_end(text: &[u8], from: usize) -> Result<usize, Fault<usize>>
     requires { from ≤ length text.now }
     ensures { result ≡ word_end 0 0 from (drop from text.now) }
 {
     let mut i = word_blocks(text, from);
+    // A turn passes a byte, or a comment and the plain bytes behind it.
     while i < text.len() {
         if plain(text[i]) {
             i += 1;
-        } else {
-            match symbol_at(text, i) {
-                Symbol::Other | Symbol::Part => {
-                    i += 1;
-                }
-                Symbol::Open => match comment_end(text, i) {
-                    Scan::At(j) => {
-                        i = word_blocks(text, j);
-                    }
-                    Scan::Open(mark) => {
-                        return Scan::Open(mark);
-                    }
-                },
-                _ => {
-                    return Scan::At(i);
-                }
+            continue;
+        }
+        match symbol_at(text, i) {
+            Symbol::Other | Symbol::Part => {
+                i += 1;
+            }
+            Symbol::Open => {
+                i = word_blocks(text, comment_end(text, i)?);
+            }
+            _ => {
+                return Ok(i);
             }
         }
     }
-    Scan::At(i)
+    Ok(i)
 }
 
 // Is the byte LF, a bracket of a set, `,`, `;` or `=`? Such a byte is always a token by itself. Other marks are as well, but they are rare.
 fn stands_alone(b: u8) -> bool
     ensures { result ≡ is_alone b }
 {
-    let bracket = (b == 40) | (b == 41) | (b == 123) | (b == 125);
-    (b == 10) | (b == 44) | (b == 59) | (b == 61) | bracket
+    // Tests and no `matches!`, which makes ranges of bytes in a row, whose goals have no names.
+    let bracket = (b == b'(') | (b == b')') | (b == b'{') | (b == b'}');
+    (b == b'\n') | (b == b',') | (b == b';') | (b == b'=') | bracket
 }
 
 // Is the byte a blank, CR, or one that stands alone? Such a byte always ends a word. Other marks do as well, but they are rare.
 pub fn ends_word(b: u8) -> bool
     ensures { result ≡ is_ends b }
 {
-    (b == 32) | (b == 13) | stands_alone(b)
+    (b == b' ') | (b == b'\r') | stands_alone(b)
 }
 
 // Where the word at a place ends, if it is of plain bytes alone and `ends_word` holds of the byte behind them; else the place itself.
@@ -216,10 +198,8 @@ pub fn word_stop(text: &[u8], start: usize) -> usize
     ensures { result ≡ word_stop text.now start }
 {
     let end = plain_end(text, start);
-    if end < text.len() {
-        if ends_word(text[end]) {
-            return end;
-        }
+    if end < text.len() && ends_word(text[end]) {
+        return end;
     }
     start
 }
@@ -229,16 +209,14 @@ pub fn word_stop_by(text: &[u8], start: usize, table: &[u8; 256]) -> usize
     requires { table.now ≡ word_bytes }
     ensures { result ≡ word_stop text.now start }
 {
-    let mut i = start;
-    while i < text.len() {
+    for i in start..text.len() {
         let stands = entry_of(table, text[i]);
-        if stands != 1 {
-            if 2 <= stands {
-                return i;
-            }
+        if 2 <= stands {
+            return i;
+        }
+        if stands == 0 {
             return start;
         }
-        i += 1;
     }
     start
 }

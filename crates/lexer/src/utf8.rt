@@ -22,6 +22,7 @@ fn follows_by(more: u8, low: u8, high: u8) -> Follow
 fn after_lead(b: u8) -> Follow
     ensures { (result.more ≡ (after_lead b).more) × (result.low ≡ (after_lead b).low) × (result.high ≡ (after_lead b).high) }
 {
+    // One test after another, as the definition goes: by ranges each arm would have to be told from all before it.
     if b < 224 {
         return follows_by(1, 128, 191);
     }
@@ -43,7 +44,7 @@ fn after_lead(b: u8) -> Follow
     follows_by(3, 128, 191)
 }
 
-// Are the eight bytes from `i` on all ASCII?
+// Are the eight bytes from `i` on all ASCII? Written out, so that one test serves for all of them.
 fn ascii_eight(text: &[u8], i: usize) -> bool
     requires { i + 8 ≤ length text.now }
     ensures { result ≡ all_first is_ascii 8 (drop i text.now) }
@@ -59,6 +60,7 @@ fn ascii_blocks(text: &[u8], from: usize) -> usize
     ensures { result ≡ blocks_end is_ascii 16 from (drop from text.now) }
 {
     let mut i = from;
+    // by `while`: a chain over chunks of sixteen is no plainer, since the place is asked for
     while 16 <= text.len() - i {
         let ascii = ascii_eight(text, i) & ascii_eight(text, i + 8);
         if !ascii {
@@ -74,47 +76,36 @@ fn ascii_run(text: &[u8], from: usize) -> usize
     requires { from ≤ length text.now }
     ensures { result ≡ ascii_end from (drop from text.now) }
 {
-    let mut i = ascii_blocks(text, from);
-    while i < text.len() {
+    for i in ascii_blocks(text, from)..text.len() {
         if 128 <= text[i] {
             return i;
         }
-        i += 1;
     }
-    i
+    text.len()
 }
 
 // Is the text UTF-8?
 pub fn is_utf8(text: &[u8]) -> bool
     ensures { result ≡ utf8 text.now }
 {
-    let mut more: u8 = 0;
-    let mut low: u8 = 128;
-    let mut high: u8 = 191;
+    let mut f = follows_by(0, 128, 191);
     let mut i = 0;
+    // A turn passes a byte, and the run of ASCII behind it.
     while i < text.len() {
         let b = text[i];
         i += 1;
-        if more == 0 {
-            if b < 128 {
-                i = ascii_run(text, i);
-            } else {
-                if (b < 194) | (244 < b) {
-                    return false;
-                }
-                let f = after_lead(b);
-                more = f.more;
-                low = f.low;
-                high = f.high;
-            }
-        } else {
-            if (b < low) | (high < b) {
+        if f.more != 0 {
+            if (b < f.low) | (f.high < b) {
                 return false;
             }
-            more -= 1;
-            low = 128;
-            high = 191;
+            f = follows_by(f.more - 1, 128, 191);
+        } else if b < 128 {
+            i = ascii_run(text, i);
+        } else if (b < 194) | (244 < b) {
+            return false;
+        } else {
+            f = after_lead(b);
         }
     }
-    more == 0
+    f.more == 0
 }

@@ -1,20 +1,23 @@
 -- The lookup's answer by what judging a record and the search among its rows answer. Assumes nothing.
+use Rattle.std.specs.Prelude.{Some, None, Result, Ok, Err}
 use Prim.Native.Nat.{ℕ, ◌+◌, ◌-◌, ◌≤◌}
 use Rattle.block.specs.Reading.{Taxon, Reading}
 use Rattle.judging.specs.Shapes.{ShapeOf, RecordJudged}
-use Rattle.judging.specs.declared.Judged.{Judged}
 use Rattle.judging.specs.declared.Shape.{Shape}
 use Rattle.lexer.specs.Base.{pick, alike}
 use Rattle.lexer.specs.declared.refusal.Refusal.{Refusal}
-use Rattle.lookup.specs.Finding.{sought_of, CellsSought, looked_as, refused_as, LookedUp, LookupCall}
-use Rattle.lookup.specs.declared.Looked.{Looked}
-use Rattle.lookup.specs.declared.find.Sought.{Sought}
+use Rattle.lookup.specs.Finding.{sought_of, CellsSought, found_as, LookedUp, LookupCall}
+use Rattle.lookup.specs.declared.Cells.{Cells}
 use Rattle.naming.proofs.RowLaws.{cells-before, rows_behind}
 use Rattle.naming.specs.Rows.{RowsStand}
-use Rattle.record.specs.Calls.{found, not_found, looked_up, lookup_answer}
+use Rattle.lexer.specs.Refusals.{number}
+use Rattle.record.specs.Calls.{Found, found, not_found, looked_up, lookup_answer}
 use Rattle.record.specs.Lookup.{Stretch, before_cells, find_cells, lookup}
 use Rattle.record.specs.Spell.{spell_cells, spell_characters}
 use Rattle.record.specs.Unspell.{unspell}
+use Rattle.std.proofs.Common.{zero-add}
+use Rattle.std.specs.Option.{ok_or}
+use Rattle.std.specs.Prelude as Std
 use denote.Ref.{Bor}
 use lib.ListN.{length, take, drop}
 use mathlib.Core.Bool.{Bool, true, false}
@@ -42,14 +45,14 @@ find-within b at characters name (t ∷ ts) rest k s e =
     first false t more h behind q = behind q
 
 -- A search in a record: what it answers is what the lookup finds, and that lies within the record.
-pub record SoughtThere (b name : List ℕ) (q : Sought) : Type 0 where
+pub record SoughtThere (b name : List ℕ) (q : Std.Option Cells) : Type 0 where
   pub what : Option Stretch
   pub told : lookup_answer name b ≡ found what
   pub is : q ≡ sought_of what
   pub within : (s : Stretch) → what ≡ some s → s.start + s.size ≤ length b
 
 -- The search where the shape of a record says that its rows stand.
-shape-sought : {b name : List ℕ} (s : Shape) (r : Reading) → unspell b ≡ some r → ShapeOf b s r → {q : Sought}
+shape-sought : {b name : List ℕ} (s : Shape) (r : Reading) → unspell b ≡ some r → ShapeOf b s r → {q : Std.Option Cells}
     → CellsSought b s.rows s.taxa.0 s.characters.0 name q → SoughtThere b name q
 unfolding lookup_answer looked_up lookup
 shape-sought {b} {name} s r read shape sought =
@@ -62,56 +65,60 @@ shape-sought {b} {name} s r read shape sought =
       within = λ t e. find-within b s.rows s.characters.0 name r.taxa rest rows t e;
     }
 
-pub record-sought : {b name : List ℕ} {j : Judged} → RecordJudged b j → (s : Shape) → j ≡ Judged.Record s → {q : Sought}
+pub record-sought : {b name : List ℕ} {j : Std.Option Shape} → RecordJudged b j → (s : Shape) → j ≡ Some s → {q : Std.Option Cells}
     → CellsSought b s.rows s.taxa.0 s.characters.0 name q → SoughtThere b name q
 record-sought judged s is sought = let (r, read, shape) = judged.found s is in shape-sought s r read shape sought
 
--- The answer of a stretch that was found.
-stretch-looked : (s : Stretch) {start size : ℕ} → start ≡ s.start → size ≡ s.size → record { number = 0; start = start; size = size } ≡ looked_as (found (some s))
-unfolding looked_as found
-stretch-looked s begins long = rw (begins, long)
-
 -- The cells were found.
-module _ {b name : List ℕ} {q : Sought} (there : SoughtThere b name q) {start end : ℕ} (at : q ≡ Sought.At start end) where
-  at-stretch : (o : Option Stretch) → q ≡ sought_of o → (s : Stretch) × (o ≡ some s) × (start ≡ s.start) × (end ≡ s.start + s.size)
+module _ {b name : List ℕ} {q : Std.Option Cells} (there : SoughtThere b name q) {p : Cells} (some-cells : q ≡ Some p) where
+  at-stretch : (o : Option Stretch) → q ≡ sought_of o → (s : Stretch) × (o ≡ some s) × (p.start ≡ s.start) × (p.end ≡ s.start + s.size)
   unfolding sought_of
   at-stretch none e = let z : ◌≡◌ {A = ℕ} 0 1 = cc in absurd (omega arith)
-  at-stretch (some s) e = (s, refl, (cc), cc)
+  at-stretch (some s) e =
+      let same : p ≡ record { start = s.start; end = s.start + s.size } = cc in
+      (s, refl, ap (λ (c : Cells). c.start) same, ap (λ (c : Cells). c.end) same)
 
-  pub at-ordered : start ≤ end
-  at-ordered = let (s, is, begins, ends) = at-stretch there.what there.is in omega arith
+  found-stretch : (s : Stretch) → p.start ≡ s.start → p.end - p.start ≡ s.size → found_as (Ok p) ≡ found (some s)
+  unfolding found_as found
+  found-stretch s begins long = rw (long, begins)
 
-  pub at-looked : LookedUp b name (record { number = 0; start = start; size = end - start })
+  at-looked : LookedUp b name (Ok p)
   at-looked =
       let (s, is, begins, ends) = at-stretch there.what there.is in
       record {
-        told = stretch-looked s begins (omega arith) ∙ sym (ap looked_as (there.told ∙ ap found is));
-        within = omega (arith, there.within s is);
+        told = found-stretch s begins (omega arith) ∙ sym (there.told ∙ ap found is);
+        within = λ c e. let same : p ≡ c = cc in let fits = there.within s is in rw (← same) (omega arith, omega arith);
       }
 
--- No row has the name.
-none-stretch : {q : Sought} → q ≡ Sought.None → (o : Option Stretch) → q ≡ sought_of o → o ≡ none
-unfolding sought_of
-none-stretch nowhere none e = refl
-none-stretch nowhere (some s) e = let z : ◌≡◌ {A = ℕ} 0 1 = cc in absurd (omega arith)
+-- A refusal has no cells.
+refused-looked : {b name : List ℕ} (n : Refusal) → found_as (Err n) ≡ lookup_answer name b → LookedUp b name (Err n)
+refused-looked n e = record { told = e; within = λ p k. let z : ◌≡◌ {A = ℕ} 0 1 = cc in absurd (omega arith) }
 
-pub none-looked : {b name : List ℕ} {q : Sought} → SoughtThere b name q → q ≡ Sought.None → {r : Looked} → r ≡ refused_as Refusal.NoSuchName → LookedUp b name r
-unfolding looked_as refused_as found not_found
-none-looked there nowhere e = record { told = rw (there.told, none-stretch nowhere there.what there.is) e; within = rw e (omega arith) }
+-- No row has the name.
+none-stretch : (o : Option Stretch) → None ≡ sought_of o → o ≡ none
+unfolding sought_of
+none-stretch none e = refl
+none-stretch (some s) e = let z : ◌≡◌ {A = ℕ} 0 1 = cc in absurd (omega arith)
+
+-- What is answered where a record was searched.
+pub sought-looked : {b name : List ℕ} (q : Std.Option Cells) → SoughtThere b name q → LookedUp b name (ok_or q Refusal.NoSuchName)
+unfolding found_as found
+sought-looked (Some p) there = at-looked there refl
+sought-looked None there = refused-looked Refusal.NoSuchName (rw (there.told, none-stretch there.what there.is))
 
 -- The bytes are no record.
-pub wrong-looked : {b name : List ℕ} {j : Judged} → RecordJudged b j → j ≡ Judged.Wrong → {r : Looked} → r ≡ refused_as Refusal.NotRecord → LookedUp b name r
-unfolding lookup_answer looked_up looked_as refused_as not_found
-wrong-looked judged is e = record { told = rw (judged.none is) e; within = rw e (omega arith) }
+pub wrong-looked : {b name : List ℕ} {j : Std.Option Shape} → RecordJudged b j → j ≡ None → LookedUp b name (Err Refusal.NotRecord)
+unfolding lookup_answer looked_up found_as
+wrong-looked judged is = refused-looked Refusal.NotRecord (rw (judged.none is))
 
--- The part of the record that the answer in numbers says is what the call hands back.
-pub part-handed : {source part : Bor (List ℕ)} {name : List ℕ} {r : Looked} → LookedUp source.now name r
-    → part.now ≡ take (r.start + r.size - r.start) (drop r.start source.now) → part.ref_ptr ≡ (source.ref_ptr.0, r.start + source.ref_ptr.1)
-    → LookupCall source name r.number part
-unfolding looked_as
-part-handed {source} {part} {name} {r} up bytes place =
-    let number : r.number ≡ (lookup_answer name source.now).refused = ap (λ l. l.number) up.told in
-    let start : r.start ≡ (lookup_answer name source.now).stretch.start = ap (λ l. l.start) up.told in
-    let size : r.size ≡ (lookup_answer name source.now).stretch.size = ap (λ l. l.size) up.told in
-    let long : r.start + r.size - r.start ≡ r.size = omega arith in
-    record { refused = number; bytes = rw (← start, ← size, ← long) bytes; place = rw (← start) place }
+-- The part of the record where the cells stand is what the call hands back, and the empty part where it is refused.
+module _ {source part : Bor (List ℕ)} {name : List ℕ} where
+  pub part-handed : {p : Cells} → LookedUp source.now name (Ok p) → part.now ≡ take (p.end - p.start) (drop p.start source.now)
+      → part.ref_ptr ≡ (source.ref_ptr.0, p.start + source.ref_ptr.1) → LookupCall source name 0 part
+  unfolding found_as
+  part-handed up bytes place = record { refused = ap (λ (f : Found). f.refused) up.told; bytes = rw (← up.told) bytes; place = rw (← up.told) place }
+
+  pub none-handed : {n : Refusal} {k : ℕ} → LookedUp source.now name (Err n) → k ≡ number n → part.now ≡ [] → part.ref_ptr ≡ source.ref_ptr
+      → LookupCall source name k part
+  unfolding found_as not_found
+  none-handed up told empty place = record { refused = told ∙ ap (λ (f : Found). f.refused) up.told; bytes = rw (← up.told) empty; place = rw (← up.told, zero-add source.ref_ptr.1) place }

@@ -4,59 +4,42 @@
 
 mod find;
 
-ghost use Rattle.lookup.specs.Finding.{LookedUp, LookupCall, refused_as};
-ghost use Rattle.std.specs.Prelude.{◌≡◌};
+ghost use Rattle.lookup.specs.Finding.{LookedUp, LookupCall};
 
-pub use find::{Sought, find_cells};
-use judging::{Judged, judge};
+pub use find::find_cells;
+use judging::judge;
 use lexer::{Refusal, refusal_number};
 
-// The lookup's answer in numbers: the refusal's, or 0; the first byte of the cells and how many bytes they take, each 0 where they are refused.
+// Where the cells of a taxon stand in a record: their first byte, and the LF behind them.
 #[derive(Clone, Copy)]
-pub struct Looked {
-    pub number: u32,
+pub struct Cells {
     pub start: usize,
-    pub size: usize,
-}
-
-// A refusal, and no stretch.
-fn refused(why: Refusal) -> Looked
-    ensures { result ≡ refused_as why }
-{
-    Looked {
-        number: refusal_number(why),
-        start: 0,
-        size: 0,
-    }
+    pub end: usize,
 }
 
 // Where the cells of the taxon with a name stand in a record. In order: 31 not a record, 33 no such name.
-pub fn look_at(source: &[u8], name: &[u8]) -> Looked
+pub fn look_at(source: &[u8], name: &[u8]) -> Result<Cells, Refusal>
     ensures { LookedUp source.now name.now result }
 {
-    match judge(source) {
-        Judged::Record(shape) => {
-            match find_cells(source, shape.rows, shape.taxa, shape.characters, name) {
-                Sought::At(start, end) => Looked {
-                    number: 0,
-                    start,
-                    size: end - start,
-                },
-                Sought::None => refused(Refusal::NoSuchName),
-            }
-        }
-        Judged::Wrong => refused(Refusal::NotRecord),
-    }
+    let Some(shape) = judge(source) else {
+        return Err(Refusal::NotRecord);
+    };
+    find_cells(source, shape.rows, shape.taxa, shape.characters, name).ok_or(Refusal::NoSuchName)
 }
 
 // The cells of the taxon with a name, as they stand in the record behind `cells=`, without their LF; or the empty part, where it is refused. The lent
-// number becomes the refusal's, or 0.
+// number becomes the refusal's, or 0. It answers no `Result`, since `LookupCall` says that the number goes into one that the caller lends.
 pub fn lookup<'a>(source: &'a [u8], name: &[u8], number: &mut u32) -> &'a [u8]
     ensures { LookupCall source.entry name.now number.new result }
 {
-    let looked = look_at(source, name);
-    *number = looked.number;
-    let start = looked.start;
-    let end = start + looked.size;
-    &source[start..end]
+    match look_at(source, name) {
+        Ok(cells) => {
+            *number = 0;
+            &source[cells.start..cells.end]
+        }
+        Err(why) => {
+            *number = refusal_number(why);
+            &source[..0]
+        }
+    }
 }

@@ -1,4 +1,5 @@
 -- The walk over declared names that stores the row of each. Assumes nothing.
+use Rattle.std.specs.Prelude.{Result, ⊤}
 use Prim.Native.Nat.{ℕ, suc, ◌+◌, ◌-◌, ◌≤◌, ◌<◌}
 use Rattle.block.proofs.ChunkSound.{none-some, some_inj}
 use Rattle.block.proofs.WalkLaws.{words-newline, words-next, words-end, words_last, words-last-newline}
@@ -9,7 +10,6 @@ use Rattle.block.specs.Outcome.{Outcome, done, refused, then, need}
 use Rattle.block.specs.Reading.{Taxon}
 use Rattle.block.specs.Sequential.{names}
 use Rattle.block.specs.Sound.{names_differ}
-use Rattle.block.specs.declared.Judged.{Judged}
 use Rattle.lexer.proofs.Basics.{and_left, and_right, by-test}
 use Rattle.lexer.proofs.RangeLaws.{word_kept, range-kept}
 use Rattle.lexer.specs.Base.{pick, alike}
@@ -24,6 +24,7 @@ use Rattle.matrix.specs.OrderHeld.{Arranged, place_from, place_of, cells_at, ord
 use Rattle.matrix.specs.RowIndex.{Indexed, RowsPut, row_alike, row_named}
 use Rattle.slots.specs.Filling.{Cleared, TableFits}
 use Rattle.slots.specs.declared.Table.{Table}
+use Rattle.lexer.specs.declared.Fault.{Fault}
 use borrow.Author.Tests.{ltb-true, ltb-false}
 use lib.Dec.{ltb}
 use lib.ListN.{length, get_or, take, set, length-set, length-append}
@@ -226,7 +227,7 @@ module _ (text before : List ℕ) (lines rows from to at head : ℕ) where
         all = sym (rw (words-end text before i to l, append-nil) refl) ∙ a.rest taken same below differ
 
 -- What was arranged where work memory was kept in front was arranged as it was before.
-pub arranged-behind : {text before work after : List ℕ} {lines rows from to at head : ℕ} {r : Judged} → (to ≤ lines) × (lines + rows ≤ at) → length work ≡ length before → take at work ≡ take at before
+pub arranged-behind : {text before work after : List ℕ} {lines rows from to at head : ℕ} {r : Result ⊤ (Fault ℕ)} → (to ≤ lines) × (lines + rows ≤ at) → length work ≡ length before → take at work ≡ take at before
     → Arranged text work after lines rows from to at head r → Arranged text before after lines rows from to at head r
 arranged-behind {text} {before} {work} {lines = lines} {rows} {from} {to} {at} room size kept k =
     let starts = stored-kept work before at lines rows kept room.1 in
@@ -257,5 +258,5 @@ module _ {text before clear work : List ℕ} {lines rows to at : ℕ} {t : Table
       let same : stored work lines rows ≡ stored clear lines rows = stored-kept work clear t.base lines rows p.front (omega (arith, fits.begins, room.1)) in
       p.indexed (below-further at t.base (omega (arith, fits.begins)) (stored clear lines rows) (rw same at below))
 
-  pub arranged-filled : {after : List ℕ} {from head : ℕ} {r : Judged} → Arranged text work after lines rows from to at head r → Arranged text before after lines rows from to at head r
+  pub arranged-filled : {after : List ℕ} {from head : ℕ} {r : Result ⊤ (Fault ℕ)} → Arranged text work after lines rows from to at head r → Arranged text before after lines rows from to at head r
   arranged-filled k = arranged-behind (room.0, room.1) filled-size filled-kept k

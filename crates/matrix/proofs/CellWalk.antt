@@ -1,4 +1,6 @@
 -- The symbols of a token's text by their codes: the walk over them, and which tokens have any. Assumes nothing.
+use Rattle.std.proofs.lemmas.Option.{some_pair_parts}
+use Rattle.std.specs.Prelude.{Some, None, Option}
 use Prim.Native.Nat.{ℕ, suc, ◌+◌, ◌-◌, ◌≤◌, ◌<◌}
 use Rattle.lexer.proofs.Basics.{by-test}
 use Rattle.lexer.proofs.ListLaws.{take_next}
@@ -12,13 +14,10 @@ use Rattle.lexer.specs.PlainWords.{PlainWord, part}
 use Rattle.lexer.specs.Stored.{word_of}
 use Rattle.lexer.specs.Words.{punct, is_word}
 use Rattle.lexer.specs.declared.Cursor.{Cursor}
-use Rattle.lexer.specs.declared.Kind.{Kind}
-use Rattle.matrix.specs.RowShape.{AllCoded, coded, symbols_coded}
-use Rattle.matrix.specs.declared.matrix.Cells.{Cells}
+use Rattle.matrix.specs.RowShape.{all_coded, coded, symbols_coded}
 use borrow.Author.Tests.{eq-eqb, ne_eqb}
 use lib.Dec.{eqb, ltb}
 use lib.ListN.{length, get_or, take, drop, length-take, length-drop}
-use lib.Seq.{length-take-le}
 use mathlib.Core.Bool.{Bool, true, false, ◌&&◌, false≢true, true≢false}
 use mathlib.Core.List.{List, [], ◌∷◌, ◌++◌}
 use mathlib.Core.Path.{◌≡◌, refl, sym, ap, ◌∙◌}
@@ -26,20 +25,20 @@ use native.Mathlib.Omega.{arith}
 
 -- What symbols come to behind others: these come to so many cells, or one of them is wrong.
 module _ (codes : List ℕ) where
-  coded-behind : (l r : List ℕ) (n : ℕ) (states : Bool) (k : ℕ) (all : Bool) → coded codes n states l ≡ Cells.Some k all
+  coded-behind : (l r : List ℕ) (n : ℕ) (states : Bool) (k : ℕ) (all : Bool) → coded codes n states l ≡ Some (k, all)
       → (coded codes n states (l ++ r) ≡ coded codes k all r) × (k ≡ n + length l)
   unfolding coded pick
-  coded-behind [] r n states k all e = let p : n ≡ k = cc in let q : states ≡ all = cc in (rw (p, q), omega arith)
+  coded-behind [] r n states k all e = let p = some_pair_parts _ _ _ _ e in (rw (p.0, p.1), omega (arith, p.0))
   coded-behind (b ∷ l) r n states k all e = by-test (eqb (get_or codes b 0) 255) (λ t. never (rw t at e)) (λ f. more f (coded-behind l r (n + 1) (states && ltb (get_or codes b 0) 96) k all (rw f at e)))
     where
-      never : Cells.Wrong ≡ Cells.Some k all → (coded codes n states (b ∷ l ++ r) ≡ coded codes k all r) × (k ≡ n + suc (length l))
+      never : ◌≡◌ {A = Option (ℕ × Bool)} None (Some (k, all)) → (coded codes n states (b ∷ l ++ r) ≡ coded codes k all r) × (k ≡ n + suc (length l))
       never e = let z : ◌≡◌ {A = ℕ} 0 1 = cc in absurd (omega arith)
 
       more : eqb (get_or codes b 0) 255 ≡ false → (coded codes (n + 1) (states && ltb (get_or codes b 0) 96) (l ++ r) ≡ coded codes k all r) × (k ≡ n + 1 + length l)
           → (coded codes n states (b ∷ l ++ r) ≡ coded codes k all r) × (k ≡ n + suc (length l))
       more f h = (rw f h.0, omega (arith, h.1))
 
-  coded-wrong : (l r : List ℕ) (n : ℕ) (states : Bool) → coded codes n states l ≡ Cells.Wrong → coded codes n states (l ++ r) ≡ Cells.Wrong
+  coded-wrong : (l r : List ℕ) (n : ℕ) (states : Bool) → coded codes n states l ≡ None → coded codes n states (l ++ r) ≡ None
   unfolding coded pick
   coded-wrong [] r n states e = let z : ◌≡◌ {A = ℕ} 0 1 = cc in absurd (omega arith)
   coded-wrong (b ∷ l) r n states e = by-test (eqb (get_or codes b 0) 255) (λ t. rw t) (λ f. rw f (coded-wrong l r (n + 1) (states && ltb (get_or codes b 0) 96) (rw f at e)))
@@ -51,9 +50,6 @@ pub record Running (text codes : List ℕ) (from end count : ℕ) (all : Bool) (
   pub rest : coded codes n states (take (end - i) (drop i text)) ≡ coded codes count all (take (end - from) (drop from text))
 
 module _ (text codes : List ℕ) (from end count : ℕ) (all : Bool) where
-  pub running-start : count ≤ from → from ≤ end → Running text codes from end count all count all from
-  running-start h k = record { within = (omega arith, k); passed = h; rest = refl }
-
   module _ (n : ℕ) (states : Bool) (i : ℕ) (k : Running text codes from end count all n states i) where
     module _ (h : i < end) (here : i < length text) where
       pub running-turn : (get_or codes (get_or text i 0) 0 ≡ 255 → ⊥) → Running text codes from end count all (n + 1) (states && ltb (get_or codes (get_or text i 0) 0) 96) (i + 1)
@@ -65,39 +61,27 @@ module _ (text codes : List ℕ) (from end count : ℕ) (all : Bool) where
             rest = sym (rw (take_next text i end h here, ne_eqb (get_or codes (get_or text i 0) 0) 255 ne)) ∙ k.rest;
           }
 
-      pub running-wrong : get_or codes (get_or text i 0) 0 ≡ 255 → Cells.Wrong ≡ coded codes count all (take (end - from) (drop from text))
+      pub running-wrong : get_or codes (get_or text i 0) 0 ≡ 255 → None ≡ coded codes count all (take (end - from) (drop from text))
       unfolding coded pick
       running-wrong e = sym (rw (take_next text i end h here, eq-eqb (get_or codes (get_or text i 0) 0) 255 e)) ∙ k.rest
 
-    pub running-end : end ≤ i → Cells.Some n states ≡ coded codes count all (take (end - from) (drop from text))
+    pub running-end : end ≤ i → Some (n, states) ≡ coded codes count all (take (end - from) (drop from text))
     unfolding coded
     running-end h = let none : end - i ≡ 0 = omega arith in sym (rw none) ∙ k.rest
 
--- All symbols from a place up to another are cells: how many they are, and what the rest comes to behind them.
-pub record AllRunning (text codes : List ℕ) (from end i : ℕ) : Type 0 where
-  pub states : Bool
-  pub running : Running text codes from end 0 true (i - from) states i
+-- What symbols come to behind so many cells, where all of them are cells, and where one is none.
+module _ (codes : List ℕ) where
+  pub all-coded : (l : List ℕ) (n : ℕ) (states : Bool) → all_coded codes l ≡ true → (all : Bool) × (coded codes n states l ≡ Some (n + length l, all))
+  unfolding all_coded coded pick
+  all-coded [] n states e = let none : n ≡ n + 0 = omega arith in (states, rw (← none) refl)
+  all-coded (b ∷ l) n states e =
+      by-test (eqb (get_or codes b 0) 255) (λ t. absurd (false≢true (rw t at e)))
+      (λ f. let told = all-coded l (n + 1) (states && ltb (get_or codes b 0) 96) (rw f at e) in let one : n + 1 + length l ≡ n + suc (length l) = omega arith in (told.0, rw f (rw one at told.1)))
 
-module _ (text codes : List ℕ) (from end : ℕ) where
-  pub all_start : from ≤ end → AllRunning text codes from end from
-  all_start h = let none : from - from ≡ 0 = omega arith in record { states = true; running = rw none (running-start text codes from end 0 true (omega arith) h) }
-
-  module _ (i : ℕ) (k : AllRunning text codes from end i) where
-    pub all-turn : i < end → i < length text → (get_or codes (get_or text i 0) 0 ≡ 255 → ⊥) → AllRunning text codes from end (i + 1)
-    all-turn h here ne =
-        let within = k.running.within in
-        let one : i - from + 1 ≡ i + 1 - from = omega arith in
-        record { states = k.states && ltb (get_or codes (get_or text i 0) 0) 96; running = rw one at (running-turn text codes from end 0 true (i - from) k.states i k.running h here ne) }
-
-    pub all-over : i < end → i < length text → get_or codes (get_or text i 0) 0 ≡ 255 → AllCoded codes (part text from end) false
-    all-over h here e =
-        record { cells = λ f. absurd (false≢true f); wrong = λ f. sym (running-wrong text codes from end 0 true (i - from) k.states i k.running h here e) }
-
-    pub all_end : end ≤ i → end ≤ length text → AllCoded codes (part text from end) true
-    all_end h le =
-        let within = k.running.within in
-        let size : length (part text from end) ≡ i - from = length-take-le (end - from) (drop from text) (rw (length-drop from text) (omega arith)) ∙ omega arith in
-        record { cells = λ t. (k.states, rw size (sym (running-end text codes from end 0 true (i - from) k.states i k.running h))); wrong = λ f. absurd (true≢false f) }
+  pub wrong-coded : (l : List ℕ) (n : ℕ) (states : Bool) → all_coded codes l ≡ false → coded codes n states l ≡ None
+  unfolding all_coded coded pick
+  wrong-coded [] n states e = absurd (true≢false e)
+  wrong-coded (b ∷ l) n states e = by-test (eqb (get_or codes b 0) 255) (λ t. rw t) (λ f. rw f (wrong-coded l (n + 1) (states && ltb (get_or codes b 0) 96) (rw f at e)))
 
 -- So many cells, and what is left of the text behind them, come to what all comes to; each took a byte of the text.
 pub record Coding (text codes : List ℕ) (start n : ℕ) (states : Bool) (c : Cursor) : Type 0 where
@@ -109,12 +93,12 @@ module _ (text codes : List ℕ) (start : ℕ) where
   coding-start c e = record { passed = omega arith; rest = rw (front-left text start c e) }
 
   -- A run of plain bytes from a cursor up to another, and the next byte.
-  module _ (n : ℕ) (states : Bool) (c d : Cursor) (k : Coding text codes start n states c) (p : PlainRun text c d) (r : Cells)
+  module _ (n : ℕ) (states : Bool) (c d : Cursor) (k : Coding text codes start n states c) (p : PlainRun text c d) (r : Option (ℕ × Bool))
       (e : r ≡ coded codes n states (take (d.at - c.at) (drop c.at text))) where
-    pub run-wrong : r ≡ Cells.Wrong → Cells.Wrong ≡ coded codes 0 true (token_at text start).text
+    pub run-wrong : r ≡ None → None ≡ coded codes 0 true (token_at text start).text
     run-wrong w = sym (ap (coded codes n states) p.rest ∙ coded-wrong codes _ (left text d) n states (sym e ∙ w)) ∙ k.rest
 
-    pub run-coding : (m : ℕ) (all : Bool) → r ≡ Cells.Some m all → Coding text codes start m all d
+    pub run-coding : (m : ℕ) (all : Bool) → r ≡ Some (m, all) → Coding text codes start m all d
     run-coding m all s =
         let told = coded-behind codes _ (left text d) n states m all (sym e ∙ s) in
         record {
@@ -128,28 +112,29 @@ module _ (text codes : List ℕ) (start : ℕ) where
       unfolding coded pick
       coding-turn h = record { passed = omega (arith, y.ahead, k.passed); rest = sym (rw (y.here, ne_eqb (get_or codes b 0) 255 h)) ∙ k.rest }
 
-      pub coding-wrong : get_or codes b 0 ≡ 255 → Cells.Wrong ≡ coded codes 0 true (token_at text start).text
+      pub coding-wrong : get_or codes b 0 ≡ 255 → None ≡ coded codes 0 true (token_at text start).text
       unfolding coded pick
       coding-wrong h = sym (rw (y.here, eq-eqb (get_or codes b 0) 255 h)) ∙ k.rest
 
-    pub coding-end : left text c ≡ [] → Cells.Some n states ≡ coded codes 0 true (token_at text start).text
+    pub coding-end : left text c ≡ [] → Some (n, states) ≡ coded codes 0 true (token_at text start).text
     unfolding coded
     coding-end e = sym (rw e) ∙ k.rest
 
 -- The symbols of a word, by the kind of its token.
 module _ (text work codes : List ℕ) (i start : ℕ) (at : start ≡ get_or work i 0) where
-  pub symbols-word : Kind.Word ≡ (token_at text start).kind → coded codes 0 true (token_at text start).text ≡ symbols_coded codes (word_of text work i)
-  unfolding symbols_coded word_of is_word pick
-  symbols-word e = rw (← at, ← e)
+  pub symbols-word : is_word (token_at text start).kind ≡ true → coded codes 0 true (token_at text start).text ≡ symbols_coded codes (word_of text work i)
+  unfolding symbols_coded word_of pick
+  symbols-word e = rw (← at, e)
 
   pub symbols-told : (end : ℕ) → PlainWord text start end → coded codes 0 true (part text start end) ≡ symbols_coded codes (word_of text work i)
-  symbols-told end p = ap (λ t. coded codes 0 true t.text) (sym p.told) ∙ symbols-word (sym (ap (λ t. t.kind) p.told))
+  unfolding is_word
+  symbols-told end p = ap (λ t. coded codes 0 true t.text) (sym p.told) ∙ symbols-word (ap (λ t. is_word t.kind) p.told)
 
   module _ (other : is_word (token_at text start).kind ≡ false) where
     pub symbols-plus : punct 43 (word_of text work i) ≡ true → coded codes 0 true (token_at text start).text ≡ symbols_coded codes (word_of text work i)
     unfolding symbols_coded word_of pick
     symbols-plus e = rw (← at, other, rw (← at) at e)
 
-    pub symbols-none : punct 43 (word_of text work i) ≡ false → Cells.Wrong ≡ symbols_coded codes (word_of text work i)
+    pub symbols-none : punct 43 (word_of text work i) ≡ false → None ≡ symbols_coded codes (word_of text work i)
     unfolding symbols_coded word_of pick
     symbols-none e = rw (← at, other, rw (← at) at e)

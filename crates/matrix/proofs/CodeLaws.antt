@@ -1,4 +1,5 @@
 -- The cells of a word are told by their codes: how many they are, and whether all are states. Assumes nothing.
+use Rattle.std.specs.Prelude.{Some, None}
 use Prim.Native.Nat.{ℕ, zero, suc, ◌+◌, ◌≤◌, ◌<◌}
 use Rattle.block.proofs.FormatCells.{cell-each}
 use Rattle.block.specs.Cell.{Cell, state, uncertain, polymorphic, missing, gap}
@@ -11,7 +12,7 @@ use Rattle.lexer.proofs.SmallBytes.{Small}
 use Rattle.lexer.specs.Base.{pick, given, lower}
 use Rattle.matrix.specs.RowShape.{coded}
 use Rattle.matrix.proofs.ShapeLaws.{counted}
-use Rattle.matrix.specs.declared.matrix.Cells.{Cells}
+use Rattle.std.specs.Prelude as Std
 use borrow.Author.Tests.{ltb-true, lt-ltb, le-ltb, ne_eqb}
 use lib.Dec.{eqb, ltb}
 use lib.ListN.{length, get_or}
@@ -59,13 +60,13 @@ tells missing h = record { is_some = refl; states = λ cs. refl }
 tells gap h = record { is_some = refl; states = λ cs. refl }
 
 -- Behind so many cells, of which all are states or not.
-counted-from : ℕ → Bool → Option (List Cell) → Cells
-counted-from n all none = Cells.Wrong
-counted-from n all (some cs) = Cells.Some (n + length cs) (all && given (only_states cs))
+counted-from : ℕ → Bool → Option (List Cell) → Std.Option (ℕ × Bool)
+counted-from n all none = None
+counted-from n all (some cs) = Some ((n + length cs), (all && given (only_states cs)))
 
 module _ (f : Format) (codes : List ℕ) (k : Coded f codes) (few : length f.symbols ≤ 74) where
   one_more : (n : ℕ) (all : Bool) (o : Option Cell) (more : Option (List Cell)) → Told o
-      → pick (eqb (code_of o) 255) Cells.Wrong (counted-from (n + 1) (all && ltb (code_of o) 96) more) ≡ counted-from n all (before o more)
+      → pick (eqb (code_of o) 255) None (counted-from (n + 1) (all && ltb (code_of o) 96) more) ≡ counted-from n all (before o more)
   unfolding counted-from before code_of pick
   one_more n all none more h = refl
   one_more n all (some c) none h = rw (tells c h).is_some

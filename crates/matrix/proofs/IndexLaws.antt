@@ -9,11 +9,11 @@ use Rattle.matrix.proofs.PlaceWalk.{Placing, placing-start, placing-turn, placin
 use Rattle.matrix.proofs.StoredRows.{stored_more, stored-kept}
 use Rattle.matrix.specs.Lines.{name_at, stored, names_stored}
 use Rattle.matrix.specs.OrderHeld.{all_below, place_of}
-use Rattle.matrix.specs.RowIndex.{row_alike, Indexed, RowRoom, RowPut, RowsBehind, RowsPut}
+use Rattle.matrix.specs.RowIndex.{row_alike, Indexed, RowRoom, RowPut, RowsBehind}
 use Rattle.slots.proofs.EnteringLaws.{entered-same, slot-behind}
 use Rattle.slots.proofs.HashLaws.{alike-hash}
 use Rattle.slots.proofs.LetterLaws.{alike-letters}
-use Rattle.slots.proofs.SoughtLaws.{First, Sought, sought-start, sought-turn, sought-end, sought-none, sought-value}
+use Rattle.slots.proofs.SoughtLaws.{First, Sought, sought-turn, sought-end, sought-none, sought-value}
 use Rattle.slots.specs.Entering.{EnteredFrom, Entered, NameEntered, window_end}
 use Rattle.slots.specs.Filling.{slot_of}
 use Rattle.slots.specs.Hashes.{hash}
@@ -27,7 +27,7 @@ use lib.Seq.{get_or-set_same, get_or-set_other, take-set-le, take-take}
 use mathlib.Core.Bool.{Bool, true, false}
 use mathlib.Core.List.{List}
 use mathlib.Core.Option.{none, some}
-use mathlib.Core.Path.{◌≡◌, refl, sym, ap, ◌∙◌}
+use mathlib.Core.Path.{◌≡◌, sym, ap, ◌∙◌}
 use native.Mathlib.Numerals.{add-one}
 use native.Mathlib.Omega.{arith}
 
@@ -60,9 +60,6 @@ pub record Searched (text work : List ℕ) (at rows i from stop head p found : �
       → Sought work stop head (letters (name_at text work i)) (row_alike text work at i) rows p found
 
 module _ (text work : List ℕ) (at rows i from stop head : ℕ) where
-  pub searched-start : Searched text work at rows i from stop head from rows
-  searched-start = record { few = omega arith; rest = sought-start work stop head (letters (name_at text work i)) (row_alike text work at i) rows from }
-
   module _ {p found : ℕ} (s : Searched text work at rows i from stop head p found) where
     pub searched-turn : p < stop → {v : ℕ} → v ≡ get_or work p 0 → {r : ℕ} → Nearer (row_alike text work at i) found v r → Searched text work at rows i from stop head (p + 1) r
     searched-turn h is n =
@@ -162,9 +159,6 @@ module _ (text before : List ℕ) (lines rows : ℕ) (t : Table) where
     pub few : k ≤ rows
     pub indexed : all_below t.base (stored before lines rows) → Indexed text work lines k t
 
-  pub indexing-start : Indexing before 0
-  indexing-start = record { size = refl; front = refl; few = omega arith; indexed = λ _. record { each = λ k l. absurd (omega arith) } }
-
   module _ (room : RowsBehind before lines rows t) {work : List ℕ} {k : ℕ} (x : Indexing work k) where
     pub indexing-turn : k < rows → {s : ℕ} → s ≡ get_or work (lines + k) 0 → {after : List ℕ} → NameEntered work after t (name_at text work s) (k + 1) → Indexing after (k + 1)
     indexing-turn h {s} is {after} f =
@@ -179,6 +173,3 @@ module _ (text before : List ℕ) (lines rows : ℕ) (t : Table) where
       where
         start-below : all_below t.base (stored before lines rows) → (j : ℕ) → j < rows → get_or work (lines + j) 0 < t.base
         start-below below j l = rw (start-kept text work before t.base x.front (lines + j) (omega (arith, room.front))) (stored-below t.base before lines rows below j l room.space)
-
-    pub indexing-end : rows ≤ k → RowsPut text before work lines rows t
-    indexing-end h = let all : k ≡ rows = omega (arith, x.few) in record { size = x.size; front = x.front; indexed = rw all at x.indexed }

@@ -3,6 +3,7 @@ pub mod ArrangeWalk
 pub mod BelowLaws
 pub mod CellWalk
 pub mod CodeLaws
+pub mod FaultLaws
 pub mod IndexLaws
 pub mod LineLaws
 pub mod PageNames

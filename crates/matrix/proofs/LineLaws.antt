@@ -108,9 +108,6 @@ ltb-less a n h =
     (λ e. let l = ltb-false a (n - 1) e in le-ltb (suc a) n (omega arith) ∙ sym e)
 
 module _ {text work : List ℕ} {i to taxa : ℕ} where
-  pub counting-start : {j : ℕ} → LineBegins text work i to j → Counting text work i to taxa taxa j
-  counting-start b = record { here = b.here; rest = rw b.lines }
-
   module _ {left j : ℕ} (k : Counting text work i to taxa left j) where
     pub counting-turn : {e next : ℕ} → j < to → 0 < left → LineEnds text work (j + 1) to e → LineBegins text work e to next → Counting text work i to taxa (left - 1) next
     counting-turn {e} {next} h more over begins =
@@ -118,9 +115,6 @@ module _ {text work : List ℕ} {i to taxa : ℕ} where
           here = begins.here;
           rest = sym (ltb-less (length (lines_from false (range text work next to))) left more) ∙ sym (rw (line-then text work j to e next h (k.here h) over begins)) ∙ k.rest;
         }
-
-    pub counting-enough : left ≡ 0 → false ≡ ltb (length (lines_from false (range text work i to))) taxa
-    counting-enough e = sym (le-ltb (length (lines_from false (range text work j to))) left (omega arith)) ∙ k.rest
 
     pub counting-end : to ≤ j → ltb 0 left ≡ ltb (length (lines_from false (range text work i to))) taxa
     counting-end h = sym (rw (lines_end text work j to false h)) ∙ k.rest

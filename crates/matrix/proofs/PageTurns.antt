@@ -1,4 +1,6 @@
 -- One line of an interleaved matrix, as the code judges it by the shape of its page and as it is defined. Assumes nothing.
+use Rattle.std.specs.Option.{unwrap_or}
+use Rattle.std.specs.Prelude.{Some, None, Ok, Err, Option, Result, ⊤}
 use Prim.Native.Nat.{ℕ, zero, suc, ◌+◌, ◌-◌, ◌≤◌, ◌<◌}
 use Rattle.block.proofs.OutcomeLaws.{All, all_one}
 use Rattle.block.proofs.RowsSound.{names-one, length-names}
@@ -13,7 +15,6 @@ use Rattle.block.specs.Names.{known}
 use Rattle.block.specs.Outcome.{Outcome, done, refused, then, fold, need, mapped}
 use Rattle.block.specs.Reading.{Taxon}
 use Rattle.block.specs.Sequential.{Shape, names}
-use Rattle.block.specs.declared.Judged.{Judged}
 use Rattle.lexer.proofs.Basics.{by-test, chosen, or_left}
 use Rattle.lexer.proofs.LabelLaws.{label-some, label-none}
 use Rattle.lexer.proofs.SmallBytes.{Small, token-small}
@@ -32,7 +33,8 @@ use Rattle.matrix.specs.RowShape.{shape, chunk_shape}
 use Rattle.matrix.specs.Taken.{line_taken}
 use Rattle.matrix.specs.declared.interleaved.Pages.{Pages}
 use Rattle.matrix.specs.declared.matrix.Chunk.{Chunk}
-use borrow.Author.Tests.{ltb-true, ltb-false, lt-ltb, le-ltb, eqb-true, eqb-false, ne_eqb}
+use Rattle.lexer.specs.declared.Fault.{Fault}
+use borrow.Author.Tests.{ltb-true, ltb-false, lt-ltb, le-ltb, eqb-true, eqb-false, eq-eqb, ne_eqb}
 use lib.Dec.{eqb, ltb}
 use lib.ListN.{length, get_or, take, drop, length-append, get_or-map}
 use lib.Seq.{get_or-take, get_or-drop, get_or_at}
@@ -90,14 +92,15 @@ Long n t = length t.cells ≡ n
 pub record Shaped (taxa : ℕ) (stored : List (List ℕ)) (q : Pages) (p : Page) : Type 0 where
   pub first : p.first ≡ q.first
   pub row : length p.above ≡ q.row
-  pub width : p.width ≡ q.width
-  pub above : All (Long (q.earlier + q.width)) p.above
+  pub width : p.width ≡ unwrap_or q.width 0
+  pub wide : q.width ≡ Some 0 → ⊥
+  pub above : All (Long (q.earlier + unwrap_or q.width 0)) p.above
   pub below : All (Long q.earlier) p.below
   pub others : List (List ℕ)
   pub named : stored ≡ (names p.above ++ names p.below) ++ others
   pub new : q.first ≡ true → (p.below ≡ []) × (q.earlier ≡ 0) × (others ≡ [])
   pub later : q.first ≡ false → (length p.above + length p.below ≡ taxa) × (length p.above < taxa)
-  pub begun : q.width ≡ 0 → p.above ≡ []
+  pub begun : q.width ≡ None → p.above ≡ []
 
 pub no_rows : (l : List Taxon) → length l ≡ 0 → l ≡ []
 no_rows [] h = refl
@@ -155,19 +158,21 @@ module _ (taxa : ℕ) (stored : List (List ℕ)) (q : Pages) (p : Page) (k : Sha
 
     some : length cells ≡ 0 → ⊥
     unfolding misfit
-    some = eqb-false (length cells) 0 (or_left _ _ (or_left (eqb (length cells) 0 || not (eqb q.width 0) && not (eqb q.width (length cells))) (ltb (characters - q.earlier) (length cells)) fit))
+    some = eqb-false (length cells) 0 (or_left _ _ (or_left (eqb (length cells) 0 || not (eqb (unwrap_or q.width (length cells)) (length cells))) (ltb (characters - q.earlier) (length cells)) fit))
 
-    same : (q.width ≡ 0 → ⊥) → q.width ≡ length cells
+    same : unwrap_or q.width (length cells) ≡ length cells
     unfolding misfit
-    same h = go (eqb q.width (length cells)) refl
-      where
-        go : (b : Bool) → eqb q.width (length cells) ≡ b → q.width ≡ length cells
-        go true e = eqb-true q.width (length cells) e
-        go false e = absurd (false≢true (sym (rw (ne_eqb (length cells) 0 some, ne_eqb q.width 0 h, e) at fit)))
+    same =
+        by-test (eqb (unwrap_or q.width (length cells)) (length cells)) (λ e. eqb-true (unwrap_or q.width (length cells)) (length cells) e)
+        (λ e. absurd (false≢true (sym (rw (ne_eqb (length cells) 0 some, e) at fit))))
+
+    alike_above : (w : Option ℕ) → q.width ≡ w → All (Long (q.earlier + length cells)) p.above
+    alike_above None e = rw (k.begun e) tt
+    alike_above (Some w) e = let one : w ≡ length cells = rw e at same in rw one at (rw e at k.above)
 
     rows_above : All (Long (q.earlier + length cells)) (p.above ++ (row ∷ []))
     rows_above =
-        all_one (Long (q.earlier + length cells)) p.above row (by-test (eqb q.width 0) (λ e. rw (k.begun (eqb-true q.width 0 e)) tt) (λ e. rw (same (eqb-false q.width 0 e)) at k.above))
+        all_one (Long (q.earlier + length cells)) p.above row (alike_above q.width refl)
         (length-append t.cells cells ∙ rw g.cells)
 
     rows_named : stored ++ (n ∷ []) ≡ (names (p.above ++ (row ∷ [])) ++ names (behind p.below)) ++ g.others
@@ -186,12 +191,13 @@ module _ (taxa : ℕ) (stored : List (List ℕ)) (q : Pages) (p : Page) (k : Sha
         none_below : q.row + 1 ≡ taxa → behind p.below ≡ []
         none_below d = by-test q.first (λ f. (g.new f).0) (λ f. let z = g.later f in no_rows (behind p.below) (omega (arith, k.row)))
 
-        whole : q.row + 1 ≡ taxa → Shaped taxa (stored ++ (n ∷ [])) (record { first = false; row = 0; earlier = q.earlier + length cells; width = 0 }) (record { first = false; above = []; below = p.above ++ (row ∷ []); width = 0 })
+        whole : q.row + 1 ≡ taxa → Shaped taxa (stored ++ (n ∷ [])) (record { first = false; row = 0; earlier = q.earlier + length cells; width = None }) (record { first = false; above = []; below = p.above ++ (row ∷ []); width = 0 })
         whole d =
             record {
               first = refl;
               row = refl;
               width = refl;
+              wide = λ e. (let z : ◌≡◌ {A = ℕ} 0 1 = cc in omega arith);
               above = tt;
               below = rows_above;
               others = g.others;
@@ -202,27 +208,31 @@ module _ (taxa : ℕ) (stored : List (List ℕ)) (q : Pages) (p : Page) (k : Sha
             }
 
         partly : (q.row + 1 ≡ taxa → ⊥)
-            → Shaped taxa (stored ++ (n ∷ [])) (record { first = q.first; row = q.row + 1; earlier = q.earlier; width = length cells }) (record { first = p.first; above = p.above ++ (row ∷ []); below = behind p.below; width = length cells })
+            → Shaped taxa (stored ++ (n ∷ [])) (record { first = q.first; row = q.row + 1; earlier = q.earlier; width = Some (length cells) }) (record { first = p.first; above = p.above ++ (row ∷ []); below = behind p.below; width = length cells })
         partly d =
             record {
               first = k.first;
               row = count;
               width = refl;
+              wide = λ e. some cc;
               above = rows_above;
               below = g.below;
               others = g.others;
               named = rows_named;
               new = λ f. ((g.new f).0, (k.new f).1, (g.new f).1);
               later = λ f. let z = g.later f in (omega (arith, count, k.row), omega (arith, count, k.row, d));
-              begun = λ z. absurd (some z);
+              begun = λ e. absurd (let z : ◌≡◌ {A = ℕ} 0 1 = cc in omega arith);
             }
 
 -- Cells fit by the shape of the page as they fit on it.
-fits-tests : (a b c d : Bool) → not a && (b || c) && not d ≡ not (a || not b && not c || d)
-fits-tests true b c d = refl
-fits-tests false true c d = refl
-fits-tests false false true d = refl
-fits-tests false false false d = refl
+fits-tests : (a b d : Bool) → not a && b && not d ≡ not (a || not b || d)
+fits-tests true b d = refl
+fits-tests false true d = refl
+fits-tests false false d = refl
+
+width-tests : (w : Option ℕ) (n : ℕ) → (w ≡ Some 0 → ⊥) → eqb (unwrap_or w 0) 0 || eqb (unwrap_or w 0) n ≡ eqb (unwrap_or w n) n
+width-tests None n h = sym (eq-eqb n n refl)
+width-tests (Some w) n h = rw (ne_eqb w 0 (λ e. h (ap (λ x. Some x) e))) refl
 
 empty-count : {A : Type 0} (l : List A) → is_empty l ≡ eqb (length l) 0
 unfolding is_empty
@@ -247,8 +257,8 @@ module _ (taxa : ℕ) (stored : List (List ℕ)) (q : Pages) (p : Page) (k : Sha
     fits-same : (cells : List Cell) → fits sh p t cells ≡ not (misfit characters q (length cells))
     unfolding fits misfit
     fits-same cells =
-        rw (empty-count cells, k.width, length-append t.cells cells, g.cells, room-left characters q.earlier (length cells) small)
-        (fits-tests (eqb (length cells) 0) (eqb q.width 0) (eqb q.width (length cells)) (ltb (characters - q.earlier) (length cells)))
+        rw (empty-count cells, k.width, width-tests q.width (length cells) k.wide, length-append t.cells cells, g.cells, room-left characters q.earlier (length cells) small)
+        (fits-tests (eqb (length cells) 0) (eqb (unwrap_or q.width (length cells)) (length cells)) (ltb (characters - q.earlier) (length cells)))
 
     on_same : (cells : List Cell) → with_row sh p (record { name = t.name; cells = t.cells ++ cells }) (length cells) ≡ with_line f taxa p (record { name = n; cells = cells })
     unfolding with_line with_row turned
@@ -297,9 +307,9 @@ module _ (text work codes : List ℕ) (f : Format) (c : Coded f codes) (few : le
       ∙ get_or_at (names p.above) t.name (names r ++ k.others) (name_at text work 0) q.row count
 
   -- What the code says of a name agrees with the row that the line goes on with.
-  abbrev Agrees : Judged → Outcome Taxon → Type 0
-  Agrees Judged.Good o = (t : Taxon) × (o ≡ done t) × Continues taxa ns q p n t
-  Agrees (Judged.Refused m j) o = o ≡ refused m j
+  abbrev Agrees : Result ⊤ (Fault ℕ) → Outcome Taxon → Type 0
+  Agrees (Ok tt) o = (t : Taxon) × (o ≡ done t) × Continues taxa ns q p n t
+  Agrees (Err f) o = o ≡ refused f.0 f.1
 
   taxon-new : q.first ≡ true → line_taxon p i n ≡ pick (known n ns) (refused Refusal.TaxonTwice i) (done (record { name = n; cells = [] }))
   unfolding line_taxon new_taxon pick
@@ -360,13 +370,13 @@ module _ (text work codes : List ℕ) (f : Format) (c : Coded f codes) (few : le
   abbrev counted : ℕ → Outcome Pages
   counted s = then (count_from codes (Chunk.Plain 0) (to_newline (range text work (s + 1) to))) (λ m. line_grown taxa characters q s m)
 
-  row-comes : (j : Judged) (o : Outcome Taxon) → Agrees j o
+  row-comes : (j : Result ⊤ (Fault ℕ)) (o : Outcome Taxon) → Agrees j o
       → Comes (then (judged i j) counted) (then o (λ t. then cells (λ l. line_cells matrix p i t l)))
   unfolding then judged
-  row-comes Judged.Good o (t, e, g) =
+  row-comes (Ok tt) o (t, e, g) =
       rw (e, ← cells-counted f codes c few line.rest (line_small text work small (i + 1) to))
       (comes (then (mapped length cells) (λ m. line_grown taxa characters q i m)) (then cells (λ l. line_cells matrix p i t l)) (line-follows taxa ns q p k n f characters head within_all i t g taken cells (ended-good f (plain []) line.rest)))
-  row-comes (Judged.Refused m j) o e = rw e refl
+  row-comes (Err f) o e = rw e refl
 
   pub turn-comes : (left : ℕ) → length (lines_from false (range text work i to)) ≡ suc left
       → Comes (line_shape text work codes at rows taxa characters q i to) (line_turn matrix p line left)

@@ -1,4 +1,5 @@
 -- The walk over the lines of an interleaved matrix: what its turns keep, and what they come to. Assumes nothing.
+use Rattle.std.specs.Prelude.{None, Ok, Err, Result}
 use Prim.Native.Nat.{ℕ, ◌+◌, ◌≤◌, ◌<◌}
 use Rattle.block.proofs.OutcomeLaws.{All, all_one}
 use Rattle.block.specs.Codes.{Coded}
@@ -6,7 +7,7 @@ use Rattle.block.specs.Commands.{newline}
 use Rattle.block.specs.Format.{Format}
 use Rattle.block.specs.Interleaved.{Line, Page, first_page, to_newline, lines_from, lines, line_turn, pages, all_long, interleaved_end, interleaved}
 use Rattle.block.specs.Judged.{judged}
-use Rattle.block.specs.Outcome.{Outcome, done, refused, then}
+use Rattle.block.specs.Outcome.{Outcome, done, refused, then, outcome}
 use Rattle.block.specs.Reading.{Taxon}
 use Rattle.block.specs.Sequential.{Shape, names}
 use Rattle.lexer.proofs.Basics.{by-test, chosen, and_left, and-true, eqb-sym}
@@ -25,16 +26,16 @@ use Rattle.matrix.proofs.StoredLines.{held_more, named_more, page-kept, pages-ke
 use Rattle.matrix.proofs.StoredRows.{cleared-front, names-kept}
 use Rattle.matrix.proofs.WalkedRows.{refused-rows}
 use Rattle.matrix.specs.Lines.{RowsRoom, name_at, stored, names_stored}
-use Rattle.matrix.specs.PagesHeld.{LineBegins, LineEnds, LineRoom, PagesRead, page_held, pages_held, paged, count_from, line_name, misfit, page_grown, line_grown, page_short, line_shape, lined_of, pages_end}
-use Rattle.matrix.specs.RowIndex.{Indexed, RowRoom, RowPut}
-use Rattle.matrix.specs.declared.interleaved.Lined.{Lined}
+use Rattle.matrix.specs.PagesHeld.{LineBegins, LineEnds, LineRoom, PagesRead, page_held, pages_held, paged, count_from, line_name, misfit, page_grown, line_grown, page_short, line_shape, pages_end}
+use Rattle.matrix.specs.RowIndex.{Indexed, RowPut}
 use Rattle.matrix.specs.declared.interleaved.Pages.{Pages}
 use Rattle.matrix.specs.declared.matrix.Chunk.{Chunk}
-use Rattle.matrix.specs.declared.matrix.Rows.{Rows}
 use borrow.Author.Tests.{eqb-true, eqb-false, eq-eqb, ne_eqb}
 use lib.Dec.{eqb}
 use Rattle.slots.specs.Filling.{Cleared, TableFits, TableSound}
 use Rattle.slots.specs.declared.Table.{Table}
+use Rattle.lexer.specs.declared.Fault.{Fault}
+use Rattle.lexer.specs.Refusals.{fault}
 use lib.ListN.{length, take, length-map}
 use mathlib.Core.Bool.{Bool, true, false, ◌&&◌, false≢true}
 use mathlib.Core.List.{List, [], ◌∷◌, ◌++◌}
@@ -89,12 +90,12 @@ end_test taxa characters stored q p k = by-test q.first (λ e. rw (e, (k.new e).
         (λ d. let some = eqb-false q.row 0 d in rw (d, ne_eqb (length p.below) taxa (λ s. some (omega (arith, z.0, k.row)))))
 
 -- So many rows are answered as lines are stored, where the test at the end holds.
-end-rows : (taxa characters head rows : ℕ) (q : Pages) (m : ℕ) → pages_end taxa characters head rows q ≡ Rows.Done m
+end-rows : (taxa characters head rows : ℕ) (q : Pages) (m : ℕ) → pages_end taxa characters head rows q ≡ Ok m
     → (m ≡ rows) × (pick q.first (eqb taxa 0) (eqb q.row 0 && eqb q.earlier characters) ≡ true)
 unfolding pages_end
 end-rows taxa characters head rows q m =
     let test = pick q.first (eqb taxa 0) (eqb q.row 0 && eqb q.earlier characters) in
-    chosen (λ r. r ≡ Rows.Done m → (m ≡ rows) × (test ≡ true)) test (λ t e. (cc, t)) (λ _ e. refused-rows e)
+    chosen (λ r. r ≡ Ok m → (m ≡ rows) × (test ≡ true)) test (λ t e. (cc, t)) (λ _ e. refused-rows e)
 
 -- What the matrix is to be, in a format.
 abbrev matrix_of : ℕ → ℕ → ℕ → Format → Shape
@@ -123,7 +124,7 @@ pub record Paging (text codes before : List ℕ) (at from to taxa characters hea
   pub each : (f : Format) → Coded f codes → length f.symbols ≤ 74 → Walked text before from to taxa characters head f (stored work at rows) q i
 
 module _ {text codes before : List ℕ} {at from to taxa characters head : ℕ} {t : Table} where
-  pub paging-start : {i : ℕ} → LineBegins text before from to i → Paging text codes before at from to taxa characters head t before 0 (record { first = true; row = 0; earlier = 0; width = 0 }) i
+  pub paging-start : {i : ℕ} → LineBegins text before from to i → Paging text codes before at from to taxa characters head t before 0 (record { first = true; row = 0; earlier = 0; width = None }) i
   unfolding stored names_stored page_held first_page names interleaved lines
   paging-start b =
       record {
@@ -140,7 +141,7 @@ module _ {text codes before : List ℕ} {at from to taxa characters head : ℕ} 
         each =
             λ f c few.
             record {
-              shaped = record { first = refl; row = refl; width = refl; above = tt; below = tt; others = []; named = refl; new = λ _. (refl, refl, refl); later = λ e. absurd (false≢true (sym e)); begun = λ _. refl };
+              shaped = record { first = refl; row = refl; width = refl; wide = λ e. (let z : ◌≡◌ {A = ℕ} 0 1 = cc in omega arith); above = tt; below = tt; others = []; named = refl; new = λ _. (refl, refl, refl); later = λ e. absurd (false≢true (sym e)); begun = λ _. refl };
               rest = rw b.lines;
             };
       }
@@ -163,7 +164,7 @@ module _ {text codes before : List ℕ} {at from to taxa characters head : ℕ} 
         rw (end_test taxa characters (names_stored text before (stored work at rows)) q (held f (stored work at rows)) w.shaped)
         (go (pick q.first (eqb taxa 0) (eqb q.row 0 && eqb q.earlier characters)))
       where
-        go : (b : Bool) → paged text work at f taxa to (pick b (Rows.Done rows) (Rows.Refused Refusal.Count head)) ≡ pick b (done (held f (stored work at rows)).below) (refused Refusal.Count head)
+        go : (b : Bool) → paged text work at f taxa to (pick b (Ok rows) (Err (fault Refusal.Count head))) ≡ pick b (done (held f (stored work at rows)).below) (refused Refusal.Count head)
         go true = ap (λ p. done p.below) (page-kept text work before at k.kept f taxa to room.apart first_page (stored work at rows) k.starts)
         go false = refl
 
@@ -171,7 +172,7 @@ module _ {text codes before : List ℕ} {at from to taxa characters head : ℕ} 
     all-passed h = let none : length (lines_from false (range text before i to)) ≡ 0 = rw (lines_end text before i to false h) in omega (arith, k.count)
 
     -- what is answered at the end: as many rows as there are to be, of the names of the first lines
-    end_whole : (f : Format) → Walked text before from to taxa characters head f (stored work at rows) q i → (m : ℕ) → pages_end taxa characters head rows q ≡ Rows.Done m
+    end_whole : (f : Format) → Walked text before from to taxa characters head f (stored work at rows) q i → (m : ℕ) → pages_end taxa characters head rows q ≡ Ok m
         → (taxa ≤ m) × (names (pages_held text work f taxa to (stored work at m)) ≡ names_stored text work (stored work at taxa))
     unfolding pages_held names_stored
     end_whole f w m e =
@@ -186,7 +187,7 @@ module _ {text codes before : List ℕ} {at from to taxa characters head : ℕ} 
           ap names (pages-kept text work before at k.kept f taxa to room.apart (stored work at rows) k.starts) ∙ (first.1 ∙ front-names text work before at k.kept taxa rows k.starts few),
         )
 
-    pub paging-end : {r : Rows} → r ≡ pages_end taxa characters head rows q → to ≤ i → PagesRead text codes before work at from to taxa characters head r
+    pub paging-end : {r : Result ℕ (Fault ℕ)} → r ≡ pages_end taxa characters head rows q → to ≤ i → PagesRead text codes before work at from to taxa characters head r
     paging-end {r} e h =
         record {
           size = k.size;
@@ -200,7 +201,7 @@ module _ {text codes before : List ℕ} {at from to taxa characters head : ℕ} 
         }
 
     -- there is room for a line that begins here
-    pub paging-room : TableSound t → i < to → LineRoom text work at rows to characters q i t
+    paging-room : TableSound t → i < to → LineRoom text work at rows to characters q i t
     paging-room sound h =
         record {
           stored = omega (arith, k.within, k.size, room.behind);
@@ -214,19 +215,16 @@ module _ {text codes before : List ℕ} {at from to taxa characters head : ℕ} 
           indexed = k.indexed;
         }
 
-    pub paging-space : i < to → at + rows < length work
-    paging-space h = omega (arith, k.few, k.size, room.behind)
-
 -- The line that begins here was judged.
-pub record Judging (text codes before : List ℕ) (at from to taxa characters head : ℕ) (t : Table) (work : List ℕ) (rows : ℕ) (q : Pages) (i : ℕ) (r : Lined) : Type 0 where
+pub record Judging (text codes before : List ℕ) (at from to taxa characters head : ℕ) (t : Table) (work : List ℕ) (rows : ℕ) (q : Pages) (i : ℕ) (r : Result Pages (Fault ℕ)) : Type 0 where
   pub room : RowsRoom text before at to
   pub fits : TableFits (at + to) (length before) t
   pub place : Paging text codes before at from to taxa characters head t work rows q i
   pub below : i < to
   pub small : Small text
-  pub lined : lined_of r ≡ line_shape text work codes at rows taxa characters q i to
+  pub lined : outcome r ≡ line_shape text work codes at rows taxa characters q i to
 
-module _ {text codes before : List ℕ} {at from to taxa characters head : ℕ} {t : Table} {work : List ℕ} {rows : ℕ} {q : Pages} {i : ℕ} {r : Lined}
+module _ {text codes before : List ℕ} {at from to taxa characters head : ℕ} {t : Table} {work : List ℕ} {rows : ℕ} {q : Pages} {i : ℕ} {r : Result Pages (Fault ℕ)}
     (j : Judging text codes before at from to taxa characters head t work rows q i r) where
   under : i < at
   under = omega (arith, j.below, j.room.apart)
@@ -249,27 +247,27 @@ module _ {text codes before : List ℕ} {at from to taxa characters head : ℕ} 
 
     -- with the lines behind it
     module _ (later : List Line) (one : lines_from false (range text work i to) ≡ line ∷ later) where
-      come : (o : Outcome Pages) → lined_of r ≡ o
+      come : (o : Outcome Pages) → outcome r ≡ o
           → Comes text work codes f c few j.small at rows taxa characters head (paging-room j.room j.place j.fits.sound j.below).stored q page shaped j.place.earlier i to o (line_turn (matrix_of taxa characters head f) page line (length later))
       come o d =
           rw (← d, j.lined)
           (turn-comes text work codes f c few j.small at rows taxa characters head (paging-room j.room j.place j.fits.sound j.below).stored q page shaped j.place.earlier i to (length later) (ap length one))
 
-      walked-refused : (m : Refusal) (n : ℕ) → r ≡ Lined.Refused m n → refused m n ≡ interleaved (matrix_of taxa characters head f) (range text before from to)
-      unfolding lined_of pages then
-      walked-refused m n d = let z = come (refused m n) (ap lined_of d) in rw (one, z) at rest
+      walked-refused : (m : Refusal) (n : ℕ) → r ≡ Err (fault m n) → refused m n ≡ interleaved (matrix_of taxa characters head f) (range text before from to)
+      unfolding outcome pages then
+      walked-refused m n d = let z = come (refused m n) (ap outcome d) in rw (one, z) at rest
 
-      walked-page : (next : ℕ) → later ≡ lines_from false (range text work next to) → (x : Pages) → r ≡ Lined.Page x → Walked text before from to taxa characters head f (stored work at rows ++ (i ∷ [])) x next
-      unfolding lined_of pages then
+      walked-page : (next : ℕ) → later ≡ lines_from false (range text work next to) → (x : Pages) → r ≡ Ok x → Walked text before from to taxa characters head f (stored work at rows ++ (i ∷ [])) x next
+      unfolding outcome pages then
       walked-page next behind x d =
-          let z = come (done x) (ap lined_of d) in
+          let z = come (done x) (ap outcome d) in
           let more = held_more text work before at j.place.kept f taxa to j.room.apart first_page (stored work at rows) i under in
           record {
             shaped = rw (named_more text work before at j.place.kept f taxa to j.room.apart (stored work at rows) i j.place.starts under, more) z.1;
             rest = rw (more, ← range-kept text work before at j.place.kept next to j.room.apart, ← behind) (rw (one, z.0) at rest);
           }
 
-  pub paging-refused : (m : Refusal) (n : ℕ) → r ≡ Lined.Refused m n → PagesRead text codes before work at from to taxa characters head (Rows.Refused m n)
+  pub paging-refused : (m : Refusal) (n : ℕ) → r ≡ Err (fault m n) → PagesRead text codes before work at from to taxa characters head (Err (fault m n))
   unfolding paged
   paging-refused m n d =
       record {
@@ -283,22 +281,9 @@ module _ {text codes before : List ℕ} {at from to taxa characters head : ℕ} 
         read = λ f c few. walked-refused f c few (lines_from true (range text work (i + 1) to)) (lines-line text work i to j.below here) m n d;
       }
 
-  -- there is room for the line
-  pub paging-put : RowRoom work at rows i t
-  paging-put =
-      record {
-        front = omega (arith, j.place.few, j.below, j.fits.begins);
-        order = omega (arith, j.fits.begins, j.fits.ahead);
-        space = paging-space j.room j.place j.below;
-        table = omega (arith, j.fits.within, j.place.size);
-        sound = j.fits.sound;
-        few = omega (arith, j.place.within, j.room.tokens);
-        word = omega (arith, j.below, j.room.tokens);
-      }
-
-  pub paging-page : {e next : ℕ} → LineEnds text work (i + 1) to e → LineBegins text work e to next → (x : Pages) → r ≡ Lined.Page x → {after : List ℕ} → RowPut text work after at rows i t q.first
+  pub paging-page : {e next : ℕ} → LineEnds text work (i + 1) to e → LineBegins text work e to next → (x : Pages) → r ≡ Ok x → {after : List ℕ} → RowPut text work after at rows i t q.first
       → Paging text codes before at from to taxa characters head t after (rows + 1) x next
-  unfolding lined_of
+  unfolding outcome
   paging-page {e} {next} over begins x d put =
       let k = j.place in
       let b : Bounds q.first q.row characters (done x) = rw (← j.lined, d) at (shape-bounds taxa characters q k.earlier text work codes at rows i to) in
@@ -321,7 +306,7 @@ module _ {text codes before : List ℕ} {at from to taxa characters head : ℕ} 
       }
 
 -- A table was cleared behind the lines before they were read.
-pub read-cleared : {text codes before work after : List ℕ} {at from to taxa characters head : ℕ} {r : Rows} → RowsRoom text before at to → Cleared before work (at + to)
+pub read-cleared : {text codes before work after : List ℕ} {at from to taxa characters head : ℕ} {r : Result ℕ (Fault ℕ)} → RowsRoom text before at to → Cleared before work (at + to)
     → PagesRead text codes work after at from to taxa characters head r → PagesRead text codes before after at from to taxa characters head r
 read-cleared {text} {codes} {before} {work} {after} {at} {from} {to} room c k =
     let front = cleared-front before work at (at + to) c (omega arith) in

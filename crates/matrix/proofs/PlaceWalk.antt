@@ -3,7 +3,10 @@ use Prim.Native.Nat.{ℕ, zero, suc, ◌+◌, ◌-◌, ◌≤◌, ◌<◌}
 use Rattle.block.specs.Names.{known}
 use Rattle.block.specs.Sound.{names_differ}
 use Rattle.lexer.proofs.Basics.{alike_both, alike-sym, and_left, and_right, by-test, not-both, or-true}
-use Rattle.lexer.specs.Base.{pick, alike, given}
+use Rattle.lexer.specs.Base.{pick, alike, given, option_of}
+use Rattle.std.specs.Option.{is_some}
+use Rattle.std.specs.Prelude as Std
+use Rattle.std.specs.Prelude.{Some, None}
 use Rattle.matrix.proofs.RowNames.{stored_next}
 use Rattle.matrix.specs.Lines.{name_at, stored, names_stored}
 use Rattle.matrix.specs.OrderHeld.{place_from, place_of}
@@ -25,6 +28,12 @@ place-known n k (m ∷ r) = by-test (alike n m) (λ t. rw t) (λ f. rw f (place-
 pub known-placed : (n : List ℕ) (names : List (List ℕ)) (o : Option ℕ) → o ≡ place_of n names → given o ≡ known n names
 unfolding place_of
 known-placed n names o e = rw e (sym (place-known n 0 names))
+
+-- The code's answer is something where the definitions' is.
+pub some-given : (o : Std.Option ℕ) → is_some o ≡ given (option_of o)
+unfolding given option_of
+some-given (Some k) = refl
+some-given None = refl
 
 -- What is sought is found alike behind so many names.
 pub record Placing (text work : List ℕ) (at rows i k : ℕ) : Type 0 where

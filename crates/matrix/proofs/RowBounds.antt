@@ -1,4 +1,5 @@
 -- What one word of a sequential matrix can do at most: to the cells of a row, and to where its name stands. Assumes nothing.
+use Rattle.std.specs.Prelude.{Some, None}
 use Prim.Native.Nat.{ℕ, ◌+◌, ◌≤◌, ◌<◌}
 use Rattle.block.specs.Names.{known}
 use Rattle.block.specs.Outcome.{Outcome, done, refused}
@@ -9,8 +10,8 @@ use Rattle.matrix.proofs.SymbolCounts.{chunk-size}
 use Rattle.matrix.specs.RowShape.{so_far, chunk_shape}
 use Rattle.matrix.specs.SequentialShape.{cells_of_row, named_shape, begun_shape, grown_shape, turn_shape}
 use Rattle.matrix.specs.declared.matrix.Chunk.{Chunk}
-use Rattle.matrix.specs.declared.matrix.Sequence.{Sequence}
 use Rattle.matrix.specs.declared.matrix.Turned.{Turned}
+use Rattle.std.specs.Prelude as Std
 use lib.Dec.{eqb, ltb}
 use lib.ListN.{length}
 use mathlib.Core.List.{List}
@@ -19,15 +20,15 @@ use mathlib.Core.Path.{◌≡◌, refl}
 use native.Mathlib.Omega.{arith}
 
 -- The name of an open row stands below an index.
-abbrev pub Named : ℕ → Sequence → Type 0
-Named to Sequence.Between = Unit {0}
-Named to (Sequence.Inside s c) = s < to
+abbrev pub Named : ℕ → Std.Option (ℕ × Chunk) → Type 0
+Named to None = Unit {0}
+Named to (Some (s, c)) = s < to
 
 -- What a turn can do at most: a row has few cells more, and the name of a row that is open or full stands below the end.
-abbrev pub Bounded : ℕ → ℕ → ℕ → Turned → Type 0
-Bounded size cells to (Turned.On line) = (cells_of_row line ≤ cells + size + 1) × Named to line
-Bounded size cells to (Turned.Full s) = s < to
-Bounded size cells to (Turned.Refused m j) = Unit {0}
+abbrev pub Bounded : ℕ → ℕ → ℕ → Outcome Turned → Type 0
+Bounded size cells to (done (Turned.On line)) = (cells_of_row line ≤ cells + size + 1) × Named to line
+Bounded size cells to (done (Turned.Full s)) = s < to
+Bounded size cells to (refused m j) = Unit {0}
 
 module _ (text work codes : List ℕ) (taxa n to : ℕ) (names : List (List ℕ)) (i : ℕ) (h : i < to) where
   grown-bounded : (cells s : ℕ) → s < to → (o : Outcome Chunk) → ((row : Chunk) → o ≡ done row → so_far row ≤ cells + length text + 1) → Bounded (length text) cells to (grown_shape n s i o)
@@ -42,7 +43,7 @@ module _ (text work codes : List ℕ) (taxa n to : ℕ) (names : List (List ℕ)
   named-bounded none = tt
   named-bounded (some m) = chosen (Bounded (length text) 0 to) (known m names) (λ _. tt) (λ _. (omega arith, h))
 
-  pub turn-bounded : (line : Sequence) → Named to line → Bounded (length text) (cells_of_row line) to (turn_shape codes taxa n names line (word_of text work i))
+  pub turn-bounded : (line : Std.Option (ℕ × Chunk)) → Named to line → Bounded (length text) (cells_of_row line) to (turn_shape codes taxa n names line (word_of text work i))
   unfolding turn_shape begun_shape cells_of_row word_of
-  turn-bounded Sequence.Between b = chosen (Bounded (length text) 0 to) (eqb (length names) taxa) (λ _. tt) (λ _. named-bounded (label (word_of text work i)))
-  turn-bounded (Sequence.Inside s c) b = grown-bounded (so_far c) s b (chunk_shape codes c (word_of text work i)) (chunk-size text work codes i c)
+  turn-bounded None b = chosen (Bounded (length text) 0 to) (eqb (length names) taxa) (λ _. tt) (λ _. named-bounded (label (word_of text work i)))
+  turn-bounded (Some (s, c)) b = grown-bounded (so_far c) s b (chunk_shape codes c (word_of text work i)) (chunk-size text work codes i c)

@@ -1,4 +1,6 @@
 -- The names of stored rows, and how a row begins behind them. Assumes nothing.
+use Rattle.block.specs.Outcome.{Outcome, done, refused}
+use Rattle.std.specs.Prelude.{Some}
 use Prim.Native.Nat.{ℕ, suc, ◌+◌, ◌≤◌, ◌<◌}
 use Rattle.block.specs.Names.{known}
 use Rattle.lexer.proofs.LabelLaws.{label-some, label-none}
@@ -10,7 +12,6 @@ use Rattle.lexer.specs.declared.refusal.Refusal.{Refusal}
 use Rattle.matrix.specs.Lines.{name_at, stored, names_stored}
 use Rattle.matrix.specs.SequentialShape.{named_shape, begun_shape}
 use Rattle.matrix.specs.declared.matrix.Chunk.{Chunk}
-use Rattle.matrix.specs.declared.matrix.Sequence.{Sequence}
 use Rattle.matrix.specs.declared.matrix.Turned.{Turned}
 use borrow.Author.Tests.{eq-eqb, ne_eqb}
 use lib.ListN.{length, get_or, drop, length-map, length-drop}
@@ -36,23 +37,23 @@ names-count text work at rows h = length-map (stored work at rows) (name_at text
 
 -- A row begins, or the word is refused.
 module _ (text work : List ℕ) (at rows i taxa : ℕ) (room : at + rows ≤ length work) where
-  abbrev Begun : Turned → Type 0
+  abbrev Begun : Outcome Turned → Type 0
   Begun r = r ≡ begun_shape taxa (names_stored text work (stored work at rows)) (word_of text work i)
 
-  pub begun_all : rows ≡ taxa → Begun (Turned.Refused Refusal.Count i)
+  pub begun_all : rows ≡ taxa → Begun (refused Refusal.Count i)
   unfolding begun_shape word_of pick
   begun_all e = rw (names-count text work at rows room, eq-eqb rows taxa e)
 
   module _ (fewer : rows ≡ taxa → ⊥) where
-    pub begun-nameless : given (label (word_of text work i)) ≡ false → Begun (Turned.Refused Refusal.NotName i)
+    pub begun-nameless : given (label (word_of text work i)) ≡ false → Begun (refused Refusal.NotName i)
     unfolding begun_shape named_shape word_of pick
     begun-nameless e = rw (names-count text work at rows room, ne_eqb rows taxa fewer, label-none (word_of text work i) e)
 
     module _ (name : given (label (word_of text work i)) ≡ true) where
-      pub begun-twice : known (name_at text work i) (names_stored text work (stored work at rows)) ≡ true → Begun (Turned.Refused Refusal.TaxonTwice i)
+      pub begun-twice : known (name_at text work i) (names_stored text work (stored work at rows)) ≡ true → Begun (refused Refusal.TaxonTwice i)
       unfolding begun_shape named_shape name_at word_of pick
       begun-twice e = rw (names-count text work at rows room, ne_eqb rows taxa fewer, label-some (word_of text work i) name, e)
 
-      pub begun-on : known (name_at text work i) (names_stored text work (stored work at rows)) ≡ false → Begun (Turned.On (Sequence.Inside i (Chunk.Plain 0)))
+      pub begun-on : known (name_at text work i) (names_stored text work (stored work at rows)) ≡ false → Begun (done (Turned.On (Some (i, (Chunk.Plain 0)))))
       unfolding begun_shape named_shape name_at word_of pick
       begun-on e = rw (names-count text work at rows room, ne_eqb rows taxa fewer, label-some (word_of text work i) name, e)

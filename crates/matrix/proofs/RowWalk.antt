@@ -1,4 +1,5 @@
 -- One word of a sequential matrix, as the code judges it by shapes and as it is defined. Assumes nothing.
+use Rattle.std.specs.Prelude.{Some, None}
 use Prim.Native.Nat.{ℕ, ◌+◌, ◌≤◌, ◌<◌}
 use Rattle.block.proofs.ChunkSound.{some_inj}
 use Rattle.block.proofs.RowsSound.{length-names}
@@ -26,8 +27,8 @@ use Rattle.matrix.specs.RowShape.{shape, chunk_shape}
 use Rattle.matrix.specs.SequentialShape.{named_shape, begun_shape, grown_shape, turn_shape}
 use Rattle.matrix.specs.Taken.{taken, row_after, row_taken}
 use Rattle.matrix.specs.declared.matrix.Chunk.{Chunk}
-use Rattle.matrix.specs.declared.matrix.Sequence.{Sequence}
 use Rattle.matrix.specs.declared.matrix.Turned.{Turned}
+use Rattle.std.specs.Prelude as Std
 use borrow.Author.Tests.{ltb-false, eqb-true, eqb-false, le-leb, lt-leb}
 use lib.Dec.{eqb, ltb}
 use lib.ListN.{length, get_or}
@@ -39,24 +40,24 @@ use native.Mathlib.Omega.{arith}
 
 module _ (text work : List ℕ) (f : Format) (n to : ℕ) where
   -- The state in which the definition is: in a row, this is the row so far.
-  abbrev pub state : List Taxon → Row → Sequence → S.Sequence
-  state rows row Sequence.Between = S.between rows
-  state rows row (Sequence.Inside s c) = S.inside rows s (name_at text work s) row
+  abbrev pub state : List Taxon → Row → Std.Option (ℕ × Chunk) → S.Sequence
+  state rows row None = S.between rows
+  state rows row (Some (s, c)) = S.inside rows s (name_at text work s) row
 
   -- A row so far has this shape, and the words from here on give the cells that all of its words give.
   pub record Growing (s : ℕ) (c : Chunk) (row : Row) (i : ℕ) : Type 0 where
     pub shaped : shape row ≡ c
     pub cells : row_taken f n row (words (range text work i to)) ≡ row_taken f n (plain []) (words (range text work (s + 1) to))
 
-  abbrev pub Grown : Sequence → Row → ℕ → Type 0
-  Grown Sequence.Between row i = Unit {0}
-  Grown (Sequence.Inside s c) row i = Growing s c row i
+  abbrev pub Grown : Std.Option (ℕ × Chunk) → Row → ℕ → Type 0
+  Grown None row i = Unit {0}
+  Grown (Some (s, c)) row i = Growing s c row i
 
   -- What a word comes to for the code, behind these rows, it comes to by the definition.
-  abbrev pub Follows : List Taxon → ℕ → Turned → Outcome S.Sequence → Type 0
-  Follows rows i (Turned.On line) o = (row : Row) × (o ≡ done (state rows row line)) × Grown line row (i + 1)
-  Follows rows i (Turned.Full s) o = o ≡ done (S.between (rows ++ (row_at text work f n to s ∷ [])))
-  Follows rows i (Turned.Refused m j) o = o ≡ refused m j
+  abbrev pub Follows : List Taxon → ℕ → Outcome Turned → Outcome S.Sequence → Type 0
+  Follows rows i (done (Turned.On line)) o = (row : Row) × (o ≡ done (state rows row line)) × Grown line row (i + 1)
+  Follows rows i (done (Turned.Full s)) o = o ≡ done (S.between (rows ++ (row_at text work f n to s ∷ [])))
+  Follows rows i (refused m j) o = o ≡ refused m j
 
   module _ (codes : List ℕ) (taxa head : ℕ) (rows : List Taxon) (i : ℕ) where
     abbrev sh : S.Shape
@@ -102,7 +103,7 @@ module _ (text work : List ℕ) (f : Format) (n to : ℕ) where
                 let all : cells ≡ row_taken f n (plain []) (words (range text work (s + 1) to)) = rw (le-leb n (length cells) (omega arith)) at behind in
                 ap (λ x. done (S.between (rows ++ (record { name = name_at text work s; cells = x } ∷ [])))) all
 
-            more : length cells ≤ n → (length cells ≡ n → ⊥) → Follows rows i (Turned.On (Sequence.Inside s (Chunk.Plain (length cells)))) (done (S.inside rows s (name_at text work s) (plain cells)))
+            more : length cells ≤ n → (length cells ≡ n → ⊥) → Follows rows i (done (Turned.On (Some (s, (Chunk.Plain (length cells)))))) (done (S.inside rows s (name_at text work s) (plain cells)))
             more l u = (plain cells, refl, record { shaped = refl; cells = rw (lt-leb n (length cells) (omega (arith, u))) at behind })
 
       told : (row : Row) → mapped shape (chunk f row (word_of text work i)) ≡ chunk_shape codes (shape row) (word_of text work i)
@@ -110,9 +111,9 @@ module _ (text work : List ℕ) (f : Format) (n to : ℕ) where
       told = chunk-shaped f codes (word_of text work i) (coded-counted f codes k few (word_of text work i).token.text (token-small text (get_or work i 0) small))
 
       -- The word for the code, and by the definition.
-      pub turn-follows : (line : Sequence) (row : Row) → Grown line row i
+      pub turn-follows : (line : Std.Option (ℕ × Chunk)) (row : Row) → Grown line row i
           → Follows rows i (turn_shape codes taxa n (S.names rows) line (word_of text work i)) (S.sequential_turn sh (state rows row line) (word_of text work i))
       unfolding turn_shape S.sequential_turn word_of
-      turn-follows Sequence.Between row g = begun-follows
-      turn-follows (Sequence.Inside s c) row g =
+      turn-follows None row g = begun-follows
+      turn-follows (Some (s, c)) row g =
           rw (← g.shaped, ← told row) (grown-follows s row (record { shaped = refl; cells = g.cells }) (chunk f row (word_of text work i)) refl)

@@ -1,5 +1,6 @@
 -- A matrix that was read, sequential or interleaved: its rows mean the same by the front of work memory, and all is kept that is promised of them.
 -- Assumes nothing.
+use Rattle.std.specs.Prelude.{Ok, Err, Result}
 use Prim.Native.Nat.{ℕ, ◌≤◌, ◌<◌}
 use Rattle.block.proofs.LinesLight.{pages-light, sequence-light}
 use Rattle.block.proofs.OutcomeLaws.{All}
@@ -21,7 +22,7 @@ use Rattle.matrix.specs.OrderHeld.{all_below}
 use Rattle.matrix.specs.PagesHeld.{PagesRead, pages_held, paged}
 use Rattle.matrix.specs.RowsHeld.{RowsTaken, rows_held, rows_answer}
 use Rattle.matrix.specs.SequentialShape.{RowsRead, sequenced}
-use Rattle.matrix.specs.declared.matrix.Rows.{Rows}
+use Rattle.lexer.specs.declared.Fault.{Fault}
 use lib.ListN.{length, take, drop}
 use lib.Seq.{take-take}
 use mathlib.Core.Bool.{true, false}
@@ -48,16 +49,16 @@ module _ (text codes before after : List ℕ) (at from to taxa characters head :
     unfolding rows_held pick
     as-sequence starts b = front-held starts b ∙ rw e
 
-    sequence-answer : (r : Rows) → ((n : ℕ) → r ≡ Rows.Done n → all_below at (stored after at n)) → rows_answer text after at f taxa characters to r ≡ sequenced text after at f characters to r
+    sequence-answer : (r : Result ℕ (Fault ℕ)) → ((n : ℕ) → r ≡ Ok n → all_below at (stored after at n)) → rows_answer text after at f taxa characters to r ≡ sequenced text after at f characters to r
     unfolding rows_answer sequenced
-    sequence-answer (Rows.Done n) b = ap done (as-sequence (stored after at n) (b n refl))
-    sequence-answer (Rows.Refused m i) b = refl
+    sequence-answer (Ok n) b = ap done (as-sequence (stored after at n) (b n refl))
+    sequence-answer (Err f) b = refl
 
     sequence-rows : B.rows sh (range text before from to) ≡ sequential sh (words (range text before from to))
     unfolding B.rows pick
     sequence-rows = rw e
 
-    pub sequence-taken : {r : Rows} → RowsRead text codes before after at from to taxa characters head r → RowsTaken text before after at from to taxa characters head f r
+    pub sequence-taken : {r : Result ℕ (Fault ℕ)} → RowsRead text codes before after at from to taxa characters head r → RowsTaken text before after at from to taxa characters head f r
     unfolding sequenced
     sequence-taken {r} k =
         record {
@@ -80,10 +81,10 @@ module _ (text codes before after : List ℕ) (at from to taxa characters head :
     unfolding rows_held pick
     as-pages starts b = front-held starts b ∙ rw e
 
-    pages-answer : (r : Rows) → ((n : ℕ) → r ≡ Rows.Done n → all_below at (stored after at n)) → rows_answer text after at f taxa characters to r ≡ paged text after at f taxa to r
+    pages-answer : (r : Result ℕ (Fault ℕ)) → ((n : ℕ) → r ≡ Ok n → all_below at (stored after at n)) → rows_answer text after at f taxa characters to r ≡ paged text after at f taxa to r
     unfolding rows_answer paged
-    pages-answer (Rows.Done n) b = ap done (as-pages (stored after at n) (b n refl))
-    pages-answer (Rows.Refused m i) b = refl
+    pages-answer (Ok n) b = ap done (as-pages (stored after at n) (b n refl))
+    pages-answer (Err f) b = refl
 
     pages-rows : B.rows sh (range text before from to) ≡ interleaved sh (range text before from to)
     unfolding B.rows pick
@@ -93,7 +94,7 @@ module _ (text codes before after : List ℕ) (at from to taxa characters head :
     unfolding stored
     first_below n h b = rw (take-take taxa n (drop at after) h) at (below-front at taxa (stored after at n) b)
 
-    pub pages-taken : {r : Rows} → PagesRead text codes before after at from to taxa characters head r → RowsTaken text before after at from to taxa characters head f r
+    pub pages-taken : {r : Result ℕ (Fault ℕ)} → PagesRead text codes before after at from to taxa characters head r → RowsTaken text before after at from to taxa characters head f r
     unfolding paged
     pages-taken {r} k =
         record {

@@ -1,4 +1,5 @@
 -- Whole sets: what the tokens at a place are by their bytes, and what judging a set comes to. Assumes nothing.
+use Rattle.std.specs.Prelude.{Some}
 use Prim.Native.Nat.{ℕ, zero, suc, ◌+◌, ◌-◌, ◌≤◌, ◌<◌}
 use Rattle.block.specs.Chunk.{closer}
 use Rattle.block.specs.Commands.{newline}
@@ -18,7 +19,6 @@ use Rattle.lexer.specs.Words.{punct, is_mark, is_word, is_line_end}
 use Rattle.lexer.specs.declared.Kind.{Kind}
 use Rattle.matrix.specs.RowShape.{coded, symbols_coded, within_with, chunk_shape}
 use Rattle.matrix.specs.WholeSets.{SetBytes, SetClosed, WholeSet, bracket_of, is_marks, opener, rising, is_set, set_closes, is_simple}
-use Rattle.matrix.specs.declared.matrix.Cells.{Cells}
 use Rattle.matrix.specs.declared.matrix.Chunk.{Chunk}
 use borrow.Author.Tests.{eqb-true, le-leb, le-ltb, lt-leb, lt-ltb, ltb-true, ltb-false, ne_eqb}
 use lib.Dec.{eqb, leb, ltb}
@@ -59,16 +59,16 @@ rising-plain codes least (b ∷ r) t zero h =
 rising-plain codes least (b ∷ r) t (suc k) h =
     rising-plain codes (get_or codes b 0 + 1) r (and_right (leb least (get_or codes b 0) && ltb (get_or codes b 0) 10 && is_simple b) (rising codes (get_or codes b 0 + 1) r) t) k (omega arith)
 
-rising-coded : (codes : List ℕ) (least : ℕ) (l : List ℕ) → rising codes least l ≡ true → (n : ℕ) → coded codes n true l ≡ Cells.Some (n + length l) true
+rising-coded : (codes : List ℕ) (least : ℕ) (l : List ℕ) → rising codes least l ≡ true → (n : ℕ) → coded codes n true l ≡ Some ((n + length l), true)
 unfolding rising coded pick
-rising-coded codes least [] t n = ap (λ m. Cells.Some m true) (omega arith)
+rising-coded codes least [] t n = ap (λ m. Some (m, true)) (omega arith)
 rising-coded codes least (b ∷ r) t n =
     let c = get_or codes b 0 in
     let front = and_left (leb least c && ltb c 10 && is_simple b) (rising codes (c + 1) r) t in
     let few : c < 10 = ltb-true c 10 (and_right (leb least c) (ltb c 10) (and_left (leb least c && ltb c 10) (is_simple b) front)) in
     let good : eqb c 255 ≡ false = ne_eqb c 255 (λ e. omega arith) in
     let state : ltb c 96 ≡ true = lt-ltb c 96 (omega arith) in
-    rw (good, state) (rising-coded codes (c + 1) r (and_right (leb least c && ltb c 10 && is_simple b) (rising codes (c + 1) r) t) (n + 1) ∙ ap (λ m. Cells.Some m true) (omega arith))
+    rw (good, state) (rising-coded codes (c + 1) r (and_right (leb least c && ltb c 10 && is_simple b) (rising codes (c + 1) r) t) (n + 1) ∙ ap (λ m. Some (m, true)) (omega arith))
 
 -- All states rise if the first does and those behind it do: what the code asks of the first, by its code.
 module _ (codes text : List ℕ) (least i end code : ℕ) (e : code ≡ get_or codes (get_or text i 0) 0) (h : i < end) (w : i < length text) where
@@ -121,24 +121,6 @@ mark-at : (text : List ℕ) (i b : ℕ) → i < length text → get_or text i 0 
 unfolding token_at first_token
 mark-at text i b h e = rw (drop-next text i h, e)
 
--- A whole set by what the code asks, one after another.
-module _ (codes text : List ℕ) (start end : ℕ) where
-  pub set-outside : ltb (start + 1) end && ltb end (length text) ≡ false → false ≡ is_set codes text start end
-  unfolding is_set
-  set-outside e = rw e refl
-
-  pub set-no-marks : is_marks (get_or text start 0) (get_or text end 0) ≡ false → false ≡ is_set codes text start end
-  unfolding is_set
-  set-no-marks e = rw (e, and-false (ltb (start + 1) end && ltb end (length text))) refl
-
-  pub set-by-states : ltb (start + 1) end && ltb end (length text) ≡ true → is_marks (get_or text start 0) (get_or text end 0) ≡ true
-      → rising codes 0 (part text (start + 1) end) ≡ is_set codes text start end
-  unfolding is_set
-  set-by-states e m = rw (e, m) refl
-
-pub inside-told : (text : List ℕ) (start end : ℕ) → ltb (start + 1) end && ltb end (length text) ≡ true → (start + 1 < end) × (end < length text)
-inside-told text start end e = (ltb-true (start + 1) end (and_left (ltb (start + 1) end) (ltb end (length text)) e), ltb-true end (length text) (and_right (ltb (start + 1) end) (ltb end (length text)) e))
-
 -- The marks of a set, and its bytes.
 marks-told : (b e : ℕ) → is_marks b e ≡ true → (b ≡ opener (bracket_of b)) × (e ≡ closer (bracket_of b))
 unfolding is_marks opener closer bracket_of pick
@@ -183,29 +165,13 @@ module _ (codes text work : List ℕ) (i to end : ℕ) where
         };
       }
 
--- Where a set closes by what the code asks, one after another; and where one does.
+-- Where a set closes.
 module _ (codes text work : List ℕ) (i to : ℕ) where
   abbrev first : Bool
   first = eqb (get_or work (i + 1) 0) (get_or work i 0 + 1)
 
   abbrev whole : Bool
   whole = is_set codes text (get_or work i 0) (get_or work (i + 2) 0)
-
-  pub closes-few : to ≤ i + 2 → 0 ≡ set_closes codes text work i to
-  unfolding set_closes pick
-  closes-few h = rw (le-ltb (i + 2) to h) refl
-
-  module _ (start second end : ℕ) (s : start ≡ get_or work i 0) (m : second ≡ get_or work (i + 1) 0) (e : end ≡ get_or work (i + 2) 0) where
-    pub closes-apart : (second ≡ start + 1 → ⊥) → 0 ≡ set_closes codes text work i to
-    unfolding set_closes pick
-    closes-apart n = let apart : first ≡ false = rw (← s, ← m) (ne_eqb second (start + 1) n) in rw (apart, and-false (ltb (i + 2) to)) refl
-
-    pub closes_by : i + 2 < to → second ≡ start + 1 → (b : Bool) → is_set codes text start end ≡ b → pick b end 0 ≡ set_closes codes text work i to
-    unfolding set_closes
-    closes_by h n b t =
-        let next : first ≡ true = rw (← s, ← m, n) (eqb_same (start + 1)) in
-        let same : whole ≡ b = rw (← s, ← e) t in
-        rw (lt-ltb (i + 2) to h, next, same, e) refl
 
   whole-closed : ltb (i + 2) to && first && whole ≡ true → SetClosed codes text work i to (get_or work (i + 2) 0)
   whole-closed t =
@@ -243,7 +209,7 @@ module _ {codes text work : List ℕ} {i to : ℕ} {k : Bracket} {states : List 
   pub states-shape : (n mark : ℕ) → chunk_shape codes (Chunk.Within n k mark true) (word_of text work (i + 1)) ≡ done (Chunk.Within n k mark false)
   unfolding chunk_shape punct is_mark pick symbols_coded within_with is_word
   states-shape n mark =
-      let all : coded codes 0 true states ≡ Cells.Some (length states) true = rising-coded codes 0 states s.rises 0 ∙ ap (λ m. Cells.Some m true) (omega arith) in
+      let all : coded codes 0 true states ≡ Some ((length states), true) = rising-coded codes 0 states s.rises 0 ∙ ap (λ m. Some (m, true)) (omega arith) in
       let more : eqb (length states) 0 ≡ false = ne_eqb (length states) 0 (λ e. omega (arith, s.some)) in
       rw (s.word, all, more) refl
 

@@ -1,4 +1,5 @@
 -- A row grows by its shape as it grows itself. Assumes nothing.
+use Rattle.std.specs.Prelude.{Some, None, Bool}
 use Prim.Native.Nat.{ℕ, suc, ◌+◌}
 use Rattle.block.proofs.ChunkSound.{none-some, some_inj}
 use Rattle.block.specs.Cell.{Cell, state, uncertain, polymorphic, missing, gap, insert, insert_all}
@@ -11,8 +12,8 @@ use Rattle.lexer.specs.Base.{pick, is_empty, given, byte}
 use Rattle.lexer.specs.Words.{Numbered, punct, is_word}
 use Rattle.lexer.specs.declared.refusal.Refusal.{Refusal}
 use Rattle.matrix.specs.RowShape.{coded, shape, symbols_coded, plain_with, within_with, chunk_shape}
-use Rattle.matrix.specs.declared.matrix.Cells.{Cells}
 use Rattle.matrix.specs.declared.matrix.Chunk.{Chunk}
+use Rattle.std.specs.Prelude as Std
 use borrow.Author.Tests.{ne_eqb}
 use lib.Dec.{eqb, ltb}
 use lib.ListN.{length, length-append}
@@ -23,9 +24,9 @@ use mathlib.Core.Path.{◌≡◌, refl, sym, ap, ◌∙◌}
 use native.Mathlib.Omega.{arith}
 
 -- What the cells of a word come to: how many they are, and whether all are states.
-unfoldable pub counted : Option (List Cell) → Cells
-counted none = Cells.Wrong
-counted (some cs) = Cells.Some (length cs) (given (only_states cs))
+unfoldable pub counted : Option (List Cell) → Std.Option (ℕ × Bool)
+counted none = None
+counted (some cs) = Some ((length cs), (given (only_states cs)))
 
 -- The states of a word are as many as its cells.
 with-length : (i n : ℕ) (o : Option (List ℕ)) (s : List ℕ) → ((t : List ℕ) → o ≡ some t → length t ≡ n) → with_state i o ≡ some s → length s ≡ suc n
@@ -72,7 +73,7 @@ module _ (f : Format) (codes : List ℕ) (w : Numbered) (told : coded codes 0 tr
       by-test (is_word w.token.kind || punct (byte "+") w) (λ e. rw (e, told) (go (cells_of f w.token.text))) (λ e. rw e refl)
     where
       states : (new : List Cell) (s : Option (List ℕ)) → only_states new ≡ s
-          → mapped shape (then (need s Refusal.StateSet w.index) (λ t. done (within cells k i (insert_all t set)))) ≡ within_with (length cells) k i (is_empty set) w.index (Cells.Some (length new) (given s))
+          → mapped shape (then (need s Refusal.StateSet w.index) (λ t. done (within cells k i (insert_all t set)))) ≡ within_with (length cells) k i (is_empty set) w.index (Some ((length new), (given s)))
       states new none e = refl
       states new (some s) e = rw (all-some s set, states-length new s e) refl
 

@@ -1,6 +1,7 @@
 -- What the stored lines of an interleaved matrix mean. Of a line only the index of its first token, its name, is stored; its cells are what the
 -- tokens behind it give, up to the next newline. And how the code judges a line: by the shape of its page, and by the names that are stored.
-use Rattle.std.specs.Prelude.{ℕ, ◌+◌, ◌-◌, ◌≤◌, ◌<◌, ltb, eqb, length, take, get_or, Bool, true, false, ◌&&◌, ◌||◌, not, List, [], ◌∷◌, ◌++◌, ◌≡◌}
+use Rattle.std.specs.Option.{unwrap_or}
+use Rattle.std.specs.Prelude.{Some, None, ℕ, ◌+◌, ◌-◌, ◌≤◌, ◌<◌, ltb, eqb, length, take, get_or, Bool, true, false, ◌&&◌, ◌||◌, not, List, [], ◌∷◌, ◌++◌, ◌≡◌, Ok, Err, Result, ⊤}
 use Rattle.block.specs.Chunk.{plain}
 use Rattle.block.specs.Codes.{Coded}
 use Rattle.block.specs.Commands.{newline}
@@ -11,7 +12,6 @@ use Rattle.block.specs.Names.{known}
 use Rattle.block.specs.Outcome.{Outcome, done, refused, then, fold}
 use Rattle.block.specs.Reading.{Taxon}
 use Rattle.block.specs.Sequential.{names}
-use Rattle.block.specs.declared.Judged.{Judged}
 use Rattle.lexer.specs.Base.{pick, alike, given}
 use Rattle.lexer.specs.Stored.{word_of, range}
 use Rattle.lexer.specs.Words.{Numbered, label}
@@ -21,13 +21,12 @@ use Rattle.matrix.specs.OrderHeld.{all_below}
 use Rattle.matrix.specs.RowIndex.{Indexed}
 use Rattle.matrix.specs.RowShape.{chunk_shape}
 use Rattle.matrix.specs.Taken.{line_taken}
-use Rattle.matrix.specs.declared.interleaved.LineCells.{LineCells}
-use Rattle.matrix.specs.declared.interleaved.Lined.{Lined}
 use Rattle.matrix.specs.declared.interleaved.Pages.{Pages}
 use Rattle.matrix.specs.declared.matrix.Chunk.{Chunk}
-use Rattle.matrix.specs.declared.matrix.Rows.{Rows}
 use Rattle.slots.specs.Filling.{TableSound}
 use Rattle.slots.specs.declared.Table.{Table}
+use Rattle.lexer.specs.declared.Fault.{Fault}
+use Rattle.lexer.specs.Refusals.{fault}
 
 -- The line that begins with the token of an index, up to the end of the matrix at most: its name, and its cells.
 unfoldable pub line_at : List ℕ → List ℕ → Format → ℕ → ℕ → Taxon
@@ -57,9 +56,9 @@ unfoldable pub pages_held : List ℕ → List ℕ → Format → ℕ → ℕ →
 pages_held text work f taxa to starts = (page_held text work f taxa to first_page starts).below
 
 -- What the code's answer means: the rows of the lines that are stored, so many from an index of work memory on, or the refusal.
-unfoldable pub paged : List ℕ → List ℕ → ℕ → Format → ℕ → ℕ → Rows → Outcome (List Taxon)
-paged text work at f taxa to (Rows.Done n) = done (pages_held text work f taxa to (stored work at n))
-paged text work at f taxa to (Rows.Refused m i) = refused m i
+unfoldable pub paged : List ℕ → List ℕ → ℕ → Format → ℕ → ℕ → Result ℕ (Fault ℕ) → Outcome (List Taxon)
+paged text work at f taxa to (Ok n) = done (pages_held text work f taxa to (stored work at n))
+paged text work at f taxa to (Err e) = refused e.0 e.1
 
 -- An index from which on the same lines begin, the first of them there.
 pub record LineBegins (text work : List ℕ) (i to r : ℕ) : Type 0 where
@@ -81,33 +80,28 @@ end_count (Chunk.Within n k mark empty) = refused Refusal.StateSet mark
 unfoldable pub count_from : List ℕ → Chunk → List Numbered → Outcome ℕ
 count_from codes row ws = then (fold (chunk_shape codes) row ws) end_count
 
--- What the code's answer to the tokens of a line means.
-unfoldable pub cells_counted : LineCells → Outcome ℕ
-cells_counted (LineCells.Count n) = done n
-cells_counted (LineCells.Refused n i) = refused n i
-
 -- The name of a line: on the first page it must be new, later that of the row that stands there.
-unfoldable pub name_judged : Bool → Bool → Bool → Numbered → Judged
+unfoldable pub name_judged : Bool → Bool → Bool → Numbered → Result ⊤ (Fault ℕ)
 name_judged first known same w =
-    let new = pick known (Judged.Refused Refusal.TaxonTwice w.index) Judged.Good in
-    let old = pick same Judged.Good (Judged.Refused Refusal.Row w.index) in
-    pick (given (label w)) (pick first new old) (Judged.Refused Refusal.NotName w.index)
+    let new = pick known (Err (fault Refusal.TaxonTwice w.index)) (Ok tt) in
+    let old = pick same (Ok tt) (Err (fault Refusal.Row w.index)) in
+    pick (given (label w)) (pick first new old) (Err (fault Refusal.NotName w.index))
 
 -- That of the token of an index, behind so many stored lines.
-unfoldable pub line_name : List ℕ → List ℕ → ℕ → ℕ → Pages → ℕ → Judged
+unfoldable pub line_name : List ℕ → List ℕ → ℕ → ℕ → Pages → ℕ → Result ⊤ (Fault ℕ)
 line_name text work at rows p i =
     let n = name_at text work i in
     name_judged p.first (known n (names_stored text work (stored work at rows))) (alike n (name_at text work (get_or work (at + p.row) 0))) (word_of text work i)
 
 -- So many cells do not fit on the page: there are none, or not as many as in the lines before, or too many with those of earlier pages.
 unfoldable pub misfit : ℕ → Pages → ℕ → Bool
-misfit characters p n = eqb n 0 || not (eqb p.width 0) && not (eqb p.width n) || ltb (characters - p.earlier) n
+misfit characters p n = eqb n 0 || not (eqb (unwrap_or p.width n) n) || ltb (characters - p.earlier) n
 
 -- The page with one row more, by its shape; a whole page is turned.
 unfoldable pub page_grown : ℕ → Pages → ℕ → Pages
 page_grown taxa p n =
-    let next : Pages = record { first = false; row = 0; earlier = p.earlier + n; width = 0 } in
-    let same : Pages = record { first = p.first; row = p.row + 1; earlier = p.earlier; width = n } in
+    let next : Pages = record { first = false; row = 0; earlier = p.earlier + n; width = None } in
+    let same : Pages = record { first = p.first; row = p.row + 1; earlier = p.earlier; width = Some n } in
     pick (eqb (p.row + 1) taxa) next same
 
 unfoldable pub line_grown : ℕ → ℕ → Pages → ℕ → ℕ → Outcome Pages
@@ -137,27 +131,22 @@ line_shape text work codes at rows taxa characters p i to =
     then (count_from codes (Chunk.Plain 0) (to_newline (range text work (s + 1) to))) (λ n.
     line_grown taxa characters p s n)))
 
--- What the code's answer to a line means.
-unfoldable pub lined_of : Lined → Outcome Pages
-lined_of (Lined.Page p) = done p
-lined_of (Lined.Refused n i) = refused n i
-
 -- The end of an interleaved matrix: pages must be whole, and its rows, of which there are to be so many, as long as they are to be.
-unfoldable pub pages_end : ℕ → ℕ → ℕ → ℕ → Pages → Rows
+unfoldable pub pages_end : ℕ → ℕ → ℕ → ℕ → Pages → Result ℕ (Fault ℕ)
 pages_end taxa characters head rows p =
-    pick (pick p.first (eqb taxa 0) (eqb p.row 0 && eqb p.earlier characters)) (Rows.Done rows) (Rows.Refused Refusal.Count head)
+    pick (pick p.first (eqb taxa 0) (eqb p.row 0 && eqb p.earlier characters)) (Ok rows) (Err (fault Refusal.Count head))
 
 -- What is promised of an interleaved matrix that was read from the tokens of two indices: work memory is as it was in front of the lines, of which there
 -- are no more than tokens, all that begin in these, each known by a token in front; and whatever format has these codes, the answer means the rows that
 -- it reads, or its refusal, and the first lines, one a row, have the names of the rows.
-pub record PagesRead (text codes before after : List ℕ) (at from to taxa characters head : ℕ) (r : Rows) : Type 0 where
+pub record PagesRead (text codes before after : List ℕ) (at from to taxa characters head : ℕ) (r : Result ℕ (Fault ℕ)) : Type 0 where
   pub size : length after ≡ length before
   pub kept : take at after ≡ take at before
-  pub few : (n : ℕ) → r ≡ Rows.Done n → n ≤ to
-  pub count : (n : ℕ) → r ≡ Rows.Done n → n ≡ length (lines (range text before from to))
-  pub below : (n : ℕ) → r ≡ Rows.Done n → all_below at (stored after at n)
-  pub enough : (f : Format) → Coded f codes → length f.symbols ≤ 74 → (n : ℕ) → r ≡ Rows.Done n → taxa ≤ n
-  pub named : (f : Format) → Coded f codes → length f.symbols ≤ 74 → (n : ℕ) → r ≡ Rows.Done n
+  pub few : (n : ℕ) → r ≡ Ok n → n ≤ to
+  pub count : (n : ℕ) → r ≡ Ok n → n ≡ length (lines (range text before from to))
+  pub below : (n : ℕ) → r ≡ Ok n → all_below at (stored after at n)
+  pub enough : (f : Format) → Coded f codes → length f.symbols ≤ 74 → (n : ℕ) → r ≡ Ok n → taxa ≤ n
+  pub named : (f : Format) → Coded f codes → length f.symbols ≤ 74 → (n : ℕ) → r ≡ Ok n
       → names (pages_held text after f taxa to (stored after at n)) ≡ names_stored text after (stored after at taxa)
   pub read : (f : Format) → Coded f codes → length f.symbols ≤ 74
       → paged text after at f taxa to r ≡ interleaved (record { taxa = taxa; characters = characters; format = f; head = head }) (range text before from to)

@@ -7,11 +7,11 @@ use Rattle.slots.specs.Entering.{Entered}
 use Rattle.slots.specs.Filling.{TableSound}
 use Rattle.slots.specs.declared.Table.{Table}
 
--- Has the stored row of a number the name of a is_word
+-- Has the stored row of a number the name of a word?
 unfoldable pub row_alike : List ℕ → List ℕ → ℕ → ℕ → ℕ → Bool
 row_alike text work at i k = alike (name_at text work i) (name_at text work (get_or work (at + k) 0))
 
--- Is there a row of a number among so many, and has it the name of a is_word
+-- Is there a row of a number among so many, and has it the name of a word?
 unfoldable pub row_named : List ℕ → List ℕ → ℕ → ℕ → ℕ → ℕ → Bool
 row_named text work at rows i k = ltb k rows && row_alike text work at i k
 

@@ -8,7 +8,7 @@ use Rattle.lexer.specs.PlainWords.{part, word_token}
 use Rattle.lexer.specs.Stored.{word_of}
 use Rattle.lexer.specs.declared.Kind.{Kind}
 
--- Is the byte a letter or a is_digit
+-- Is the byte a letter or a digit?
 unfoldable pub is_simple : ℕ → Bool
 is_simple b = (leb (byte "0") b && leb b (byte "9")) || (leb (byte "A") b && leb b (byte "Z")) || (leb (byte "a") b && leb b (byte "z"))
 

@@ -4,13 +4,18 @@ ghost use Rattle.std.specs.Prelude.{◌-◌, ◌≤◌, length, take, drop, true
 ghost use Rattle.lexer.specs.Lexing.{token_at};
 ghost use Rattle.lexer.specs.PlainWords.{part};
 ghost use Rattle.lexer.specs.Stored.{word_of};
-ghost use Rattle.matrix.specs.RowShape.{AllCoded, coded, symbols_coded};
+ghost use Rattle.matrix.specs.RowShape.{all_coded, coded, symbols_coded};
 
-use super::matrix::Cells;
 use block::punct;
-use lexer::{Item, Kind, entry_of, kind_at, next_byte, plain_run, start_of, text_start, word_stop};
+use lexer::{Kind, entry_of, kind_at, next_byte, plain_run, start_of, text_start, word_stop};
 
-// What the symbols of a text from a place up to an end come to behind so many cells, by their codes.
+// Among the codes of a format: that of a byte that is no symbol, and how many are those of states, which come first.
+const NO_CELL: u8 = 255;
+
+const STATES: u8 = 96;
+
+// What the symbols of a text from a place up to an end come to behind so many cells, by their codes: how many cells there are then, and whether all are
+// states; none where one is no symbol.
 fn run_cells(
     text: &[u8],
     from: usize,
@@ -18,42 +23,36 @@ fn run_cells(
     codes: &[u8; 256],
     count: usize,
     all: bool,
-) -> Cells
+) -> Option<(usize, bool)>
     requires { (count ≤ from) × (from ≤ end) × (end - from ≤ length text.now - from) }
     ensures { result ≡ coded codes.now count all (take (end - from) (drop from text.now)) }
 {
     let mut n = count;
     let mut states = all;
-    let mut i = from;
-    while i < end {
+    for i in from..end {
         let code = entry_of(codes, text[i]);
-        if code == 255 {
-            return Cells::Wrong;
+        if code == NO_CELL {
+            return None;
         }
         n += 1;
-        states = states & (code < 96);
-        i += 1;
+        states &= code < STATES;
     }
-    Cells::Some(n, states)
+    Some((n, states))
 }
 
 // Are the symbols of a text from a place up to an end all cells?
 pub fn all_cells(text: &[u8], from: usize, end: usize, codes: &[u8; 256]) -> bool
     requires { (from ≤ end) × (end ≤ length text.now) }
-    ensures { AllCoded codes.now (part text.now from end) result }
+    ensures { result ≡ all_coded codes.now (part text.now from end) }
 {
-    let mut i = from;
-    while i < end {
-        if entry_of(codes, text[i]) == 255 {
-            return false;
-        }
-        i += 1;
-    }
-    true
+    text[from..end]
+        .iter()
+        .all(|&b| entry_of(codes, b) != NO_CELL)
 }
 
-// What the symbols of a token's text come to, by their codes: a run of plain bytes, then the next byte, and so on.
-fn word_cells(text: &[u8], start: usize, codes: &[u8; 256]) -> Cells
+// What the symbols of a token's text come to, by their codes: how many cells they are, and whether all are states; none where one is no symbol. A run of
+// plain bytes is passed, then the next byte, and so on.
+fn word_cells(text: &[u8], start: usize, codes: &[u8; 256]) -> Option<(usize, bool)>
     ensures { result ≡ coded codes.now 0 true (token_at text.now start).text }
 {
     let mut n = 0;
@@ -62,30 +61,22 @@ fn word_cells(text: &[u8], start: usize, codes: &[u8; 256]) -> Cells
     loop {
         let from = c.at;
         let run = plain_run(text, c);
-        match run_cells(text, from, run.at, codes, n, states) {
-            Cells::Some(k, all) => match next_byte(text, run) {
-                Item::Byte(b, d) => {
-                    let code = entry_of(codes, b);
-                    if code == 255 {
-                        return Cells::Wrong;
-                    }
-                    n = k + 1;
-                    states = all & (code < 96);
-                    c = d;
-                }
-                Item::End => {
-                    return Cells::Some(k, all);
-                }
-            },
-            Cells::Wrong => {
-                return Cells::Wrong;
-            }
+        let (k, all) = run_cells(text, from, run.at, codes, n, states)?;
+        let Some((b, d)) = next_byte(text, run) else {
+            return Some((k, all));
+        };
+        let code = entry_of(codes, b);
+        if code == NO_CELL {
+            return None;
         }
+        n = k + 1;
+        states = all & (code < STATES);
+        c = d;
     }
 }
 
-// What the symbols of a word come to. Besides a word only the mark `+` can be a symbol. Most words are told at once by their bytes.
-pub fn symbols(text: &[u8], work: &[u32], i: usize, codes: &[u8; 256]) -> Cells
+// What the symbols of a word come to: how many cells they are, and whether all are states; none where one is no symbol. Besides a word only the mark `+` can be a symbol. Most words are told at once by their bytes.
+pub fn symbols(text: &[u8], work: &[u32], i: usize, codes: &[u8; 256]) -> Option<(usize, bool)>
     ensures { result ≡ symbols_coded codes.now (word_of text.now work.now i) }
 {
     let start = start_of(work, i);
@@ -93,13 +84,8 @@ pub fn symbols(text: &[u8], work: &[u32], i: usize, codes: &[u8; 256]) -> Cells
     if start < end {
         return run_cells(text, start, end, codes, 0, true);
     }
-    match kind_at(text, start) {
-        Kind::Word => word_cells(text, start, codes),
-        _ => {
-            if punct(text, work, i, 43) {
-                return word_cells(text, start, codes);
-            }
-            Cells::Wrong
-        }
+    if matches!(kind_at(text, start), Kind::Word) || punct(text, work, i, b'+') {
+        return word_cells(text, start, codes);
     }
+    None
 }

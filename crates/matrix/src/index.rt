@@ -1,8 +1,7 @@
 // Stored rows by a table of their names, so that the row of a name is found without a walk over all of them.
 
 ghost use Rattle.std.specs.Prelude.{◌+◌, ◌≤◌, ◌<◌, ltb, length, ◌≡◌};
-ghost use Rattle.block.specs.Cells.{index_of};
-ghost use Rattle.lexer.specs.Base.{pick};
+ghost use Rattle.lexer.specs.Base.{option_of, pick};
 ghost use Rattle.matrix.specs.Lines.{name_at, names_stored, stored};
 ghost use Rattle.matrix.specs.OrderHeld.{IndexBelow, place_of};
 ghost use Rattle.matrix.specs.RowIndex.{Indexed, RowPut, RowRoom, RowsBehind, RowsPut, row_alike};
@@ -12,11 +11,21 @@ ghost use Rattle.slots.specs.Seeking.{Nearer};
 ghost use Rattle.std.proofs.Math.Option.{none, some};
 
 use super::order::{row_name, row_of};
-use block::{Index, TaxonNumber, alike};
+use block::{TaxonNumber, alike};
 use lexer::start_of;
 use slots::{Entry, Table, enter_name, name_entry, name_slot, window_end};
 
-// The row that was found so far, or an earlier one: that whose number, with 1 added, a slot holds, if its name is that of a word.
+// Stored rows: the index of work memory from which on the numbers of their names' words stand, how many they are, and the table of their names.
+#[derive(Clone, Copy)]
+pub struct Rows {
+    pub at: usize,
+    pub count: usize,
+    pub table: Table,
+}
+
+// The row that was found so far, or an earlier one: that whose number, with 1 added, a slot holds, if its name is that of a word. Where none was found,
+// `found` is the number of all rows: it is no Option, since it is also the bound that a slot's number is held against.
+#[tactic(auto, unfolding(crate::specs::RowIndex::row_alike, crate::specs::Lines::name_at))]
 fn nearer(text: &[u8], work: &[u32], at: usize, i: usize, found: usize, value: usize) -> usize
     requires { (0 < value) × (at + found ≤ length work.now) }
     ensures { Nearer (row_alike text.now work.now at i) found value result }
@@ -31,42 +40,40 @@ fn nearer(text: &[u8], work: &[u32], at: usize, i: usize, found: usize, value: u
 }
 
 // A row that was found, if it is one of so many.
-fn row_index(found: usize, rows: usize) -> Index
-    ensures result_value { index_of result ≡ pick (ltb found rows) (some found) none }
+#[tactic(auto, unfolding(lexer::specs::Base::option_of, lexer::specs::Base::pick))]
+fn row_index(found: usize, rows: usize) -> Option<usize>
+    ensures result_value { option_of result ≡ pick (ltb found rows) (some found) none }
     ensures index_below { IndexBelow rows result }
 {
-    if found < rows {
-        return Index::At(found);
-    }
-    Index::None
+    (found < rows).then_some(found)
 }
 
-// The first stored row, of so many from an index of work memory on, whose name is that of a word, by a table of their names. Where no slot of its window is
-// free, it is in the trie behind the table; only where that was given up, all rows are looked at.
-pub fn row_found(text: &[u8], work: &[u32], at: usize, rows: usize, i: usize, table: Table) -> Index
-    requires { (at + rows ≤ length work.now) × TableSound table }
-    ensures result_value { Indexed text.now work.now at rows table → index_of result ≡ place_of (name_at text.now work.now i) (names_stored text.now work.now (stored work.now at rows)) }
-    ensures index_below { IndexBelow rows result }
+// The first stored row whose name is that of a word, by the table of their names. Where no slot of its window is free, it is in the trie behind the
+// table; only where that was given up, all rows are looked at.
+pub fn row_found(text: &[u8], work: &[u32], rows: Rows, i: usize) -> Option<usize>
+    requires { (rows.at + rows.count ≤ length work.now) × TableSound rows.table }
+    ensures result_value { Indexed text.now work.now rows.at rows.count rows.table → option_of result ≡ place_of (name_at text.now work.now i) (names_stored text.now work.now (stored work.now rows.at rows.count)) }
+    ensures index_below { IndexBelow rows.count result }
 {
-    let mut found = rows;
-    let mut p = name_slot(text, work, i, table);
-    let stop = window_end(table, p);
-    while p < stop {
+    let mut found = rows.count;
+    let first = name_slot(text, work, i, rows.table);
+    let stop = window_end(rows.table, first);
+    for p in first..stop {
         let value = start_of(work, p);
         if value == 0 {
-            return row_index(found, rows);
+            return row_index(found, rows.count);
         }
-        found = nearer(text, work, at, i, found, value);
-        p += 1;
+        found = nearer(text, work, rows.at, i, found, value);
     }
-    match name_entry(text, work, i, table.end) {
-        Entry::Unknown => row_of(text, work, at, rows, i),
-        Entry::None => row_index(found, rows),
-        Entry::Value(value) => row_index(nearer(text, work, at, i, found, value), rows),
+    match name_entry(text, work, i, rows.table.end) {
+        Entry::Unknown => row_of(text, work, rows.at, rows.count, i),
+        Entry::None => row_index(found, rows.count),
+        Entry::Value(value) => row_index(nearer(text, work, rows.at, i, found, value), rows.count),
     }
 }
 
 // The row of a number, whose name is a word, is put into the table.
+#[tactic(auto, unfolding(crate::specs::Lines::name_at))]
 fn insert_row(text: &[u8], work: &mut [u32], row: usize, s: usize, table: Table)
     requires { TableSound table × (table.base ≤ table.end) × (table.end ≤ length work.old) × (row ≤ 1048576) }
     ensures { NameEntered work.old work.new table (name_at text.now work.old s) (row + 1) }
@@ -74,35 +81,25 @@ fn insert_row(text: &[u8], work: &mut [u32], row: usize, s: usize, table: Table)
     enter_name(text, work, s, (row + 1) as u32, table);
 }
 
-// One row more, whose name is a word: it is stored behind the others, and where its name is to be new, put into the table of their names.
-pub fn put_row(
-    text: &[u8],
-    work: &mut [u32],
-    at: usize,
-    rows: usize,
-    s: usize,
-    table: Table,
-    new: bool,
-)
-    requires { RowRoom work.old at rows s table }
-    ensures { RowPut text.now work.old work.new at rows s table new }
+// One row more, whose name is a word: it is stored behind the others, and where its name is to be new, put into their table.
+pub fn put_row(text: &[u8], work: &mut [u32], rows: Rows, s: usize, new: bool)
+    requires { RowRoom work.old rows.at rows.count s rows.table }
+    ensures { RowPut text.now work.old work.new rows.at rows.count s rows.table new }
 {
-    let end = at + rows;
+    let end = rows.at + rows.count;
     work[end] = s as u32;
     if new {
-        insert_row(text, work, rows, s, table);
+        insert_row(text, work, rows.count, s, rows.table);
     }
 }
 
-// So many stored rows, from an index of work memory on, are put into a table behind them.
-pub fn index_rows(text: &[u8], work: &mut [u32], lines: usize, rows: usize, table: Table)
-    requires { RowsBehind work.old lines rows table }
-    ensures { RowsPut text.now work.old work.new lines rows table }
+// Stored rows are put into their table, which is behind them.
+pub fn index_rows(text: &[u8], work: &mut [u32], rows: Rows)
+    requires { RowsBehind work.old rows.at rows.count rows.table }
+    ensures { RowsPut text.now work.old work.new rows.at rows.count rows.table }
 {
-    let mut k = 0;
-    while k < rows {
-        let s = row_name(work, lines, TaxonNumber(k + 1));
-        insert_row(text, work, k, s, table);
-        k += 1;
+    for k in 0..rows.count {
+        let s = row_name(work, rows.at, TaxonNumber(k + 1));
+        insert_row(text, work, k, s, rows.table);
     }
 }

@@ -12,6 +12,5 @@ pub mod passing;
 pub mod rows;
 pub mod sets;
 
-pub use matrix::Rows;
 pub use order::arrange;
 pub use rows::rows_of;

@@ -1,4 +1,5 @@
 -- The names of rows entered one by one, and looked for one by one: what is kept at each row. Assumes nothing.
+use Rattle.std.specs.Prelude.{Some, None, Option, is_some}
 use Prim.Native.Nat.{ℕ, suc, ◌+◌, ◌-◌, ◌≤◌, ◌<◌}
 use Rattle.block.specs.Names.{known}
 use Rattle.block.specs.Reading.{Taxon}
@@ -7,7 +8,6 @@ use Rattle.naming.proofs.JudgedLaws.{few-turn, few-hit, few-over, row_told, row-
 use Rattle.naming.specs.Entries.{lines_at, name_lines, none_known, new_differ, known_count, few_known, RowsJudged, Remains, LinesKept, RoomFor, RoomOf, LineEntered, NamesEntered}
 use Rattle.naming.specs.Lines.{line_at}
 use Rattle.naming.specs.Rows.{RowPassed, NamesJudged}
-use Rattle.naming.specs.declared.names.Entered.{Entered}
 use Rattle.slots.specs.declared.Table.{Table}
 use lib.Dec.{leb-zero}
 use lib.ListN.{length, take}
@@ -54,7 +54,7 @@ module _ (b : List ℕ) (characters at rows : ℕ) (t : Table) (slots₀ places�
 
       module _ (after placed : List ℕ) {name : ℕ} (begins : here < length b → name ≡ here + 5) {r : Bool}
           (entered : LineEntered b name slots after places placed count t r) where
-        pub entering-twice : r ≡ true → NamesEntered b characters at rows slots₀ after places₀ placed t Entered.Twice
+        pub entering-twice : r ≡ true → NamesEntered b characters at rows slots₀ after places₀ placed t None
         entering-twice y =
             record {
               size = entered.size ∙ k.size;
@@ -76,7 +76,7 @@ module _ (b : List ℕ) (characters at rows : ℕ) (t : Table) (slots₀ places�
               passed = passed-turn k.passed h begins (sym entered.told ∙ n) passed (λ m. ap (known m) more);
             }
 
-    pub entering-end : rows ≤ count → NamesEntered b characters at rows slots₀ slots places₀ places t (Entered.Behind here)
+    pub entering-end : rows ≤ count → NamesEntered b characters at rows slots₀ slots places₀ places t (Some here)
     entering-end h =
         let all : rows ≡ count = omega (arith, k.passed.few) in
         record {
@@ -92,26 +92,23 @@ pub record Looking (b : List ℕ) (characters at rows : ℕ) (es : List (List �
   pub rest : Remains b characters at rows (few_known es most) here left (few_known es room)
 
 module _ (b : List ℕ) (characters at rows : ℕ) (es : List (List ℕ)) (most here left room : ℕ) (k : Looking b characters at rows es most here left room) where
-  module _ (h : 0 < left) {name : ℕ} (begins : here < length b → name ≡ here + 5) {r : Bool} (told : r ≡ known (line_at b name) es) where
-    one_more : left ≡ suc (left - 1)
-    one_more = omega arith
-
+  module _ {less : ℕ} (one_more : left ≡ suc less) {name : ℕ} (begins : here < length b → name ≡ here + 5) {r : Bool} (told : r ≡ known (line_at b name) es) where
     pub looking-over : r ≡ true → room ≡ 0 → RowsJudged b characters at rows (few_known es most) false
     looking-over y z =
         k.rest.back false
-        (rw one_more (row_told b characters here (few_known es room) begins false (left - 1) (λ ns. rw z (few-over es (line_at b name) ns (sym told ∙ y)))))
+        (rw one_more (row_told b characters here (few_known es room) begins false less (λ ns. rw z (few-over es (line_at b name) ns (sym told ∙ y)))))
 
     module _ {next : ℕ} (passed : RowPassed b here characters next) where
-      looking-next : {less : ℕ} → ((ns : List (List ℕ)) → few_known es room (line_at b name ∷ ns) ≡ few_known es less ns) → Looking b characters at rows es most next (left - 1) less
-      looking-next {less} same =
-          record { rest = remains-on (rw one_more at k.rest) (row-turn b characters here (few_known es room) begins (few_known es less) (left - 1) passed same) }
+      looking-next : {few : ℕ} → ((ns : List (List ℕ)) → few_known es room (line_at b name ∷ ns) ≡ few_known es few ns) → Looking b characters at rows es most next less few
+      looking-next {few} same =
+          record { rest = remains-on (rw one_more at k.rest) (row-turn b characters here (few_known es room) begins (few_known es few) less passed same) }
 
-      pub looking-hit : r ≡ true → (room ≡ 0 → ⊥) → Looking b characters at rows es most next (left - 1) (room - 1)
+      pub looking-hit : r ≡ true → (room ≡ 0 → ⊥) → Looking b characters at rows es most next less (room - 1)
       looking-hit y some =
           let more : room ≡ suc (room - 1) = omega (arith, some) in
           looking-next (λ ns. ap (λ m. few_known es m (line_at b name ∷ ns)) more ∙ few-hit es (line_at b name) ns (room - 1) (sym told ∙ y))
 
-      pub looking-turn : r ≡ false → Looking b characters at rows es most next (left - 1) room
+      pub looking-turn : r ≡ false → Looking b characters at rows es most next less room
       looking-turn n = looking-next (λ ns. few-turn es (line_at b name) ns room (sym told ∙ n))
 
   pub looking-end : left ≤ 0 → RowsJudged b characters at rows (few_known es most) true
@@ -122,18 +119,24 @@ module _ (b : List ℕ) (characters at rows : ℕ) (es : List (List ℕ)) (most 
       none (t ∷ ts) e = absurd (omega arith)
 
 -- The names of all rows were entered, or two are alike.
-module _ (b : List ℕ) (characters at rows : ℕ) (slots after places placed : List ℕ) (t : Table) {r : Entered}
+module _ (b : List ℕ) (characters at rows : ℕ) (slots after places placed : List ℕ) (t : Table) {r : Option ℕ}
     (e : NamesEntered b characters at rows slots after places placed t r) where
   none-behind : rows + 0 ≡ rows
   none-behind = omega arith
 
-  pub all-twice : r ≡ Entered.Twice → NamesJudged b at rows characters false
+  all-twice : r ≡ None → NamesJudged b at rows characters false
   all-twice is = by_lines b characters at rows false (rw none-behind at (e.twice is 0))
 
-  pub all-entered : (next : ℕ) → r ≡ Entered.Behind next → NamesJudged b at rows characters true
+  all-entered : (next : ℕ) → r ≡ Some next → NamesJudged b at rows characters true
   unfolding names_differ
   all-entered next is = by_lines b characters at rows true (rw none-behind at ((e.rest next is 0).back true nothing))
     where
       nothing : RowsJudged b characters next 0 (new_differ (lines_at b (take rows placed))) true
       nothing [] rest z s = unfold new_differ none_known name_lines in refl
       nothing (t ∷ ts) rest z s = absurd (omega arith)
+
+-- Whether there is a place behind the rows tells whether their names differ.
+pub entered-told : (b : List ℕ) (characters at rows : ℕ) (slots after places placed : List ℕ) (t : Table) {r : Option ℕ}
+    → NamesEntered b characters at rows slots after places placed t r → NamesJudged b at rows characters (is_some r)
+entered-told b characters at rows slots after places placed t {r = Some next} e = all-entered b characters at rows slots after places placed t e next refl
+entered-told b characters at rows slots after places placed t {r = None} e = all-twice b characters at rows slots after places placed t e refl

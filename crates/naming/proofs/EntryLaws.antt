@@ -2,10 +2,10 @@
 use Prim.Native.Nat.{ℕ, zero, suc, ◌+◌, ◌*◌, ◌-◌, ◌%◌, ◌≤◌, ◌<◌}
 use Rattle.block.specs.Names.{known}
 use Rattle.lexer.proofs.Basics.{by-test, not-both, or-first, or-second, or-both, or_left, or_right}
-use Rattle.lexer.proofs.ListLaws.{drop-next}
 use Rattle.lexer.specs.Base.{pick, alike, lower}
 use Rattle.naming.proofs.LineLaws.{before-end, line-ended, line-more, lower-mark}
 use Rattle.naming.specs.Entries.{lines_at, LinesKept, LineSought, RoomFor, SlotLike, LineEntered, line_slot}
+use Rattle.std.specs.List.{list_any}
 use Rattle.naming.specs.Lines.{line_at}
 use Rattle.slots.proofs.FillingLaws.{kept_next, none_kept}
 use Rattle.slots.proofs.HashLaws.{alike-hash}
@@ -14,7 +14,7 @@ use Rattle.slots.specs.Hashes.{mixed, hash_from, hash}
 use Rattle.slots.specs.declared.Table.{Table}
 use borrow.Author.Tests.{eqb-true, eqb-false, ltb-true, ltb-false}
 use lib.Dec.{eqb, ltb, lit<}
-use lib.ListN.{length, get_or, take, drop, set, length-set, drop_of_length-le}
+use lib.ListN.{length, get_or, take, set, length-set}
 use lib.Seq.{get_or-take, get_or-set_same, get_or-set_other, length-take-le, take-suc-set}
 use mathlib.Core.Bool.{Bool, true, false, ◌||◌, false≢true}
 use mathlib.Core.List.{List, [], ◌∷◌}
@@ -66,30 +66,15 @@ module _ (b n : List ℕ) where
   known-miss [] none = refl
   known-miss (p ∷ ps) none = or-both (none 0 (omega arith)) (known-miss ps (λ k h. none (suc k) (omega arith)))
 
--- A line was looked for among those at so many places, as far as here.
-pub record Searching (b : List ℕ) (at : ℕ) (places : List ℕ) (count k : ℕ) : Type 0 where
-  pub rest : known (line_at b at) (lines_at b (drop k (take count places))) ≡ known (line_at b at) (lines_at b (take count places))
+-- A line is among those at some places where one of them is like it.
+pub any-known : (b n ps : List ℕ) → list_any (λ p. alike n (line_at b p)) ps ≡ known n (lines_at b ps)
+unfolding known lines_at
+any-known b n [] = refl
+any-known b n (p ∷ ps) = rw (any-known b n ps)
 
 module _ (b : List ℕ) (at : ℕ) (places : List ℕ) (count : ℕ) (room : count ≤ length places) where
   entries : length (take count places) ≡ count
   entries = length-take-le count places room
-
-  module _ (k : ℕ) (s : Searching b at places count k) where
-    module _ (h : k < count) {r : Bool} (is : r ≡ alike (line_at b at) (line_at b (get_or places k 0))) where
-      next-entry : drop k (take count places) ≡ get_or places k 0 ∷ drop (k + 1) (take count places)
-      next-entry = drop-next (take count places) k (omega (arith, entries)) ∙ ap (λ p. p ∷ drop (k + 1) (take count places)) (get_or-take count places k 0 h)
-
-      pub searching-found : r ≡ true → true ≡ known (line_at b at) (lines_at b (take count places))
-      unfolding known lines_at
-      searching-found t = sym (rw (next-entry, sym is ∙ t)) ∙ s.rest
-
-      pub searching-turn : r ≡ false → Searching b at places count (k + 1)
-      unfolding known lines_at
-      searching-turn f = record { rest = sym (rw (next-entry, sym is ∙ f)) ∙ s.rest }
-
-    pub searching-end : count ≤ k → false ≡ known (line_at b at) (lines_at b (take count places))
-    unfolding known lines_at
-    searching-end h = sym (rw (drop_of_length-le (take count places) {i = k} (omega (arith, entries)))) ∙ s.rest
 
   -- The number in a slot, with 1 taken away, is none of so many; or it is, and its line is compared.
   pub slot-none : (value : ℕ) → eqb value 0 || ltb count value ≡ true → SlotLike b at (take count places) value false

@@ -1,4 +1,5 @@
 -- A name and its escaped line: byte by byte, and that names are alike exactly where their escaped bytes are. Assumes nothing.
+use Rattle.std.specs.Prelude.{Some, None, Option}
 use Prim.Native.Nat.{ℕ, ◌+◌, ◌≤◌, ◌<◌}
 use Rattle.lexer.proofs.ListLaws.{drop-next}
 use Rattle.lexer.specs.Base.{pick, alike, lower}
@@ -76,11 +77,19 @@ escape-slash c e = rw e
 
 -- The bytes of a backslash and a byte, and those of a byte that is not escaped, in front of a line.
 module _ (b : List ℕ) (i : ℕ) where
-  bytes-none : (front : List ℕ) → ((m : List ℕ) → alike (front ++ m) (line_at b i) ≡ false) → BytesLike b i front 0
-  bytes-none front none = record { none = λ _. none; some = λ s. absurd (s refl); within = λ s. absurd (s refl) }
+  bytes-none : (front : List ℕ) → ((m : List ℕ) → alike (front ++ m) (line_at b i) ≡ false) → BytesLike b i front None
+  bytes-none front none = record { none = λ _. none; some = λ j e. absurd (cc); within = λ j e. absurd (cc) }
+
+  bytes-some : (front : List ℕ) (j : ℕ) → ((m : List ℕ) → alike (front ++ m) (line_at b i) ≡ alike m (line_at b j)) → j ≤ length b → BytesLike b i front (Some j)
+  bytes-some front j some near =
+      record {
+        none = λ e. absurd (cc);
+        some = λ k e m. let same : j ≡ k = cc in some m ∙ ap (λ n. alike m (line_at b n)) same;
+        within = λ k e. let same : j ≡ k = cc in rw (← same) near;
+      }
 
   module _ {x : ℕ} (is : x ≡ get_or b i 10) (y : ℕ) where
-    pub slash-other : (x ≡ 92 → ⊥) → BytesLike b i (92 ∷ y ∷ []) 0
+    pub slash-other : (x ≡ 92 → ⊥) → BytesLike b i (92 ∷ y ∷ []) None
     unfolding lower pick
     slash-other other = bytes-none (92 ∷ y ∷ []) (λ m. first-unlike b i 92 (y ∷ m) (λ e. other (is ∙ lower-mark (get_or b i 10) 92 (lit< tt) (sym e))))
 
@@ -92,18 +101,17 @@ module _ (b : List ℕ) (i : ℕ) where
       slash-passed m = first-like b i 92 (y ∷ m) (ap lower (sym slash ∙ is)) (λ e. omega arith)
 
       module _ {u v : ℕ} (small : u ≡ lower y) (second : v ≡ lower (get_or b (i + 1) 10)) where
-        pub slash-second : (u ≡ v → ⊥) → BytesLike b i (92 ∷ y ∷ []) 0
+        pub slash-second : (u ≡ v → ⊥) → BytesLike b i (92 ∷ y ∷ []) None
         slash-second other = bytes-none (92 ∷ y ∷ []) (λ m. slash-passed m ∙ first-unlike b (i + 1) y m (λ e. other (small ∙ e ∙ sym second)))
 
-        pub slash-both : (y ≡ 10 → ⊥) → u ≡ v → BytesLike b i (92 ∷ y ∷ []) 2
+        pub slash-within : (y ≡ 10 → ⊥) → u ≡ v → i + 2 ≤ length b
+        slash-within other e = omega (arith, first-within b (i + 1) y [] (sym small ∙ e ∙ second) other)
+
+        pub slash-both : (y ≡ 10 → ⊥) → u ≡ v → BytesLike b i (92 ∷ y ∷ []) (Some (i + 2))
         slash-both other e =
             let same : lower y ≡ lower (get_or b (i + 1) 10) = sym small ∙ e ∙ second in
             let two : i + 1 + 1 ≡ i + 2 = omega arith in
-            record {
-              none = λ z. absurd (omega arith);
-              some = λ _ m. slash-passed m ∙ first-like b (i + 1) y m same other ∙ ap (λ n. alike m (line_at b n)) two;
-              within = λ _. omega (arith, first-within b (i + 1) y [] same other);
-            }
+            bytes-some (92 ∷ y ∷ []) (i + 2) (λ m. slash-passed m ∙ first-like b (i + 1) y m same other ∙ ap (λ n. alike m (line_at b n)) two) (slash-within other e)
 
   module _ (c : ℕ) (line : c ≡ 10 → ⊥) (slash : c ≡ 92 → ⊥) where
     escape-plain : escape c ≡ c ∷ []
@@ -111,19 +119,18 @@ module _ (b : List ℕ) (i : ℕ) where
     escape-plain = rw (ne_eqb c 10 line, ne_eqb c 92 slash)
 
     module _ {u v : ℕ} (small : u ≡ lower c) (is : v ≡ lower (get_or b i 10)) where
-      pub plain-unlike : (u ≡ v → ⊥) → BytesLike b i (escape c) 0
+      pub plain-unlike : (u ≡ v → ⊥) → BytesLike b i (escape c) None
       plain-unlike other =
           rw escape-plain (bytes-none (c ∷ []) (λ m. first-unlike b i c m (λ e. other (small ∙ e ∙ sym is))))
 
-      pub plain-like : u ≡ v → BytesLike b i (escape c) 1
+      pub plain-within : u ≡ v → i < length b
+      plain-within e = first-within b i c [] (sym small ∙ e ∙ is) line
+
+      pub plain-like : u ≡ v → BytesLike b i (escape c) (Some (i + 1))
       plain-like e =
           let same : lower c ≡ lower (get_or b i 10) = sym small ∙ e ∙ is in
-          rw escape-plain
-          (record {
-            none = λ z. absurd (omega arith);
-            some = λ _ m. first-like b i c m same line;
-            within = λ _. omega (arith, first-within b i c [] same line);
-          })
+          let near : i + 1 ≤ length b = omega (arith, plain-within e) in
+          rw escape-plain (bytes-some (c ∷ []) (i + 1) (λ m. first-like b i c m same line) near)
 
 -- A name is compared with a line as far as here: what is left of both decides.
 pub record Naming (b : List ℕ) (at : ℕ) (name : List ℕ) (i k : ℕ) : Type 0 where
@@ -134,14 +141,14 @@ module _ (b : List ℕ) (at : ℕ) (name : List ℕ) where
   named r e n rest here = e ∙ ap (alike (escaped name)) (line-name b at n rest here) ∙ escaped-alike name n
 
   module _ (i k : ℕ) (w : Naming b at name i k) where
-    module _ (h : k < length name) {r : ℕ} (like : BytesLike b i (escape (get_or name k 0)) r) where
-      pub naming-unlike : r ≡ 0 → NameLike b at name false
+    module _ (h : k < length name) {r : Option ℕ} (like : BytesLike b i (escape (get_or name k 0)) r) where
+      pub naming-unlike : r ≡ None → NameLike b at name false
       unfolding escaped
       naming-unlike z = named false (sym (rw (drop-next name k h) (like.none z (escaped (drop (k + 1) name)))) ∙ w.rest)
 
-      pub naming-turn : (r ≡ 0 → ⊥) → Naming b at name (i + r) (k + 1)
+      pub naming-turn : (j : ℕ) → r ≡ Some j → Naming b at name j (k + 1)
       unfolding escaped
-      naming-turn some = record { rest = sym (rw (drop-next name k h) (like.some some (escaped (drop (k + 1) name)))) ∙ w.rest }
+      naming-turn j some = record { rest = sym (rw (drop-next name k h) (like.some j some (escaped (drop (k + 1) name)))) ∙ w.rest }
 
     pub naming-end : length name ≤ k → {x : ℕ} → x ≡ get_or b i 10 → NameLike b at name (eqb x 10)
     unfolding escaped

@@ -8,9 +8,8 @@ use Rattle.naming.proofs.EntryLaws.{known-hit}
 use Rattle.naming.proofs.OrderLaws.{by_order}
 use Rattle.naming.specs.Entries.{lines_at}
 use Rattle.naming.specs.Lines.{line_at}
+use Rattle.std.specs.List.{CopiedTo, SameBelow}
 use Rattle.naming.specs.Order.{before, Rising, Parted, inserted, LineInserted}
-use borrow.Author.Tests.{eqb-true, eqb-false}
-use lib.Dec.{eqb}
 use lib.ListN.{length, get_or, take, drop, set, length-set, length-append, length-drop, get_or-append}
 use lib.Seq.{get_or-take, get_or-drop, get_or_at, get_or-append-add, get_or-set_same, get_or-set_other, length-take-le, ext_get_or}
 use mathlib.Core.Bool.{Bool, true, false, ◌||◌, false≢true}
@@ -102,67 +101,38 @@ module _ (b : List ℕ) (at : ℕ) (places : List ℕ) (count n : ℕ) {r : Bool
           rising = λ _. rw is (rising-inserted b at n (take count places) rising parted (sym told ∙ f));
         }
 
--- Places are moved on by one, from the last of so many on, as far as here.
-pub record Moving (places₀ : List ℕ) (count n : ℕ) (places : List ℕ) (k : ℕ) : Type 0 where
-  pub room : length places ≡ length places₀
-  pub few : k ≤ count
-  pub least : n ≤ k
-  pub front : (i : ℕ) → i ≤ k → get_or places i 0 ≡ get_or places₀ i 0
-  pub behind : (i : ℕ) → k < i → i ≤ count → get_or places i 0 ≡ get_or places₀ (i - 1) 0
+-- So many places, those behind the first n moved on by one, with one place in the gap.
+module _ (places : List ℕ) (count n : ℕ) (fits : count < length places) (few : n ≤ count) (moved : List ℕ) (room : length moved ≡ length places)
+    (behind : CopiedTo places moved n (n + 1) (count - n)) (front : SameBelow places moved (n + 1)) where
+  pub place_put : (at : ℕ) → take (count + 1) (set moved n at) ≡ inserted at n (take count places)
+  place_put at = ext_get_or 0 (take (count + 1) (set moved n at)) (inserted at n (take count places)) (same_size ∙ sym more) (λ i h. go i (omega (arith, same_size)))
+    where
+      whole : length (take count places) ≡ count
+      whole = length-take-le count places (omega arith)
 
-module _ (places₀ : List ℕ) (count n : ℕ) (fits : count < length places₀) where
-  pub moving-start : n ≤ count → Moving places₀ count n places₀ count
-  moving-start h = record { room = refl; few = omega arith; least = h; front = λ i h. refl; behind = λ i h l. absurd (omega arith) }
+      within : n ≤ length (take count places)
+      within = omega (arith, whole)
 
-  module _ (places : List ℕ) (k : ℕ) (s : Moving places₀ count n places k) where
-    pub moving-turn : n < k → Moving places₀ count n (set places k (get_or places (k - 1) 0)) (k - 1)
-    moving-turn h =
-        let last = get_or places (k - 1) 0 in
-        record {
-          room = length-set places k last ∙ s.room;
-          few = omega (arith, s.few);
-          least = omega arith;
-          front = λ i l. get_or-set_other places k i last 0 (λ e. omega arith) ∙ s.front i (omega arith);
-          behind = λ i l m.
-              by-test (eqb i k)
-              (λ e.
-              let here = eqb-true i k e in
-              rw here (get_or-set_same places k last 0 (omega (arith, s.room, s.few)) ∙ s.front (k - 1) (omega arith)))
-              (λ e.
-              let other = eqb-false i k e in
-              get_or-set_other places k i last 0 other ∙ s.behind i (omega (arith, other)) m);
-        }
+      more : length (inserted at n (take count places)) ≡ count + 1
+      more = omega (arith, inserted-length at n (take count places) within, whole)
 
-    moved : (at : ℕ) → take (count + 1) (set places k at) ≡ inserted at k (take count places₀)
-    moved at = ext_get_or 0 (take (count + 1) (set places k at)) (inserted at k (take count places₀)) (same_size ∙ sym more) (λ i h. go i (omega (arith, same_size)))
-      where
-        whole : length (take count places₀) ≡ count
-        whole = length-take-le count places₀ (omega arith)
+      same_size : length (take (count + 1) (set moved n at)) ≡ count + 1
+      same_size = length-take-le (count + 1) (set moved n at) (omega (arith, length-set moved n at))
 
-        within : k ≤ length (take count places₀)
-        within = omega (arith, whole, s.few)
-
-        more : length (inserted at k (take count places₀)) ≡ count + 1
-        more = omega (arith, inserted-length at k (take count places₀) within, whole)
-
-        same_size : length (take (count + 1) (set places k at)) ≡ count + 1
-        same_size = length-take-le (count + 1) (set places k at) (omega (arith, length-set places k at, s.room))
-
-        go : (i : ℕ) → i < count + 1 → get_or (take (count + 1) (set places k at)) i 0 ≡ get_or (inserted at k (take count places₀)) i 0
-        go i h =
-            get_or-take (count + 1) (set places k at) i 0 h
-            ∙ by_order i k
-            (λ below.
-            get_or-set_other places k i at 0 (λ e. omega arith)
-            ∙ s.front i (omega arith)
-            ∙ sym (get_or-take count places₀ i 0 (omega (arith, s.few)))
-            ∙ sym (inserted-front at k (take count places₀) within i below))
-            (λ here. rw here (get_or-set_same places k at 0 (omega (arith, s.room, s.few)) ∙ sym (inserted-here at k (take count places₀) within)))
-            (λ above.
-            get_or-set_other places k i at 0 (λ e. omega arith)
-            ∙ s.behind i above (omega arith)
-            ∙ sym (get_or-take count places₀ (i - 1) 0 (omega arith))
-            ∙ sym (inserted-behind at k (take count places₀) within i above))
-
-    pub moving-end : (at : ℕ) → k ≤ n → take (count + 1) (set places k at) ≡ inserted at n (take count places₀)
-    moving-end at h = let here : n ≡ k = omega (arith, s.least) in rw here (moved at)
+      go : (i : ℕ) → i < count + 1 → get_or (take (count + 1) (set moved n at)) i 0 ≡ get_or (inserted at n (take count places)) i 0
+      go i h =
+          get_or-take (count + 1) (set moved n at) i 0 h
+          ∙ by_order i n
+          (λ below.
+          get_or-set_other moved n i at 0 (λ e. omega arith)
+          ∙ front i 0 (omega arith)
+          ∙ sym (get_or-take count places i 0 (omega arith))
+          ∙ sym (inserted-front at n (take count places) within i below))
+          (λ here. rw here (get_or-set_same moved n at 0 (omega arith) ∙ sym (inserted-here at n (take count places) within)))
+          (λ above.
+          let from : n + (i - (n + 1)) ≡ i - 1 = omega arith in
+          get_or-set_other moved n i at 0 (λ e. omega arith)
+          ∙ behind i 0 (omega arith) (omega arith)
+          ∙ ap (λ k. get_or places k 0) from
+          ∙ sym (get_or-take count places (i - 1) 0 (omega arith))
+          ∙ sym (inserted-behind at n (take count places) within i above))

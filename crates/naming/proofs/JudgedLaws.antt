@@ -1,4 +1,5 @@
 -- Names that differ, with those that were entered, and what remains to be judged of rows. Assumes nothing.
+use Rattle.std.specs.Prelude.{Some, None}
 use Prim.Native.Nat.{ℕ, suc, ◌+◌, ◌-◌, ◌≤◌, ◌<◌}
 use Rattle.block.specs.Names.{known}
 use Rattle.block.specs.Reading.{Taxon}
@@ -11,7 +12,6 @@ use Rattle.naming.proofs.RowLaws.{row_before, row-name}
 use Rattle.naming.specs.Entries.{name_lines, none_known, new_differ, known_count, few_known, RowsJudged, Remains}
 use Rattle.naming.specs.Lines.{line_at}
 use Rattle.naming.specs.Rows.{RowsStand, RowPassed, NamesJudged}
-use Rattle.naming.specs.declared.names.Entered.{Entered}
 use Rattle.record.specs.Spell.{escaped}
 use lib.Dec.{leb, leb-suc-zero, leb-suc-suc}
 use lib.ListN.{length}
@@ -137,13 +137,13 @@ module _ {b : List ℕ} {characters : ℕ} where
   remains-same at rows test other same = record { back = λ r judged ts rest e s. judged ts rest e s ∙ sym (same (name_lines ts)) }
 
 -- The answer that two are alike is no place, and places that are the same answer are equal.
-pub twice-nowhere : (next : ℕ) → Entered.Twice ≡ Entered.Behind next → ⊥
+pub twice-nowhere : (next : ℕ) → None ≡ Some next → ⊥
 twice-nowhere next e = let z : ◌≡◌ {A = ℕ} 0 1 = cc in omega arith
 
-pub behind-somewhere : (next : ℕ) → Entered.Behind next ≡ Entered.Twice → ⊥
+pub behind-somewhere : (next : ℕ) → Some next ≡ None → ⊥
 behind-somewhere next e = let z : ◌≡◌ {A = ℕ} 0 1 = cc in omega arith
 
-pub same-behind : (p q : ℕ) → Entered.Behind p ≡ Entered.Behind q → p ≡ q
+pub same-behind : (p q : ℕ) → Some p ≡ Some q → p ≡ q
 same-behind p q e = cc
 
 -- The names of so many rows were entered, and are different; those behind remain to be judged, with any rows behind all.

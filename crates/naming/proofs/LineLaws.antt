@@ -1,4 +1,5 @@
 -- The line at a place, byte by byte: where it ends, and what stands before it does. Assumes nothing.
+use Rattle.std.specs.Prelude.{Some, None, Option}
 use Prim.Native.Nat.{ℕ, zero, suc, ◌+◌, ◌-◌, ◌≤◌, ◌<◌}
 use Rattle.lexer.proofs.Basics.{by-test, or_left, or_right}
 use Rattle.lexer.proofs.ListLaws.{drop-next}
@@ -11,6 +12,11 @@ use mathlib.Core.Bool.{Bool, true, false, ◌&&◌}
 use mathlib.Core.List.{List, [], ◌∷◌, ◌++◌}
 use mathlib.Core.Path.{◌≡◌, refl, sym, ap, ◌∙◌}
 use native.Mathlib.Omega.{arith}
+
+-- Where there is no place behind, there is none.
+pub no_place : (r : Option ℕ) → ((next : ℕ) → r ≡ Some next → ⊥) → r ≡ None
+no_place None not = refl
+no_place (Some next) not = absurd (not next refl)
 
 -- Below the length it is one byte, whatever stands for those behind the end.
 pub same_byte : (l : List ℕ) (i d e : ℕ) → i < length l → get_or l i d ≡ get_or l i e

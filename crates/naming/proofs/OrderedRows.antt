@@ -1,11 +1,11 @@
 -- The names of rows kept in order, inserted one by one: what is kept at each row. Assumes nothing.
+use Rattle.std.specs.Prelude.{Some, None, Option}
 use Prim.Native.Nat.{ℕ, ◌+◌, ◌-◌, ◌≤◌, ◌<◌}
 use Rattle.block.specs.Sound.{names_differ}
 use Rattle.naming.proofs.JudgedLaws.{remains-all, remains-on, twice-nowhere, behind-somewhere, same-behind, NamesPassed, passed_start, passed-twice, passed-turn, passed-end, behind-known, behind-new, by_lines, none_left}
 use Rattle.naming.specs.Entries.{lines_at, few_known, RowsJudged, Remains}
 use Rattle.naming.specs.Order.{Rising, LineInserted, NamesInserted, RowsHeld}
 use Rattle.naming.specs.Rows.{RowPassed, NamesJudged}
-use Rattle.naming.specs.declared.names.Entered.{Entered}
 use lib.ListN.{length, take}
 use mathlib.Core.Bool.{Bool, true, false}
 use mathlib.Core.List.{List}
@@ -25,7 +25,7 @@ module _ (b : List ℕ) (characters at rows : ℕ) (places₀ : List ℕ) where
 
   module _ (places : List ℕ) (here count : ℕ) (k : Inserting b characters at rows places₀ places here count) where
     module _ (h : count < rows) (placed : List ℕ) {name : ℕ} (begins : here < length b → name ≡ here + 5) {r : Bool} (is : LineInserted b name places placed count r) where
-      pub inserting-twice : r ≡ true → NamesInserted b characters at rows placed Entered.Twice
+      pub inserting-twice : r ≡ true → NamesInserted b characters at rows placed None
       inserting-twice y =
           record {
             twice = λ _. passed-twice k.passed h begins (sym is.told ∙ y);
@@ -38,7 +38,7 @@ module _ (b : List ℕ) (characters at rows : ℕ) (places₀ : List ℕ) where
       inserting-turn n kept passed =
           record { room = kept ∙ k.room; rising = is.rising n; passed = passed-turn k.passed h begins (sym is.told ∙ n) passed (is.more n) }
 
-    pub inserting-end : rows ≤ count → NamesInserted b characters at rows places (Entered.Behind here)
+    pub inserting-end : rows ≤ count → NamesInserted b characters at rows places (Some here)
     inserting-end h =
         let all : rows ≡ count = omega (arith, k.passed.few) in
         record {
@@ -48,15 +48,15 @@ module _ (b : List ℕ) (characters at rows : ℕ) (places₀ : List ℕ) where
         }
 
 -- The names of some rows, inserted, and those of the rows behind them.
-module _ (b : List ℕ) (characters at rows later : ℕ) (placed : List ℕ) {r : Entered} (e : NamesInserted b characters at rows placed r) where
-  pub held-twice : r ≡ Entered.Twice → RowsHeld b characters at rows later Entered.Twice
+module _ (b : List ℕ) (characters at rows later : ℕ) (placed : List ℕ) {r : Option ℕ} (e : NamesInserted b characters at rows placed r) where
+  pub held-twice : r ≡ None → RowsHeld b characters at rows later None
   held-twice is = record { twice = λ _. e.twice is later; rest = λ next q. absurd (twice-nowhere next q) }
 
-  module _ (next : ℕ) (is : r ≡ Entered.Behind next) {n : Bool} (looked : RowsJudged b characters next later (few_known (lines_at b (take rows placed)) 0) n) where
-    pub held-known : n ≡ false → RowsHeld b characters at rows later Entered.Twice
+  module _ (next : ℕ) (is : r ≡ Some next) {n : Bool} (looked : RowsJudged b characters next later (few_known (lines_at b (take rows placed)) 0) n) where
+    pub held-known : n ≡ false → RowsHeld b characters at rows later None
     held-known f = record { twice = λ _. behind-known (lines_at b (take rows placed)) (e.rest next is later) looked f; rest = λ next q. absurd (twice-nowhere next q) }
 
-    pub held-behind : n ≡ true → RowsHeld b characters at rows later (Entered.Behind next)
+    pub held-behind : n ≡ true → RowsHeld b characters at rows later (Some next)
     held-behind y =
         record {
           twice = λ q. absurd (behind-somewhere next q);
@@ -73,14 +73,14 @@ module _ (b : List ℕ) (characters at taxa : ℕ) (places₀ : List ℕ) where
   holding-start = record { room = refl; rest = remains-all at taxa names_differ }
 
   module _ (places : List ℕ) (here left : ℕ) (k : Holding b characters at taxa places₀ places here left) where
-    module _ {rows : ℕ} (few : rows ≤ left) {r : Entered} (held : RowsHeld b characters here rows (left - rows) r) where
+    module _ {rows : ℕ} (few : rows ≤ left) {r : Option ℕ} (held : RowsHeld b characters here rows (left - rows) r) where
       all-rows : rows + (left - rows) ≡ left
       all-rows = omega arith
 
-      pub holding-twice : r ≡ Entered.Twice → NamesJudged b at taxa characters false
+      pub holding-twice : r ≡ None → NamesJudged b at taxa characters false
       holding-twice is = by_lines b characters at taxa false (k.rest.back false (rw all-rows at (held.twice is)))
 
-      pub holding-turn : (placed : List ℕ) → length placed ≡ length places → (next : ℕ) → r ≡ Entered.Behind next
+      pub holding-turn : (placed : List ℕ) → length placed ≡ length places → (next : ℕ) → r ≡ Some next
           → Holding b characters at taxa places₀ placed next (left - rows)
       holding-turn placed kept next is = record { room = kept ∙ k.room; rest = remains-on k.rest (rw all-rows at (held.rest next is)) }
 

@@ -1,5 +1,5 @@
 -- The names of rows sifted one by one: what is kept at each row. Assumes nothing.
-use Prim.Native.Nat.{ℕ, suc, ◌+◌, ◌-◌, ◌≤◌, ◌<◌}
+use Prim.Native.Nat.{ℕ, suc, ◌+◌, ◌≤◌, ◌<◌}
 use Rattle.block.specs.Names.{known}
 use Rattle.block.specs.Reading.{Taxon}
 use Rattle.block.specs.Sound.{names_differ}
@@ -13,8 +13,8 @@ use Rattle.naming.specs.Entries.{lines_at, name_lines, few_known, RowsJudged, Re
 use Rattle.naming.specs.Lines.{line_at}
 use Rattle.naming.specs.Rows.{RowPassed}
 use Rattle.naming.specs.Sifting.{Marked, Marks, Sifts, passed, entered, LineSifted, NamesSifted, NamesCompared}
-use Rattle.naming.specs.declared.filter.Compared.{Compared}
-use Rattle.naming.specs.declared.filter.Sifted.{Sifted}
+use Rattle.naming.specs.declared.filter.Clash.{Clash}
+use Rattle.std.specs.Prelude.{Ok, Err, Result}
 use Rattle.slots.proofs.HashLaws.{alike-hash}
 use Rattle.slots.specs.Hashes.{hash}
 use Rattle.slots.specs.declared.Table.{Table}
@@ -25,20 +25,7 @@ use mathlib.Core.List.{List, [], ◌∷◌, ◌++◌, append_assoc, append-nil}
 use mathlib.Core.Path.{◌≡◌, refl, sym, ap, ◌∙◌}
 use native.Mathlib.Omega.{arith}
 
--- Answers that are not the same.
-suspects-twice : (n : TaxonNumber) → Sifted.Suspects n ≡ Sifted.Twice → ⊥
-suspects-twice n e = let z : ◌≡◌ {A = ℕ} 0 1 = cc in omega arith
-
-twice-suspects : (n : TaxonNumber) → Sifted.Twice ≡ Sifted.Suspects n → ⊥
-twice-suspects n e = let z : ◌≡◌ {A = ℕ} 0 1 = cc in omega arith
-
-crowded-suspects : (n : TaxonNumber) → Sifted.Crowded ≡ Sifted.Suspects n → ⊥
-crowded-suspects n e = let z : ◌≡◌ {A = ℕ} 0 1 = cc in omega arith
-
-crowded-twice : Sifted.Crowded ≡ Sifted.Twice → ⊥
-crowded-twice e = let z : ◌≡◌ {A = ℕ} 0 1 = cc in omega arith
-
-same-suspects : (m n : TaxonNumber) → Sifted.Suspects m ≡ Sifted.Suspects n → m ≡ n
+same-suspects : (m n : TaxonNumber) → ◌≡◌ {A = Result TaxonNumber Clash} (Ok m) (Ok n) → m ≡ n
 same-suspects m n e = cc
 
 -- One line, by its bits: it is new, or there is no room for it, or it is looked for among the suspects.
@@ -48,7 +35,7 @@ module _ (b : List ℕ) (at : ℕ) (words marked slots places : List ℕ) (count
   line_marked = rw (← hashed) marks.new
 
   pub sift-new : new ≡ true → count.0 ≤ length places → LinesKept b slots (take count.0 places) t
-      → LineSifted b at words marked slots slots places places count.0 t (Sifted.Suspects count)
+      → LineSifted b at words marked slots slots places places count.0 t (Ok count)
   sift-new y few kept =
       record {
         width = marks.size;
@@ -56,13 +43,13 @@ module _ (b : List ℕ) (at : ℕ) (words marked slots places : List ℕ) (count
         room = refl;
         new = line_marked;
         old = marks.old;
-        twice = λ e. absurd (suspects-twice count e);
+        twice = λ e. absurd (cc);
         few = λ n e. rw (← same-suspects count n e) few;
         kept = λ n e. rw (← same-suspects count n e) kept;
         next = λ n e. rw (← same-suspects count n e) (passed (λ m. marks.told y (rw hashed m)) refl);
       }
 
-  pub sift-crowded : LineSifted b at words marked slots slots places places count.0 t Sifted.Crowded
+  pub sift-crowded : LineSifted b at words marked slots slots places places count.0 t (Err Clash.Crowded)
   sift-crowded =
       record {
         width = marks.size;
@@ -70,14 +57,14 @@ module _ (b : List ℕ) (at : ℕ) (words marked slots places : List ℕ) (count
         room = refl;
         new = line_marked;
         old = marks.old;
-        twice = λ e. absurd (crowded-twice e);
-        few = λ n e. absurd (crowded-suspects n e);
-        kept = λ n e. absurd (crowded-suspects n e);
-        next = λ n e. absurd (crowded-suspects n e);
+        twice = λ e. absurd (cc);
+        few = λ n e. absurd (cc);
+        kept = λ n e. absurd (cc);
+        next = λ n e. absurd (cc);
       }
 
   module _ (after placed : List ℕ) {r : Bool} (line : LineEntered b at slots after places placed count.0 t r) where
-    pub sift-twice : r ≡ true → LineSifted b at words marked slots after places placed count.0 t Sifted.Twice
+    pub sift-twice : r ≡ true → LineSifted b at words marked slots after places placed count.0 t (Err Clash.Twice)
     sift-twice y =
         record {
           width = marks.size;
@@ -86,13 +73,13 @@ module _ (b : List ℕ) (at : ℕ) (words marked slots places : List ℕ) (count
           new = line_marked;
           old = marks.old;
           twice = λ _. sym line.told ∙ y;
-          few = λ n e. absurd (twice-suspects n e);
-          kept = λ n e. absurd (twice-suspects n e);
-          next = λ n e. absurd (twice-suspects n e);
+          few = λ n e. absurd (cc);
+          kept = λ n e. absurd (cc);
+          next = λ n e. absurd (cc);
         }
 
     pub sift-entered : r ≡ false → count.0 < length places → (m : TaxonNumber) → m.0 ≡ count.0 + 1
-        → LineSifted b at words marked slots after places placed count.0 t (Sifted.Suspects m)
+        → LineSifted b at words marked slots after places placed count.0 t (Ok m)
     sift-entered n below m one =
         let more : lines_at b (take m.0 placed) ≡ lines_at b (take count.0 places) ++ (line_at b at ∷ []) =
         rw one (ap (lines_at b) (line.more n) ∙ lines-last b (take count.0 places) at) in
@@ -102,7 +89,7 @@ module _ (b : List ℕ) (at : ℕ) (words marked slots places : List ℕ) (count
           room = line.room;
           new = line_marked;
           old = marks.old;
-          twice = λ e. absurd (suspects-twice m e);
+          twice = λ e. absurd (cc);
           few = λ k e. rw (← same-suspects m k e) (omega (arith, one, line.room));
           kept = λ k e. rw (← same-suspects m k e, one) (line.kept n);
           next = λ k e. rw (← same-suspects m k e) (entered (sym line.told ∙ n) more);
@@ -146,33 +133,19 @@ module _ (b : List ℕ) (characters at rows : ℕ) (t : Table) (words₀ slots�
           few = omega (arith, r.few, k.room);
         }
 
-    module _ (h : 0 < left) (marked after placed : List ℕ) {name : ℕ} (begins : here < length b → name ≡ here + 5) {r : Sifted}
+    module _ {less : ℕ} (one_more : left ≡ suc less) (marked after placed : List ℕ) {name : ℕ} (begins : here < length b → name ≡ here + 5) {r : Result TaxonNumber Clash}
         (line : LineSifted b name words marked slots after places placed count t r) where
-      one_more : left ≡ suc (left - 1)
-      one_more = omega arith
-
-      pub sifting-twice : r ≡ Sifted.Twice → NamesSifted b characters at rows slots₀ after places₀ placed t Sifted.Twice
-      sifting-twice is =
+      pub sifting-clash : (why : Clash) → r ≡ Err why → NamesSifted b characters at rows slots₀ after places₀ placed t (Err why)
+      sifting-clash why is =
           record {
             size = line.size ∙ k.size;
             room = line.room ∙ k.room;
-            twice = λ _. (k.rest names_differ).back false
-                (rw one_more (row_told b characters here (λ more. names_differ (k.seen ++ more)) begins false (left - 1)
-                (suspected-twice (lines_at b (take count places)) k.seen (line_at b name) k.suspects (line.twice is))));
-            few = λ n e. absurd (twice-suspects n e);
-            kept = λ n e. absurd (twice-suspects n e);
-            rest = λ n e. absurd (twice-suspects n e);
-          }
-
-      pub sifting-crowded : NamesSifted b characters at rows slots₀ after places₀ placed t Sifted.Crowded
-      sifting-crowded =
-          record {
-            size = line.size ∙ k.size;
-            room = line.room ∙ k.room;
-            twice = λ e. absurd (crowded-twice e);
-            few = λ n e. absurd (crowded-suspects n e);
-            kept = λ n e. absurd (crowded-suspects n e);
-            rest = λ n e. absurd (crowded-suspects n e);
+            twice = λ e. (k.rest names_differ).back false
+                (rw one_more (row_told b characters here (λ more. names_differ (k.seen ++ more)) begins false less
+                (suspected-twice (lines_at b (take count places)) k.seen (line_at b name) k.suspects (line.twice (is ∙ e)))));
+            few = λ n e. absurd (cc);
+            kept = λ n e. absurd (cc);
+            rest = λ n e. absurd (cc);
           }
 
       -- The bits of one name more are set.
@@ -193,8 +166,8 @@ module _ (b : List ℕ) (characters at rows : ℕ) (t : Table) (words₀ slots�
           (by-test (known (line_at b name) k.seen) (λ y. absurd (free (k.marked (line_at b name) y))) (λ o. o)))
       more-suspects es (entered new same) = rw same (suspected-entered (lines_at b (take count places)) k.seen (line_at b name) k.suspects new)
 
-      pub sifting-turn : (n : TaxonNumber) → r ≡ Sifted.Suspects n → {next : ℕ} → RowPassed b here characters next
-          → Sifting b characters at rows t words₀ slots₀ places₀ marked after placed next (left - 1) n.0
+      pub sifting-turn : (n : TaxonNumber) → r ≡ Ok n → {next : ℕ} → RowPassed b here characters next
+          → Sifting b characters at rows t words₀ slots₀ places₀ marked after placed next less n.0
       sifting-turn n is {next} behind =
           record {
             seen = k.seen ++ (line_at b name ∷ []);
@@ -207,7 +180,7 @@ module _ (b : List ℕ) (characters at rows : ℕ) (t : Table) (words₀ slots�
             suspects = more-suspects (lines_at b (take n.0 placed)) (line.next n is);
             rest = λ test.
                 remains-on (rw one_more at (k.rest test))
-                (row-turn b characters here (λ more. test (k.seen ++ more)) begins (λ more. test ((k.seen ++ (line_at b name ∷ [])) ++ more)) (left - 1) behind
+                (row-turn b characters here (λ more. test (k.seen ++ more)) begins (λ more. test ((k.seen ++ (line_at b name ∷ [])) ++ more)) less behind
                 (λ ns. ap test (sym (append_assoc k.seen (line_at b name ∷ []) ns))));
           }
 
@@ -230,12 +203,12 @@ module _ (b : List ℕ) (characters at rows : ℕ) (t : Table) (words₀ slots�
           let size : length (lines_at b (take count places)) ≡ count = suspects-count (take count places) ∙ length-take-le count places k.few in
           k.suspects.told ∙ ap (λ n. few_known (lines_at b (take count places)) n k.seen) size
 
-      pub sifting-end : (n : TaxonNumber) → n.0 ≡ count → NamesSifted b characters at rows slots₀ slots places₀ places t (Sifted.Suspects n)
+      pub sifting-end : (n : TaxonNumber) → n.0 ≡ count → NamesSifted b characters at rows slots₀ slots places₀ places t (Ok n)
       sifting-end n is =
           record {
             size = k.size;
             room = k.room;
-            twice = λ e. absurd (suspects-twice n e);
+            twice = λ e. absurd (cc);
             few = λ m e. rw (← same-suspects n m e, is) k.few;
             kept = λ m e. rw (← same-suspects n m e, is) k.kept;
             rest = λ m e.
@@ -249,34 +222,23 @@ module _ (b : List ℕ) (characters at rows : ℕ) (t : Table) (words₀ slots�
                 });
           }
 
--- The answers of the comparison, which are not the same.
-differ-not-twice : Compared.Differ ≡ Compared.Twice → ⊥
-differ-not-twice e = let z : ◌≡◌ {A = ℕ} 0 1 = cc in omega arith
-
-crowded-not-differ : Compared.Crowded ≡ Compared.Differ → ⊥
-crowded-not-differ e = let z : ◌≡◌ {A = ℕ} 0 1 = cc in omega arith
-
-crowded-not-twice : Compared.Crowded ≡ Compared.Twice → ⊥
-crowded-not-twice e = let z : ◌≡◌ {A = ℕ} 0 1 = cc in omega arith
-
+-- The answer of the comparison.
 module _ (b : List ℕ) (characters at taxa : ℕ) where
-  judged-twice : RowsJudged b characters at taxa names_differ false → NamesCompared b at taxa characters Compared.Twice
-  judged-twice judged = record { differ = λ e. absurd (differ-not-twice (sym e)); twice = λ _. by_lines b characters at taxa false judged }
+  judged-twice : RowsJudged b characters at taxa names_differ false → NamesCompared b at taxa characters (Err Clash.Twice)
+  judged-twice judged = record { differ = λ e. absurd (cc); twice = λ _. by_lines b characters at taxa false judged }
 
-  pub compared-crowded : NamesCompared b at taxa characters Compared.Crowded
-  compared-crowded = record { differ = λ e. absurd (crowded-not-differ e); twice = λ e. absurd (crowded-not-twice e) }
+  module _ (slots after places placed : List ℕ) (t : Table) {r : Result TaxonNumber Clash} (names : NamesSifted b characters at taxa slots after places placed t r) where
+    pub compared-clash : (why : Clash) → r ≡ Err why → NamesCompared b at taxa characters (Err why)
+    compared-clash why is =
+        record { differ = λ e. absurd (cc); twice = λ e. let same : why ≡ Clash.Twice = cc in by_lines b characters at taxa false (names.twice (is ∙ ap (λ w. Err w) same)) }
 
-  module _ (slots after places placed : List ℕ) (t : Table) {r : Sifted} (names : NamesSifted b characters at taxa slots after places placed t r) where
-    pub compared-twice : r ≡ Sifted.Twice → NamesCompared b at taxa characters Compared.Twice
-    compared-twice is = judged-twice (names.twice is)
-
-    module _ (n : TaxonNumber) (is : r ≡ Sifted.Suspects n) {w : Bool} (looked : RowsJudged b characters at taxa (few_known (lines_at b (take n.0 placed)) n.0) w) where
-      pub compared-few : w ≡ true → NamesCompared b at taxa characters Compared.Differ
+    module _ (n : TaxonNumber) (is : r ≡ Ok n) {w : Bool} (looked : RowsJudged b characters at taxa (few_known (lines_at b (take n.0 placed)) n.0) w) where
+      pub compared-few : w ≡ true → NamesCompared b at taxa characters (Ok tt)
       compared-few y =
           record {
             differ = λ _. by_lines b characters at taxa true (rw y at ((names.rest n is).back w looked));
-            twice = λ e. absurd (differ-not-twice e);
+            twice = λ e. absurd (cc);
           }
 
-      pub compared-many : w ≡ false → NamesCompared b at taxa characters Compared.Twice
+      pub compared-many : w ≡ false → NamesCompared b at taxa characters (Err Clash.Twice)
       compared-many f = judged-twice (rw f at ((names.rest n is).back w looked))

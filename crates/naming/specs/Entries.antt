@@ -1,12 +1,11 @@
 -- Names of rows that were entered by their places, and a table that has them.
-use Rattle.std.specs.Prelude.{ℕ, suc, ◌+◌, ◌*◌, ◌/◌, ◌%◌, ◌≤◌, ◌<◌, leb, length, get_or, take, Bool, true, false, ◌&&◌, not, List, [], ◌∷◌, ◌++◌, ◌≡◌}
+use Rattle.std.specs.Prelude.{ℕ, suc, ◌+◌, ◌*◌, ◌/◌, ◌%◌, ◌≤◌, ◌<◌, leb, length, get_or, take, Bool, true, false, ◌&&◌, not, List, [], ◌∷◌, ◌++◌, ◌≡◌, Some, None, Option}
 use Rattle.block.specs.Names.{known}
 use Rattle.block.specs.Reading.{Taxon}
 use Rattle.block.specs.Sound.{names_differ}
 use Rattle.lexer.specs.Base.{pick, alike}
 use Rattle.naming.specs.Lines.{line_at}
 use Rattle.naming.specs.Rows.{RowsStand}
-use Rattle.naming.specs.declared.names.Entered.{Entered}
 use Rattle.record.specs.Spell.{escaped}
 use Rattle.slots.specs.Filling.{Kept, TableSound, slot_of}
 use Rattle.slots.specs.Hashes.{hash}
@@ -92,10 +91,10 @@ pub record LineEntered (b : List ℕ) (at : ℕ) (slots after places placed : Li
   pub kept : r ≡ false → LinesKept b after (take (count + 1) placed) t
 
 -- The names of so many rows were entered, with any rows behind them: two are alike; or none is, and the rows behind remain to be judged.
-pub record NamesEntered (b : List ℕ) (characters at rows : ℕ) (slots after places placed : List ℕ) (t : Table) (r : Entered) : Type 0 where
+pub record NamesEntered (b : List ℕ) (characters at rows : ℕ) (slots after places placed : List ℕ) (t : Table) (r : Option ℕ) : Type 0 where
   pub size : length after ≡ length slots
   pub room : length placed ≡ length places
-  pub twice : r ≡ Entered.Twice → (later : ℕ) → RowsJudged b characters at (rows + later) names_differ false
-  pub kept : (next : ℕ) → r ≡ Entered.Behind next → LinesKept b after (take rows placed) t
-  pub rest : (next : ℕ) → r ≡ Entered.Behind next → (later : ℕ)
+  pub twice : r ≡ None → (later : ℕ) → RowsJudged b characters at (rows + later) names_differ false
+  pub kept : (next : ℕ) → r ≡ Some next → LinesKept b after (take rows placed) t
+  pub rest : (next : ℕ) → r ≡ Some next → (later : ℕ)
       → Remains b characters at (rows + later) names_differ next later (new_differ (lines_at b (take rows placed)))

@@ -1,11 +1,10 @@
 -- The lines at some places in order: by their bytes, ASCII case ignored, and a line before all that begin with it.
-use Rattle.std.specs.Prelude.{ℕ, ◌+◌, ◌≤◌, ◌<◌, eqb, ltb, length, get_or, take, drop, Bool, true, false, List, [], ◌∷◌, ◌++◌, ◌≡◌}
+use Rattle.std.specs.Prelude.{ℕ, ◌+◌, ◌≤◌, ◌<◌, eqb, ltb, length, get_or, take, drop, Bool, true, false, List, [], ◌∷◌, ◌++◌, ◌≡◌, Some, None, Option}
 use Rattle.block.specs.Names.{known}
 use Rattle.block.specs.Sound.{names_differ}
 use Rattle.lexer.specs.Base.{pick, lower}
 use Rattle.naming.specs.Entries.{lines_at, new_differ, RowsJudged, Remains}
 use Rattle.naming.specs.Lines.{line_at}
-use Rattle.naming.specs.declared.names.Entered.{Entered}
 
 -- Is the first text before the second, ASCII case ignored?
 unfoldable pub before : List ℕ → List ℕ → Bool
@@ -35,14 +34,14 @@ pub record LineInserted (b : List ℕ) (at : ℕ) (places placed : List ℕ) (co
   pub rising : r ≡ false → Rising b (take (count + 1) placed)
 
 -- The names of so many rows were inserted, with any rows behind them: two are alike; or none is, and the rows behind remain to be judged.
-pub record NamesInserted (b : List ℕ) (characters at rows : ℕ) (placed : List ℕ) (r : Entered) : Type 0 where
-  pub twice : r ≡ Entered.Twice → (later : ℕ) → RowsJudged b characters at (rows + later) names_differ false
-  pub rising : (next : ℕ) → r ≡ Entered.Behind next → Rising b (take rows placed)
-  pub rest : (next : ℕ) → r ≡ Entered.Behind next → (later : ℕ)
+pub record NamesInserted (b : List ℕ) (characters at rows : ℕ) (placed : List ℕ) (r : Option ℕ) : Type 0 where
+  pub twice : r ≡ None → (later : ℕ) → RowsJudged b characters at (rows + later) names_differ false
+  pub rising : (next : ℕ) → r ≡ Some next → Rising b (take rows placed)
+  pub rest : (next : ℕ) → r ≡ Some next → (later : ℕ)
       → Remains b characters at (rows + later) names_differ next later (new_differ (lines_at b (take rows placed)))
 
 -- The names of so many rows were held against each other and against those of so many rows behind them: two are alike; or the rows behind remain to
 -- be judged.
-pub record RowsHeld (b : List ℕ) (characters at rows later : ℕ) (r : Entered) : Type 0 where
-  pub twice : r ≡ Entered.Twice → RowsJudged b characters at (rows + later) names_differ false
-  pub rest : (next : ℕ) → r ≡ Entered.Behind next → Remains b characters at (rows + later) names_differ next later names_differ
+pub record RowsHeld (b : List ℕ) (characters at rows later : ℕ) (r : Option ℕ) : Type 0 where
+  pub twice : r ≡ None → RowsJudged b characters at (rows + later) names_differ false
+  pub rest : (next : ℕ) → r ≡ Some next → Remains b characters at (rows + later) names_differ next later names_differ

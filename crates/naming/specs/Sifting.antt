@@ -1,13 +1,12 @@
 -- Names that are sifted: the bits of each name's number are set, and a name whose bits were all set before is entered.
-use Rattle.std.specs.Prelude.{ℕ, ◌*◌, ◌^◌, ◌/◌, ◌%◌, ◌≤◌, ◌<◌, length, get_or, take, Bool, true, false, List, [], ◌∷◌, ◌++◌, ◌≡◌}
+use Rattle.std.specs.Prelude.{ℕ, ◌*◌, ◌^◌, ◌/◌, ◌%◌, ◌≤◌, ◌<◌, length, get_or, take, Bool, true, false, List, [], ◌∷◌, ◌++◌, ◌≡◌, Ok, Err, Result}
 use Rattle.block.specs.Names.{known}
 use Rattle.block.specs.Sound.{names_differ}
 use Rattle.block.specs.declared.data.TaxonNumber.{TaxonNumber}
 use Rattle.naming.specs.Entries.{few_known, lines_at, LinesKept, Remains, RowsJudged}
 use Rattle.naming.specs.Lines.{line_at}
 use Rattle.naming.specs.Rows.{NamesJudged}
-use Rattle.naming.specs.declared.filter.Compared.{Compared}
-use Rattle.naming.specs.declared.filter.Sifted.{Sifted}
+use Rattle.naming.specs.declared.filter.Clash.{Clash}
 use Rattle.slots.specs.Hashes.{hash}
 use Rattle.slots.specs.declared.Table.{Table}
 use Rattle.std.specs.Int.Bits.{bit_or}
@@ -48,30 +47,30 @@ pub data Sifts (marked : Type 0) (n : List ℕ) (es : List (List ℕ)) (more : L
   entered : known n es ≡ false → more ≡ es ++ (n ∷ []) → Sifts marked n es more
 
 -- A line was sifted, with so many entered before it: it is among these; or it was entered, or is new; or there was no room for it.
-pub record LineSifted (b : List ℕ) (at : ℕ) (words marked slots after places placed : List ℕ) (count : ℕ) (t : Table) (r : Sifted) : Type 0 where
+pub record LineSifted (b : List ℕ) (at : ℕ) (words marked slots after places placed : List ℕ) (count : ℕ) (t : Table) (r : Result TaxonNumber Clash) : Type 0 where
   pub width : length marked ≡ length words
   pub size : length after ≡ length slots
   pub room : length placed ≡ length places
   pub new : Marked marked (hash (line_at b at))
   pub old : (h : ℕ) → Marked words h → Marked marked h
-  pub twice : r ≡ Sifted.Twice → known (line_at b at) (lines_at b (take count places)) ≡ true
-  pub few : (n : TaxonNumber) → r ≡ Sifted.Suspects n → n.0 ≤ length placed
-  pub kept : (n : TaxonNumber) → r ≡ Sifted.Suspects n → LinesKept b after (take n.0 placed) t
-  pub next : (n : TaxonNumber) → r ≡ Sifted.Suspects n
+  pub twice : r ≡ Err Clash.Twice → known (line_at b at) (lines_at b (take count places)) ≡ true
+  pub few : (n : TaxonNumber) → r ≡ Ok n → n.0 ≤ length placed
+  pub kept : (n : TaxonNumber) → r ≡ Ok n → LinesKept b after (take n.0 placed) t
+  pub next : (n : TaxonNumber) → r ≡ Ok n
       → Sifts (Marked words (hash (line_at b at))) (line_at b at) (lines_at b (take count places)) (lines_at b (take n.0 placed))
 
 -- The names of so many rows were sifted: two are alike; or so many were entered, and no two are alike exactly if at most so many are among these; or
 -- there was no room for one.
-pub record NamesSifted (b : List ℕ) (characters at rows : ℕ) (slots after places placed : List ℕ) (t : Table) (r : Sifted) : Type 0 where
+pub record NamesSifted (b : List ℕ) (characters at rows : ℕ) (slots after places placed : List ℕ) (t : Table) (r : Result TaxonNumber Clash) : Type 0 where
   pub size : length after ≡ length slots
   pub room : length placed ≡ length places
-  pub twice : r ≡ Sifted.Twice → RowsJudged b characters at rows names_differ false
-  pub few : (n : TaxonNumber) → r ≡ Sifted.Suspects n → n.0 ≤ length placed
-  pub kept : (n : TaxonNumber) → r ≡ Sifted.Suspects n → LinesKept b after (take n.0 placed) t
-  pub rest : (n : TaxonNumber) → r ≡ Sifted.Suspects n
+  pub twice : r ≡ Err Clash.Twice → RowsJudged b characters at rows names_differ false
+  pub few : (n : TaxonNumber) → r ≡ Ok n → n.0 ≤ length placed
+  pub kept : (n : TaxonNumber) → r ≡ Ok n → LinesKept b after (take n.0 placed) t
+  pub rest : (n : TaxonNumber) → r ≡ Ok n
       → Remains b characters at rows names_differ at rows (few_known (lines_at b (take n.0 placed)) n.0)
 
--- The names of so many rows were compared: where the answer is that they differ, or that two are alike, it is so. The third answer says nothing.
-pub record NamesCompared (b : List ℕ) (at taxa characters : ℕ) (r : Compared) : Type 0 where
-  pub differ : r ≡ Compared.Differ → NamesJudged b at taxa characters true
-  pub twice : r ≡ Compared.Twice → NamesJudged b at taxa characters false
+-- The names of so many rows were compared: where the answer is that they differ, or that two are alike, it is so. That there are too many suspects says nothing.
+pub record NamesCompared (b : List ℕ) (at taxa characters : ℕ) (r : Result (Unit {0}) Clash) : Type 0 where
+  pub differ : r ≡ Ok tt → NamesJudged b at taxa characters true
+  pub twice : r ≡ Err Clash.Twice → NamesJudged b at taxa characters false

@@ -7,22 +7,13 @@ ghost use Rattle.naming.specs.Entries.{LinesKept, RoomOf};
 ghost use Rattle.naming.specs.Sifting.{BitsSet, LineSifted, Marks, NamesCompared, NamesSifted, bits_of};
 
 use super::names::{enter_line, few_known, line_hash};
-use super::rows::{name_begin, next_row};
-use block::{CharacterNumber, TaxonNumber};
+use super::rows::{Rows, name_begin, next_row};
+use block::TaxonNumber;
 use slots::{Table, free_table};
 
-// What sifting names comes to: how many suspects were entered; or that two names are alike; or that there are more suspects than there is room for.
+// Why names were not told to differ: two are alike, or there are more suspects than there is room for.
 #[derive(Clone, Copy)]
-pub enum Sifted {
-    Suspects(TaxonNumber),
-    Twice,
-    Crowded,
-}
-
-// What comparing the names of rows comes to: all differ, or two are alike, or there are too many suspects to tell.
-#[derive(Clone, Copy)]
-pub enum Compared {
-    Differ,
+pub enum Clash {
     Twice,
     Crowded,
 }
@@ -77,118 +68,68 @@ fn sift_line(
     places: &mut [usize],
     count: TaxonNumber,
     table: Table,
-) -> Sifted
+) -> Result<TaxonNumber, Clash>
     requires { RoomOf slots.old places.old (length places.old) table × (count.0 ≤ length places.old) × LinesKept source.now slots.old (take count.0 places.old) table }
     ensures { LineSifted source.now at words.old words.new slots.old slots.new places.old places.new count.0 table result }
 {
     if mark(words, line_hash(source, at)) {
-        return Sifted::Suspects(count);
+        return Ok(count);
     }
     let last = count.0;
     if places.len() <= last {
-        return Sifted::Crowded;
+        return Err(Clash::Crowded);
     }
     if enter_line(source, at, slots, places, count, table) {
-        return Sifted::Twice;
+        return Err(Clash::Twice);
     }
-    Sifted::Suspects(TaxonNumber(last + 1))
+    Ok(TaxonNumber(last + 1))
 }
 
 // The names of so many rows at a place are sifted, up to the first suspect that is like one before it or for which there is no room.
 fn sift_names(
-    source: &[u8],
-    at: usize,
-    rows: TaxonNumber,
-    characters: CharacterNumber,
+    rows: Rows,
     words: &mut [u64],
     slots: &mut [u32],
     places: &mut [usize],
     table: Table,
-) -> Sifted
+) -> Result<TaxonNumber, Clash>
     requires { RoomOf slots.old places.old (length places.old) table }
-    ensures { NamesSifted source.now characters.0 at rows.0 slots.old slots.new places.old places.new table result }
+    ensures { NamesSifted rows.entry.source.now rows.entry.characters.0 rows.entry.at rows.entry.count.0 slots.old slots.new places.old places.new table result }
 {
-    let mut here = at;
-    let mut left = rows.0;
-    let mut count = 0;
-    while 0 < left {
-        let name = name_begin(source, here);
-        match sift_line(
-            source,
-            name,
-            words,
-            slots,
-            places,
-            TaxonNumber(count),
-            table,
-        ) {
-            Sifted::Suspects(more) => {
-                count = more.0;
-            }
-            Sifted::Twice => {
-                return Sifted::Twice;
-            }
-            Sifted::Crowded => {
-                return Sifted::Crowded;
-            }
-        }
-        here = next_row(source, here, characters);
-        left -= 1;
+    let mut here = rows.at;
+    let mut count = TaxonNumber(0);
+    for _row in 0..rows.count.0 {
+        let name = name_begin(rows.source, here);
+        count = sift_line(rows.source, name, words, slots, places, count, table)?;
+        here = next_row(rows.source, here, rows.characters);
     }
-    Sifted::Suspects(TaxonNumber(count))
+    Ok(count)
 }
 
 // The names of so many rows at a place are compared, with room for some suspects.
 fn compare_by(
-    source: &[u8],
-    at: usize,
-    taxa: TaxonNumber,
-    characters: CharacterNumber,
+    rows: Rows,
     words: &mut [u64],
     slots: &mut [u32],
     places: &mut [usize],
-) -> Compared
+) -> Result<(), Clash>
     requires { length places.old ≤ 1048576 }
-    ensures { NamesCompared source.now at taxa.0 characters.0 result }
+    ensures { NamesCompared rows.entry.source.now rows.entry.at rows.entry.count.0 rows.entry.characters.0 result }
 {
     let table = free_table(slots, 0, places.len());
-    match sift_names(source, at, taxa, characters, words, slots, places, table) {
-        Sifted::Suspects(count) => {
-            if few_known(
-                source, at, taxa, characters, slots, places, count, table, count,
-            ) {
-                return Compared::Differ;
-            }
-            return Compared::Twice;
-        }
-        Sifted::Twice => {
-            return Compared::Twice;
-        }
-        Sifted::Crowded => {
-            return Compared::Crowded;
-        }
+    let count = sift_names(rows, words, slots, places, table)?;
+    if few_known(rows, slots, places, count, table, count) {
+        return Ok(());
     }
+    Err(Clash::Twice)
 }
 
 // The names of so many rows at a place, with so many cells each, are compared.
-pub fn compare_names(
-    source: &[u8],
-    at: usize,
-    taxa: TaxonNumber,
-    characters: CharacterNumber,
-) -> Compared
-    ensures { NamesCompared source.now at taxa.0 characters.0 result }
+pub fn compare_names(rows: Rows) -> Result<(), Clash>
+    ensures { NamesCompared rows.entry.source.now rows.entry.at rows.entry.count.0 rows.entry.characters.0 result }
 {
     let mut words = [0u64; 16384];
     let mut slots = [0u32; 10496];
     let mut places = [0usize; 2600];
-    compare_by(
-        source,
-        at,
-        taxa,
-        characters,
-        &mut words,
-        &mut slots,
-        &mut places,
-    )
+    compare_by(rows, &mut words, &mut slots, &mut places)
 }

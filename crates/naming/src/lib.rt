@@ -11,4 +11,4 @@ mod rows;
 
 pub use lines::{lines_alike, name_alike};
 pub use names::names_differ;
-pub use rows::{cells_begin, cells_end, name_begin, next_row};
+pub use rows::{Rows, cells_begin, cells_end, name_begin, next_row};

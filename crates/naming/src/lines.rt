@@ -15,7 +15,7 @@ fn line_byte(source: &[u8], i: usize) -> u8
     if i < source.len() {
         return source[i];
     }
-    10
+    b'\n'
 }
 
 // The byte at i as a small letter, or LF behind the end.
@@ -30,15 +30,14 @@ pub fn line_end(source: &[u8], from: usize) -> usize
     ensures { result ≡ from + length (line_at source.now from) }
 {
     let mut at = from;
-    loop {
-        if line_byte(source, at) == 10 {
-            return at;
-        }
+    // The line ends where the bytes do too, so that no slice is all of it.
+    while line_byte(source, at) != b'\n' {
         at += 1;
     }
+    at
 }
 
-// Are the lines at two places alike, ASCII case ignored?
+// Are the lines at two places alike, ASCII case ignored? A line may end where the bytes do, without an LF, so the bytes are asked for by place.
 pub fn lines_alike(source: &[u8], first: usize, second: usize) -> bool
     ensures { result ≡ alike (line_at source.now first) (line_at source.now second) }
 {
@@ -49,7 +48,7 @@ pub fn lines_alike(source: &[u8], first: usize, second: usize) -> bool
         if x != lower_byte(source, j) {
             return false;
         }
-        if x == 10 {
+        if x == b'\n' {
             return true;
         }
         i += 1;
@@ -57,34 +56,34 @@ pub fn lines_alike(source: &[u8], first: usize, second: usize) -> bool
     }
 }
 
-// 2 where a backslash and a byte like this one stand in the line at a place, else 0.
-fn slash_like(source: &[u8], i: usize, y: u8) -> usize
+// The place behind a backslash and a byte like this one in the line at a place, or none where they do not stand there.
+fn slash_like(source: &[u8], i: usize, y: u8) -> Option<usize>
     requires { y ≡ 10 → ⊥ }
     ensures { BytesLike source.now i (92 ∷ y ∷ []) result }
 {
-    if line_byte(source, i) != 92 {
-        return 0;
+    if line_byte(source, i) != b'\\' {
+        return None;
     }
     if lower(y) != lower_byte(source, i + 1) {
-        return 0;
+        return None;
     }
-    2
+    Some(i + 2)
 }
 
-// How many bytes of the line at a place are like those of a name's byte, escaped; 0 where they are not.
-fn escape_like(source: &[u8], i: usize, c: u8) -> usize
+// The place behind the bytes of the line at a place that are like those of a name's byte, escaped, or none where they are not.
+fn escape_like(source: &[u8], i: usize, c: u8) -> Option<usize>
     ensures { BytesLike source.now i (escape c) result }
 {
-    if c == 10 {
-        return slash_like(source, i, 48);
+    if c == b'\n' {
+        return slash_like(source, i, b'0');
     }
-    if c == 92 {
-        return slash_like(source, i, 49);
+    if c == b'\\' {
+        return slash_like(source, i, b'1');
     }
     if lower(c) != lower_byte(source, i) {
-        return 0;
+        return None;
     }
-    1
+    Some(i + 1)
 }
 
 // Is the name at a place, escaped, like a given one, ASCII case ignored?
@@ -92,14 +91,11 @@ pub fn name_alike(source: &[u8], at: usize, name: &[u8]) -> bool
     ensures { NameLike source.now at name.now result }
 {
     let mut i = at;
-    let mut k = 0;
-    while k < name.len() {
-        let size = escape_like(source, i, name[k]);
-        if size == 0 {
+    for &b in name {
+        let Some(next) = escape_like(source, i, b) else {
             return false;
-        }
-        i += size;
-        k += 1;
+        };
+        i = next;
     }
-    line_byte(source, i) == 10
+    line_byte(source, i) == b'\n'
 }

@@ -4,28 +4,23 @@
 
 ghost use Rattle.std.specs.Prelude.{◌≤◌, length, take, ◌≡◌};
 ghost use Rattle.block.specs.Names.{known};
+ghost use Rattle.lexer.specs.Base.{alike};
+ghost use Rattle.std.specs.List.{list_any};
 ghost use Rattle.naming.specs.Entries.{LineEntered, LineSought, LinesKept, NamesEntered, RoomFor, RoomOf, RowsJudged, SlotLike, few_known, line_slot, lines_at};
 ghost use Rattle.naming.specs.Lines.{line_at};
 ghost use Rattle.naming.specs.Rows.{NamesJudged};
 ghost use Rattle.slots.specs.Filling.{TableSound};
 ghost use Rattle.slots.specs.Hashes.{hash};
 
-use super::filter::{Compared, compare_names};
+use super::filter::{Clash, compare_names};
 use super::lines::{lines_alike, lower_byte};
 use super::ordered::ordered_differ;
-use super::rows::{name_begin, next_row};
+use super::rows::{Rows, name_begin, next_row};
 use block::{CharacterNumber, TaxonNumber};
 use lexer::start_of;
 use slots::{Table, fill_slot, free_table, slot_of};
 
-// What entering the names of rows comes to: where the rows behind them begin, or that two are alike.
-#[derive(Clone, Copy)]
-pub enum Entered {
-    Behind(usize),
-    Twice,
-}
-
-// The number of the line at a place.
+// The number of the line at a place, in one walk up to its end.
 pub fn line_hash(source: &[u8], at: usize) -> u64
     ensures { result ≡ hash (line_at source.now at) }
 {
@@ -33,7 +28,7 @@ pub fn line_hash(source: &[u8], at: usize) -> u64
     let mut i = at;
     loop {
         let b = lower_byte(source, i);
-        if b == 10 {
+        if b == b'\n' {
             return h;
         }
         h = (h + b as u64) * 2654435761 % 4294967296;
@@ -53,16 +48,11 @@ fn line_slot(source: &[u8], at: usize, table: Table) -> usize
 // Is the line at a place like one of those at so many others?
 fn known_line(source: &[u8], at: usize, places: &[usize], count: TaxonNumber) -> bool
     requires { count.0 ≤ length places.now }
-    ensures { result ≡ known (line_at source.now at) (lines_at source.now (take count.0 places.now)) }
+    ensures { result ≡ list_any (λ p. alike (line_at source.now at) (line_at source.now p)) (take count.0 places.now) }
 {
-    let mut k = 0;
-    while k < count.0 {
-        if lines_alike(source, at, places[k]) {
-            return true;
-        }
-        k += 1;
-    }
-    false
+    places[..count.0]
+        .iter()
+        .any(|&place| lines_alike(source, at, place))
 }
 
 // Is the line at a place like that of a row, which a slot holds by its number among so many, counted from 1 on? No row has the number 0.
@@ -95,8 +85,7 @@ fn found_line(
     requires { LineSought source.now at slots.now places.now count.0 from end }
     ensures { result ≡ known (line_at source.now at) (lines_at source.now (take count.0 places.now)) }
 {
-    let mut p = from;
-    while p < end {
+    for p in from..end {
         let value = start_of(slots, p);
         if value == 0 {
             return false;
@@ -104,7 +93,6 @@ fn found_line(
         if slot_like(source, at, places, count, TaxonNumber(value)) {
             return true;
         }
-        p += 1;
     }
     known_line(source, at, places, count)
 }
@@ -133,92 +121,67 @@ pub fn enter_line(
 }
 
 // The names of so many rows at a place are entered, up to the first that is like one before it.
-fn enter_names(
-    source: &[u8],
-    at: usize,
-    rows: TaxonNumber,
-    characters: CharacterNumber,
-    slots: &mut [u32],
-    places: &mut [usize],
-    table: Table,
-) -> Entered
-    requires { RoomOf slots.old places.old rows.0 table }
-    ensures { NamesEntered source.now characters.0 at rows.0 slots.old slots.new places.old places.new table result }
+fn enter_names(rows: Rows, slots: &mut [u32], places: &mut [usize], table: Table) -> Option<usize>
+    requires { RoomOf slots.old places.old rows.count.0 table }
+    ensures { NamesEntered rows.entry.source.now rows.entry.characters.0 rows.entry.at rows.entry.count.0 slots.old slots.new places.old places.new table result }
 {
-    let mut here = at;
-    let mut count = 0;
-    while count < rows.0 {
-        let name = name_begin(source, here);
-        if enter_line(source, name, slots, places, TaxonNumber(count), table) {
-            return Entered::Twice;
+    let mut here = rows.at;
+    for count in 0..rows.count.0 {
+        let name = name_begin(rows.source, here);
+        if enter_line(rows.source, name, slots, places, TaxonNumber(count), table) {
+            return None;
         }
-        here = next_row(source, here, characters);
-        count += 1;
+        here = next_row(rows.source, here, rows.characters);
     }
-    Entered::Behind(here)
+    Some(here)
 }
 
 // Are at most so many of the names of so many rows at a place among those that were entered?
 pub fn few_known(
-    source: &[u8],
-    at: usize,
-    rows: TaxonNumber,
-    characters: CharacterNumber,
+    rows: Rows,
     slots: &[u32],
     places: &[usize],
     count: TaxonNumber,
     table: Table,
     most: TaxonNumber,
 ) -> bool
-    requires { TableSound table × (count.0 ≤ length places.now) × LinesKept source.now slots.now (take count.0 places.now) table }
-    ensures { RowsJudged source.now characters.0 at rows.0 (few_known (lines_at source.now (take count.0 places.now)) most.0) result }
+    requires { TableSound table × (count.0 ≤ length places.now) × LinesKept rows.source.now slots.now (take count.0 places.now) table }
+    ensures { RowsJudged rows.entry.source.now rows.entry.characters.0 rows.entry.at rows.entry.count.0 (few_known (lines_at rows.entry.source.now (take count.0 places.now)) most.0) result }
 {
     let end = table.end;
-    let mut here = at;
-    let mut left = rows.0;
+    let mut here = rows.at;
     let mut room = most.0;
-    while 0 < left {
-        let name = name_begin(source, here);
-        let from = line_slot(source, name, table);
-        if found_line(source, name, slots, places, count, from, end) {
+    for _row in 0..rows.count.0 {
+        let name = name_begin(rows.source, here);
+        let from = line_slot(rows.source, name, table);
+        if found_line(rows.source, name, slots, places, count, from, end) {
             if room == 0 {
                 return false;
             }
             room -= 1;
         }
-        here = next_row(source, here, characters);
-        left -= 1;
+        here = next_row(rows.source, here, rows.characters);
     }
     true
 }
 
 // Do the names of so many rows at a place differ? All are entered into one table.
-fn entered_differ(
-    source: &[u8],
-    at: usize,
-    taxa: TaxonNumber,
-    characters: CharacterNumber,
-    slots: &mut [u32],
-    places: &mut [usize],
-) -> bool
-    requires { (taxa.0 ≤ length places.old) × (taxa.0 ≤ 1048576) }
-    ensures { NamesJudged source.now at taxa.0 characters.0 result }
+fn entered_differ(rows: Rows, slots: &mut [u32], places: &mut [usize]) -> bool
+    requires { (rows.count.0 ≤ length places.old) × (rows.count.0 ≤ 1048576) }
+    ensures { NamesJudged rows.entry.source.now rows.entry.at rows.entry.count.0 rows.entry.characters.0 result }
 {
-    let table = free_table(slots, 0, taxa.0 / 2);
-    match enter_names(source, at, taxa, characters, slots, places, table) {
-        Entered::Behind(_) => true,
-        Entered::Twice => false,
-    }
+    let table = free_table(slots, 0, rows.count.0 / 2);
+    enter_names(rows, slots, places, table).is_some()
 }
 
 // The same with room for few names.
-fn few_differ(source: &[u8], at: usize, taxa: TaxonNumber, characters: CharacterNumber) -> bool
-    requires { taxa.0 ≤ 200 }
-    ensures { NamesJudged source.now at taxa.0 characters.0 result }
+fn few_differ(rows: Rows) -> bool
+    requires { rows.count.0 ≤ 200 }
+    ensures { NamesJudged rows.entry.source.now rows.entry.at rows.entry.count.0 rows.entry.characters.0 result }
 {
     let mut slots = [0u32; 512];
     let mut places = [0usize; 200];
-    entered_differ(source, at, taxa, characters, &mut slots, &mut places)
+    entered_differ(rows, &mut slots, &mut places)
 }
 
 // Do the names of so many rows at a place, with so many cells each, differ, ASCII case ignored?
@@ -230,18 +193,18 @@ pub fn names_differ(
 ) -> bool
     ensures { NamesJudged source.now at taxa.0 characters.0 result }
 {
+    let rows = Rows {
+        source,
+        at,
+        count: taxa,
+        characters,
+    };
     if taxa.0 <= 200 {
-        return few_differ(source, at, taxa, characters);
+        return few_differ(rows);
     }
-    match compare_names(source, at, taxa, characters) {
-        Compared::Differ => {
-            return true;
-        }
-        Compared::Twice => {
-            return false;
-        }
-        Compared::Crowded => {
-            return ordered_differ(source, at, taxa, characters);
-        }
+    match compare_names(rows) {
+        Ok(()) => true,
+        Err(Clash::Twice) => false,
+        Err(Clash::Crowded) => ordered_differ(rows),
     }
 }

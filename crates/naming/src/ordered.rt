@@ -9,11 +9,11 @@ ghost use Rattle.naming.specs.Order.{LineInserted, NamesInserted, Parted, Rising
 ghost use Rattle.naming.specs.Rows.{NamesJudged};
 
 use super::lines::{lines_alike, lower_byte};
-use super::names::Entered;
-use super::rows::{name_begin, next_row};
-use block::{CharacterNumber, TaxonNumber};
+use super::rows::{Rows, name_begin, next_row};
+use block::TaxonNumber;
 
 // Is the line at a place before that at another? Their first bytes that are not alike tell; a line that ends is before one that goes on.
+// Both places are counted, as in lines_alike.
 fn line_before(source: &[u8], first: usize, second: usize) -> bool
     ensures { result ≡ before (line_at source.now first) (line_at source.now second) }
 {
@@ -23,9 +23,9 @@ fn line_before(source: &[u8], first: usize, second: usize) -> bool
         let x = lower_byte(source, i);
         let y = lower_byte(source, j);
         if x != y {
-            return (y != 10) & ((x == 10) | (x < y));
+            return (y != b'\n') & ((x == b'\n') | (x < y));
         }
-        if x == 10 {
+        if x == b'\n' {
             return false;
         }
         i += 1;
@@ -38,17 +38,8 @@ fn lines_before(source: &[u8], at: usize, places: &[usize], count: TaxonNumber) 
     requires { (count.0 ≤ length places.now) × Rising source.now (take count.0 places.now) }
     ensures { Parted source.now at (take count.0 places.now) result.0 }
 {
-    let mut low = 0;
-    let mut high = count.0;
-    while low < high {
-        let middle = low + (high - low) / 2;
-        if line_before(source, places[middle], at) {
-            low = middle + 1;
-        } else {
-            high = middle;
-        }
-    }
-    TaxonNumber(low)
+    let before = places[..count.0].partition_point(|&place| line_before(source, place, at));
+    TaxonNumber(before)
 }
 
 // Is the line at a place among those at so many others in order, so many of which are before it? Only the next can be like it.
@@ -74,12 +65,8 @@ fn insert_place(places: &mut [usize], count: TaxonNumber, front: TaxonNumber, at
     requires { (front.0 ≤ count.0) × (count.0 < length places.old) }
     ensures { take (count.0 + 1) places.new ≡ inserted at front.0 (take count.0 places.old) }
 {
-    let mut k = count.0;
-    while front.0 < k {
-        places[k] = places[k - 1];
-        k -= 1;
-    }
-    places[k] = at;
+    places.copy_within(front.0..count.0, front.0 + 1);
+    places[front.0] = at;
 }
 
 // The line at a place is looked for among those at so many others in order, and inserted where it is not among them.
@@ -95,129 +82,92 @@ fn insert_line(source: &[u8], at: usize, places: &mut [usize], count: TaxonNumbe
     false
 }
 
-// The names of so many rows at a place are inserted, up to the first that is like one before it.
-fn insert_names(
-    source: &[u8],
-    at: usize,
-    rows: TaxonNumber,
-    characters: CharacterNumber,
-    places: &mut [usize],
-) -> Entered
-    requires { rows.0 ≤ length places.old }
-    ensures { NamesInserted source.now characters.0 at rows.0 places.new result }
+// The names of so many rows at a place are inserted, up to the first that is like one before it. The loop is that of enter_names; one loop over a closure
+// would be no plainer, since the two keep different facts.
+fn insert_names(rows: Rows, places: &mut [usize]) -> Option<usize>
+    requires { rows.count.0 ≤ length places.old }
+    ensures { NamesInserted rows.entry.source.now rows.entry.characters.0 rows.entry.at rows.entry.count.0 places.new result }
 {
-    let mut here = at;
-    let mut count = 0;
-    while count < rows.0 {
-        let name = name_begin(source, here);
-        if insert_line(source, name, places, TaxonNumber(count)) {
-            return Entered::Twice;
+    let mut here = rows.at;
+    for count in 0..rows.count.0 {
+        let name = name_begin(rows.source, here);
+        if insert_line(rows.source, name, places, TaxonNumber(count)) {
+            return None;
         }
-        here = next_row(source, here, characters);
-        count += 1;
+        here = next_row(rows.source, here, rows.characters);
     }
-    Entered::Behind(here)
+    Some(here)
 }
 
 // Is none of the names of so many rows at a place among those that are in order?
-fn none_found(
-    source: &[u8],
-    at: usize,
-    rows: TaxonNumber,
-    characters: CharacterNumber,
-    places: &[usize],
-    count: TaxonNumber,
-) -> bool
-    requires { (count.0 ≤ length places.now) × Rising source.now (take count.0 places.now) }
-    ensures { RowsJudged source.now characters.0 at rows.0 (few_known (lines_at source.now (take count.0 places.now)) 0) result }
+fn none_found(rows: Rows, places: &[usize], count: TaxonNumber) -> bool
+    requires { (count.0 ≤ length places.now) × Rising rows.source.now (take count.0 places.now) }
+    ensures { RowsJudged rows.entry.source.now rows.entry.characters.0 rows.entry.at rows.entry.count.0 (few_known (lines_at rows.entry.source.now (take count.0 places.now)) 0) result }
 {
-    let mut here = at;
-    let mut left = rows.0;
-    while 0 < left {
-        let name = name_begin(source, here);
-        let front = lines_before(source, name, places, count);
-        if line_found(source, name, places, count, front) {
+    let mut here = rows.at;
+    for _row in 0..rows.count.0 {
+        let name = name_begin(rows.source, here);
+        let front = lines_before(rows.source, name, places, count);
+        if line_found(rows.source, name, places, count, front) {
             return false;
         }
-        here = next_row(source, here, characters);
-        left -= 1;
+        here = next_row(rows.source, here, rows.characters);
     }
     true
 }
 
 // The names of so many rows at a place are held against each other, and against those of so many rows behind them.
-fn rows_held(
-    source: &[u8],
-    at: usize,
-    rows: TaxonNumber,
-    later: TaxonNumber,
-    characters: CharacterNumber,
-    places: &mut [usize],
-) -> Entered
-    requires { rows.0 ≤ length places.old }
-    ensures { RowsHeld source.now characters.0 at rows.0 later.0 result }
+fn rows_held(rows: Rows, later: TaxonNumber, places: &mut [usize]) -> Option<usize>
+    requires { rows.count.0 ≤ length places.old }
+    ensures { RowsHeld rows.entry.source.now rows.entry.characters.0 rows.entry.at rows.entry.count.0 later.0 result }
 {
-    match insert_names(source, at, rows, characters, places) {
-        Entered::Behind(next) => {
-            if none_found(source, next, later, characters, places, rows) {
-                return Entered::Behind(next);
-            }
-            return Entered::Twice;
-        }
-        Entered::Twice => {
-            return Entered::Twice;
-        }
+    let next = insert_names(rows, places)?;
+    let behind = Rows {
+        at: next,
+        count: later,
+        ..rows
+    };
+    if none_found(behind, places, rows.count) {
+        return Some(next);
     }
+    None
 }
 
 // As many of so many rows as there is room for.
 fn rows_at_once(left: TaxonNumber, room: usize) -> TaxonNumber
     ensures { (result.0 ≤ left.0) × (result.0 ≤ room) × (0 < left.0 → 0 < room → 0 < result.0) }
 {
-    if left.0 < room {
-        return left;
-    }
-    TaxonNumber(room)
+    TaxonNumber(left.0.min(room))
 }
 
 // Do the names of so many rows at a place differ? As many as there is room for are kept in order at a time.
-fn ordered_by(
-    source: &[u8],
-    at: usize,
-    taxa: TaxonNumber,
-    characters: CharacterNumber,
-    places: &mut [usize],
-) -> bool
+fn ordered_by(rows: Rows, places: &mut [usize]) -> bool
     requires { 0 < length places.old }
-    ensures { NamesJudged source.now at taxa.0 characters.0 result }
+    ensures { NamesJudged rows.entry.source.now rows.entry.at rows.entry.count.0 rows.entry.characters.0 result }
 {
-    let mut here = at;
-    let mut left = taxa.0;
+    let mut here = rows.at;
+    let mut left = rows.count.0;
     while 0 < left {
-        let rows = rows_at_once(TaxonNumber(left), places.len());
-        let later = left - rows.0;
-        match rows_held(source, here, rows, TaxonNumber(later), characters, places) {
-            Entered::Behind(next) => {
-                here = next;
-                left = later;
-            }
-            Entered::Twice => {
-                return false;
-            }
-        }
+        let count = rows_at_once(TaxonNumber(left), places.len());
+        let later = left - count.0;
+        let first = Rows {
+            at: here,
+            count,
+            ..rows
+        };
+        let Some(next) = rows_held(first, TaxonNumber(later), places) else {
+            return false;
+        };
+        here = next;
+        left = later;
     }
     true
 }
 
 // Do the names of so many rows at a place differ? They are kept in order, some thousand at a time, and looked for by halving.
-pub fn ordered_differ(
-    source: &[u8],
-    at: usize,
-    taxa: TaxonNumber,
-    characters: CharacterNumber,
-) -> bool
-    ensures { NamesJudged source.now at taxa.0 characters.0 result }
+pub fn ordered_differ(rows: Rows) -> bool
+    ensures { NamesJudged rows.entry.source.now rows.entry.at rows.entry.count.0 rows.entry.characters.0 result }
 {
     let mut places = [0usize; 16000];
-    ordered_by(source, at, taxa, characters, &mut places)
+    ordered_by(rows, &mut places)
 }

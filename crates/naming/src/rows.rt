@@ -4,7 +4,16 @@ ghost use Rattle.std.specs.Prelude.{◌+◌, ◌<◌, length, ◌≡◌};
 ghost use Rattle.naming.specs.Rows.{CellsBegin, CellsEnd, RowPassed};
 
 use super::lines::line_end;
-use block::CharacterNumber;
+use block::{CharacterNumber, TaxonNumber};
+
+// So many rows, with so many cells each, that stand from a place on.
+#[derive(Clone, Copy)]
+pub struct Rows<'a> {
+    pub source: &'a [u8],
+    pub at: usize,
+    pub count: TaxonNumber,
+    pub characters: CharacterNumber,
+}
 
 // Where the name of a row at a place begins, behind the key `name=`.
 pub fn name_begin(source: &[u8], at: usize) -> usize

@@ -1,4 +1,6 @@
 -- What the program prints of its input is what the read call answers and leaves, in whatever buffer of its length. Assumes nothing.
+use Rattle.std.specs.Prelude.{Ok, Err}
+use Rattle.std.specs.Prelude as Std
 use Prim.Native.Nat.{ℕ, ◌≤◌, ◌<◌}
 use Rattle.lexer.proofs.Basics.{by-test}
 use Rattle.lexer.specs.Base.{pick}
@@ -14,7 +16,8 @@ use Rattle.record.proofs.ProgramLaws.{buffer-room}
 use Rattle.record.specs.Calls.{Result, bytes_of, refusal, answer, leaves, read_result, read_answer, read_leaves, printed}
 use Rattle.record.specs.Demands.{refusal_lines}
 use Rattle.record.specs.Program.{most_input, program_work, program_buffer, program_prints}
-use Rattle.record.specs.declared.Answer.{Answer}
+use Rattle.lexer.specs.declared.Fault.{Fault}
+use Rattle.lexer.specs.Refusals.{fault}
 use borrow.Author.Tests.{le-leb, lt-leb}
 use lib.Dec.{leb}
 use lib.ListN.{length, drop}
@@ -39,23 +42,23 @@ module _ (input : List ℕ) where
   long-prints h shown k front = rw (lt-leb (length input) 1024 h) front
 
   -- Input that is read
-  module _ (short : length input ≤ 1024) (work after out left : List ℕ) (size : 4160 ≡ length work) (room : 65536 ≡ length out) (a : Answer) (call : ReadCall input work after out left a) where
+  module _ (short : length input ≤ 1024) (work after out left : List ℕ) (size : 4160 ≡ length work) (room : 65536 ≡ length out) (a : Std.Result ℕ (Fault Place)) (call : ReadCall input work after out left a) where
     call-prints : printed a left ≡ program_prints input
     unfolding program_prints program_work work_needed most_input pick read_answer read_leaves
     call-prints =
         rw (call.answer, call.left, le-leb (length input) 1024 short, sym size)
         (printed-alike (read_result input 4160) out program_buffer (sym room ∙ sym buffer-room))
 
-    pub length-prints : (n : ℕ) → a ≡ Answer.Length n → InFront (program_prints input) left n
+    pub length-prints : (n : ℕ) → a ≡ Ok n → InFront (program_prints input) left n
     unfolding read_answer read_leaves printed
     length-prints n e =
         let k = kept (read_result input (length work)) out in
-        let told : answer (read_result input (length work)) (length out) ≡ Answer.Length n = sym call.answer ∙ e in
+        let told : answer (read_result input (length work)) (length out) ≡ Ok n = sym call.answer ∙ e in
         let same : length left ≡ length out = ap length call.left ∙ k.room in
         let within = (k.answered n told).0 in
         record { within = omega arith; bytes = ap (λ x. printed x left) (sym e) ∙ call-prints }
 
-    pub refusal-prints : (why : Refusal) (at : Place) → a ≡ Answer.Refused why at → (n : ℕ) → n ≡ number why → (shown : List ℕ) (k : ℕ)
+    pub refusal-prints : (why : Refusal) (at : Place) → a ≡ Err (fault why at) → (n : ℕ) → n ≡ number why → (shown : List ℕ) (k : ℕ)
         → InFront (refusal_lines n at.line at.column) shown k → InFront (program_prints input) shown k
     unfolding printed
     refusal-prints why at e n told shown k front =

@@ -1,3 +1,2 @@
 -- The definitions of the program.
-pub mod Inputs
 pub mod Printing

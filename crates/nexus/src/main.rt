@@ -2,16 +2,14 @@
 
 #![tactic(auto)]
 
-ghost use Rattle.nexus.specs.Inputs.{Within};
 ghost use Rattle.nexus.specs.Printing.{InFront};
 ghost use Rattle.record.specs.Demands.{refusal_lines};
 ghost use Rattle.record.specs.Program.{program_prints};
-ghost use Rattle.std.specs.Prelude.{length, ◌≡◌};
+ghost use Rattle.std.specs.Prelude.{IfOk, length, ◌≤◌, ◌≡◌};
 
-use lexer::refusal_number;
+use lexer::{Fault, refusal_number};
 use read::read;
 use reading::names::put_number;
-use record::Answer;
 use std::io;
 use std::io::{Read, Write};
 
@@ -35,36 +33,24 @@ fn prints(input: &[u8], out: &mut [u8]) -> usize
     }
     let mut work = [0u32; 4160];
     match read(input, &mut work, out) {
-        Answer::Length(n) => n,
-        Answer::Refused(why, at) => put_refusal(
-            out,
-            refusal_number(why) as usize,
-            at.line,
-            at.column,
-        ),
+        Ok(n) => n,
+        Err(Fault(why, at)) => put_refusal(out, refusal_number(why) as usize, at.line, at.column),
     }
 }
 
-// What reading comes to: so many bytes, or a read that failed, and why.
-#[derive(Clone, Copy)]
-enum Input {
-    Bytes(usize),
-    Failed(io::Error),
-}
-
-// Reads to the front of what is lent, until that is full, the input ends or a read fails.
-fn read_input<R: Read>(reader: &mut R, input: &mut [u8]) -> Input
-    ensures { Within result (length input.new) }
+// Reads to the front of what is lent, until that is full or the input ends, and answers how many bytes these are. Only a read can fail.
+fn read_input<R: Read>(reader: &mut R, input: &mut [u8]) -> io::Result<usize>
+    ensures { IfOk result (λ n. n ≤ length input.new) }
 {
     let mut n = 0;
     while n < input.len() {
-        match reader.read(&mut input[n..]) {
-            Ok(0) => return Input::Bytes(n),
-            Ok(more) => n += more,
-            Err(why) => return Input::Failed(why),
+        let more = reader.read(&mut input[n..])?;
+        if more == 0 {
+            break;
         }
+        n += more;
     }
-    Input::Bytes(n)
+    Ok(n)
 }
 
 // Prints what `prints` puts of standard input, or says on standard error why it cannot be read or printed, in the system's own words: the number that std
@@ -73,14 +59,14 @@ fn main(rt: HostRuntime) {
     let mut input = [0u8; 1025];
     let mut out = [0u8; 65536];
     let failed = match read_input(&mut rt.stdin(), &mut input) {
-        Input::Bytes(n) => {
+        Ok(n) => {
             let size = prints(&input[..n], &mut out);
             match rt.stdout().write_all(&out[..size]) {
                 Ok(()) => None,
                 Err(why) => Some(("write", why)),
             }
         }
-        Input::Failed(why) => Some(("read", why)),
+        Err(why) => Some(("read", why)),
     };
     if let Some((what, why)) = failed {
         let mut text = [0u8; 256];

@@ -1,29 +1,30 @@
 -- What a call answers, in numbers: a length, and the number, the line and the column of a refusal, each 0 where there is none.
-use Rattle.std.specs.Prelude.{ℕ, length, List, ◌≡◌}
+use Rattle.std.specs.Prelude.{ℕ, length, List, ◌≡◌, Ok, Err, Result}
 use Rattle.lexer.specs.Refusals.{number}
 use Rattle.record.specs.Calls.{lookup_answer, read_answer, read_leaves, write_answer, write_leaves}
-use Rattle.record.specs.declared.Answer.{Answer}
+use Rattle.lexer.specs.declared.Fault.{Fault}
+use Rattle.lexer.specs.declared.Place.{Place}
 
 -- How many bytes were put.
-unfoldable pub length_of : Answer → ℕ
-length_of (Answer.Length n) = n
-length_of (Answer.Refused why at) = 0
+unfoldable pub length_of : Result ℕ (Fault Place) → ℕ
+length_of (Ok n) = n
+length_of (Err f) = 0
 
 -- The number of the refusal. No refusal has the number 0.
-unfoldable pub number_of : Answer → ℕ
-number_of (Answer.Length n) = 0
-number_of (Answer.Refused why at) = number why
+unfoldable pub number_of : Result ℕ (Fault Place) → ℕ
+number_of (Ok n) = 0
+number_of (Err f) = number f.0
 
-unfoldable pub line_of : Answer → ℕ
-line_of (Answer.Length n) = 0
-line_of (Answer.Refused why at) = at.line
+unfoldable pub line_of : Result ℕ (Fault Place) → ℕ
+line_of (Ok n) = 0
+line_of (Err f) = f.1.line
 
-unfoldable pub column_of : Answer → ℕ
-column_of (Answer.Length n) = 0
-column_of (Answer.Refused why at) = at.column
+unfoldable pub column_of : Result ℕ (Fault Place) → ℕ
+column_of (Ok n) = 0
+column_of (Err f) = f.1.column
 
 -- An answer in numbers.
-pub record InNumbers (a : Answer) (r n l c : ℕ) : Type 0 where
+pub record InNumbers (a : Result ℕ (Fault Place)) (r n l c : ℕ) : Type 0 where
   pub result : r ≡ length_of a
   pub number : n ≡ number_of a
   pub line : l ≡ line_of a

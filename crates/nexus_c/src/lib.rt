@@ -4,10 +4,9 @@
 
 ghost use Rattle.nexus_c.specs.Exports.{LookupExported, ReadExported, WriteExported};
 
-use lexer::refusal_number;
+use lexer::{Fault, refusal_number};
 use lookup::look_at;
 use read::read;
-use record::Answer;
 use write::write;
 
 // The length of a text's record, which then stands at the front of the buffer; or 0. The lent numbers become the refusal's number, line and column, each
@@ -24,13 +23,13 @@ pub extern "C" fn nexus_read(
     ensures { ReadExported text.now work.old work.new buffer.old buffer.new number.new line.new column.new result }
 {
     match read(text, work, buffer) {
-        Answer::Length(n) => {
+        Ok(n) => {
             *number = 0;
             *line = 0;
             *column = 0;
             n
         }
-        Answer::Refused(why, at) => {
+        Err(Fault(why, at)) => {
             *number = refusal_number(why);
             *line = at.line;
             *column = at.column;
@@ -46,11 +45,11 @@ pub extern "C" fn nexus_write(source: &[u8], buffer: &mut [u8], number: &mut u32
     ensures { WriteExported source.now buffer.old buffer.new number.new result }
 {
     match write(source, buffer) {
-        Answer::Length(n) => {
+        Ok(n) => {
             *number = 0;
             n
         }
-        Answer::Refused(why, _) => {
+        Err(Fault(why, _)) => {
             *number = refusal_number(why);
             0
         }
@@ -68,8 +67,16 @@ pub extern "C" fn nexus_lookup(
 ) -> usize
     ensures { LookupExported source.now name.now number.new start.new result }
 {
-    let looked = look_at(source, name);
-    *number = looked.number;
-    *start = looked.start;
-    looked.size
+    match look_at(source, name) {
+        Ok(cells) => {
+            *number = 0;
+            *start = cells.start;
+            cells.end - cells.start
+        }
+        Err(why) => {
+            *number = refusal_number(why);
+            *start = 0;
+            0
+        }
+    }
 }

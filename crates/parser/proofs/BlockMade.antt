@@ -1,4 +1,5 @@
 -- A command: outside of a block it begins one, and in a block it ends it or not. Assumes nothing.
+use Rattle.std.specs.Prelude.{Err, Option, Result}
 use Prim.Native.Nat.{ℕ, ◌+◌, ◌≤◌, ◌<◌}
 use Rattle.block.specs.Blocks as B
 use Rattle.block.specs.Blocks.{begin_words, block_step, end_block, ends, in_phase, inner_step, is_outside}
@@ -9,9 +10,7 @@ use Rattle.commands.specs.StateHeld.{Reader, Retypes, phase_of, state_of, steppe
 use Rattle.commands.specs.StatePlaced.{StatePlaced, SteppedPlaced}
 use Rattle.commands.specs.Stepping.{Made, state_held, step_held}
 use Rattle.commands.specs.declared.state.Data.{Data}
-use Rattle.commands.specs.declared.state.Matrix.{Matrix}
 use Rattle.commands.specs.declared.state.State.{State}
-use Rattle.commands.specs.declared.state.Stepped.{Stepped}
 use Rattle.lexer.specs.Base.{bytes, is_empty, pick}
 use Rattle.lexer.specs.Stored.{range, word_of}
 use Rattle.lexer.specs.Words.{Numbered, is}
@@ -19,6 +18,9 @@ use Rattle.lexer.specs.declared.refusal.Refusal.{Refusal}
 use Rattle.parser.proofs.HeldLaws.{held-retypes}
 use Rattle.parser.proofs.MadeLaws.{kept-made, made_as}
 use Rattle.parser.proofs.StartsLaws.{range_front, word-front}
+use Rattle.lexer.specs.declared.Fault.{Fault}
+use Rattle.lexer.specs.Refusals.{fault}
+use Rattle.commands.specs.declared.state.Held.{Held}
 use lib.ListN.{length, take}
 use mathlib.Core.Bool.{Bool, true, false, ◌||◌}
 use mathlib.Core.List.{List, [], ◌∷◌}
@@ -68,13 +70,13 @@ module _ (text work : List ℕ) (count head to : ℕ) (s : State) (ahead : head 
   worded ws e = ap words (sym (range_front text work count (head + 1) to within)) ∙ e
 
   pub more-made : one || two ≡ true → (w : Numbered) (ws : List Numbered) → words (range text work (head + 1) to) ≡ w ∷ ws
-      → Made text work work count head to s (Stepped.Refused Refusal.WordsAfterEnd head) (block_right text work count head to s)
+      → Made text work work count head to s (Err (fault Refusal.WordsAfterEnd head)) (block_right text work count head to s)
   unfolding step_held stepped word_of
   more-made e w ws n =
-      kept-made text work count head to s (Stepped.Refused Refusal.WordsAfterEnd head)
+      kept-made text work count head to s (Err (fault Refusal.WordsAfterEnd head))
       (block_more (state_held text work count s) (word_of text (take count work) head) (range text (take count work) (head + 1) to) (tested true e) w ws (worded (w ∷ ws) n)) (λ k p. tt)
 
-  pub ended-made : one || two ≡ true → words (range text work (head + 1) to) ≡ [] → (r : Stepped)
+  pub ended-made : one || two ≡ true → words (range text work (head + 1) to) ≡ [] → (r : Result State (Fault ℕ))
       → ((m : Reader) → Retypes m → stepped m text (take count work) r ≡ end_block (state_of m text (take count work) s) (phase_of m text (take count work) s.«data» s.matrix s.phase))
       → ((size : ℕ) → StatePlaced text (take count work) size s → SteppedPlaced text (take count work) size r)
       → Made text work work count head to s r (block_right text work count head to s)
@@ -85,7 +87,7 @@ module _ (text work : List ℕ) (count head to : ℕ) (s : State) (ahead : head 
       ∙ block-ended (state_held text work count s) (word_of text (take count work) head) (range text (take count work) (head + 1) to) (tested true e) (worded [] n))
       (λ k p. placed (length work) p)
 
-  pub inner_made : one || two ≡ false → (after : List ℕ) (r : Stepped)
+  pub inner_made : one || two ≡ false → (after : List ℕ) (r : Result State (Fault ℕ))
       → Made text work after count head to s r
       (then (inner_step (state_held text work count s) (word_of text (take count work) head) (range text (take count work) (head + 1) to) (phase_of (held text work count) text (take count work) s.«data» s.matrix s.phase))
       (λ p. done (in_phase p (state_held text work count s))))
@@ -95,12 +97,12 @@ module _ (text work : List ℕ) (count head to : ℕ) (s : State) (ahead : head 
       made_as text work after count head to s r (block-inner (state_held text work count s) (word_of text (take count work) head) (range text (take count work) (head + 1) to) (tested false e)) made
 
 -- By whether a block is open.
-module _ (text work : List ℕ) (count head to : ℕ) (s : State) (top : Bool) (is_top : (m : Reader) (t w : List ℕ) (d : Data) (matrix : Matrix) → top ≡ is_outside (phase_of m t w d matrix s.phase)) where
+module _ (text work : List ℕ) (count head to : ℕ) (s : State) (top : Bool) (is_top : (m : Reader) (t w : List ℕ) (d : Data) (matrix : Option Held) → top ≡ is_outside (phase_of m t w d matrix s.phase)) where
   outside-tested : (t : Bool) → top ≡ t → is_outside (state_held text work count s).phase ≡ t
   unfolding state_held state_of
   outside-tested t e = sym (is_top (held text work count) text (take count work) s.«data» s.matrix) ∙ e
 
-  pub top-made : top ≡ true → (r : Stepped)
+  pub top-made : top ≡ true → (r : Result State (Fault ℕ))
       → ((m : Reader) → stepped m text (take count work) r ≡ begin_words (state_of m text (take count work) s) (word_of text (take count work) head) (words (range text (take count work) (head + 1) to)))
       → ((size : ℕ) → StatePlaced text (take count work) size s → SteppedPlaced text (take count work) size r)
       → Made text work work count head to s r (command_right text work count head to s)
@@ -110,6 +112,6 @@ module _ (text work : List ℕ) (count head to : ℕ) (s : State) (top : Bool) (
       (step (held text work count) ∙ step-top (state_held text work count s) (word_of text (take count work) head) (range text (take count work) (head + 1) to) (outside-tested true e))
       (λ k p. placed (length work) p)
 
-  pub open_made : top ≡ false → (after : List ℕ) (r : Stepped) → Made text work after count head to s r (block_right text work count head to s) → Made text work after count head to s r (command_right text work count head to s)
+  pub open_made : top ≡ false → (after : List ℕ) (r : Result State (Fault ℕ)) → Made text work after count head to s r (block_right text work count head to s) → Made text work after count head to s r (command_right text work count head to s)
   open_made e after r made =
       made_as text work after count head to s r (step-inner (state_held text work count s) (word_of text (take count work) head) (range text (take count work) (head + 1) to) (outside-tested false e)) made

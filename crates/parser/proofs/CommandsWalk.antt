@@ -1,4 +1,5 @@
 -- Commands are read one after another: those that are left make of the state what all of them make of the first one. Assumes nothing.
+use Rattle.std.specs.Prelude.{Ok, Err, Result}
 use Prim.Native.Nat.{ℕ, ◌+◌, ◌≤◌}
 use Rattle.block.specs.Blocks as B
 use Rattle.block.specs.Commands.{commands}
@@ -10,17 +11,16 @@ use Rattle.commands.specs.StatePlaced.{StatePlaced}
 use Rattle.commands.specs.Stepping.{Answers, Enough, state_held}
 use Rattle.commands.specs.WorkMap.{map_fits}
 use Rattle.commands.specs.declared.state.Held.{Held}
-use Rattle.commands.specs.declared.state.Parsed.{Parsed}
 use Rattle.commands.specs.declared.state.State.{State}
 use Rattle.lexer.specs.Lexing.{longest}
 use Rattle.lexer.specs.Stored.{range}
 use Rattle.lexer.specs.declared.refusal.Refusal.{Refusal}
-use Rattle.parser.proofs.FinishLaws.{refused-fits}
 use Rattle.parser.proofs.StartsLaws.{range_front}
 use Rattle.parser.proofs.TurnLaws.{none_left}
 use Rattle.parser.specs.ParsedHeld.{parsed_held}
 use Rattle.parser.specs.Turning.{BehindMade, TurnMade, commands_held}
-use Rattle.parser.specs.declared.parse.Turned.{Turned}
+use Rattle.lexer.specs.declared.Fault.{Fault}
+use Rattle.lexer.specs.Refusals.{fault}
 use lib.ListN.{length, take}
 use lib.Seq.{length-take-le}
 use mathlib.Core.Bool.{true}
@@ -54,31 +54,21 @@ module _ (text before : List ℕ) (count from : ℕ) where
   unfolding commands_held state_held
   walking_start s e p = record { size = refl; kept = refl; rest = ap (λ x. fold B.step x (commands (range text (take count before) from count))) (e _ _ _); placed = λ few. p _ _ _ }
 
-  module _ (work after : List ℕ) (s : State) (i : ℕ) (k : Walking work s i) where
-    pub walking-turn : (t : State) (j : ℕ) → TurnMade text work after count i s (Turned.State t j) → Walking after t j
-    walking-turn t j m =
-        record {
-          size = m.size ∙ k.size;
-          kept = m.kept ∙ k.kept;
-          rest = m.turn.0 ∙ k.rest;
-          placed = λ few. m.placed (rw k.kept few) (k.placed few);
-        }
-
 -- What they come to behind #NEXUS.
 module _ (text before : List ℕ) (count header : ℕ) (room : count ≤ length before) (work : List ℕ) (s : State) (i : ℕ) (k : Walking text before count (header + 1) work s i) where
-  pub walking-refused : (after : List ℕ) (n : Refusal) (j : ℕ) → TurnMade text work after count i s (Turned.Refused n j) → BehindMade text before after count header (Parsed.Refused n j)
+  pub walking-refused : (after : List ℕ) (n : Refusal) (j : ℕ) → TurnMade text work after count i s (Err (fault n j)) → BehindMade text before after count header (Err (fault n j))
   unfolding parsed_held parse_behind then
   walking-refused after n j m =
       record {
         size = m.size ∙ k.size;
         kept = m.kept ∙ k.kept;
         answer = answers-then (B.finish header) (answers-as refl k.rest (answers-wider (λ e. (enough-kept text before count work k.size k.kept e, k.placed (enough-few text before count room e))) m.turn));
-        fits = λ h e. refused-fits _ _ h e;
+        fits = λ h e. cc;
       }
 
-  pub walking-end : (r : Parsed) → count ≤ i
+  pub walking-end : (r : Result Held (Fault ℕ)) → count ≤ i
       → Answers (StatePlaced text (take count work) (length work) s) (parsed_held text work count r) (B.finish header (state_held text work count s))
-      → ((h : Held) → r ≡ Parsed.Held h → map_fits (length work) count h.lines h.taxa h.characters ≡ true)
+      → ((h : Held) → r ≡ Ok h → map_fits (length work) count h.lines h.taxa h.characters ≡ true)
       → BehindMade text before work count header r
   unfolding parse_behind then commands_held
   walking-end r l a f =

@@ -1,4 +1,5 @@
 -- The step over what was found next: nothing, a fault, or a command that stands among the tokens. Assumes nothing.
+use Rattle.std.specs.Prelude.{Ok, Err, Result}
 use Prim.Native.Nat.{ℕ, ◌+◌, ◌≤◌, ◌<◌}
 use Rattle.block.specs.Blocks as B
 use Rattle.block.specs.Commands.{command}
@@ -8,44 +9,41 @@ use Rattle.commands.specs.StateHeld.{stepped}
 use Rattle.commands.specs.StatePlaced.{CommandPlaced}
 use Rattle.commands.specs.Stepping.{Enough, Made, answered, short, state_held, step_held}
 use Rattle.commands.specs.declared.state.State.{State}
-use Rattle.commands.specs.declared.state.Stepped.{Stepped}
-use Rattle.lexer.proofs.Basics.{not-both, or-both, or_left, or_right}
+use Rattle.lexer.proofs.Basics.{not-both, or-both}
 use Rattle.lexer.specs.Lexing.{longest}
 use Rattle.lexer.specs.Stored.{range, word_of}
 use Rattle.lexer.specs.declared.refusal.Refusal.{Refusal}
 use Rattle.parser.specs.Steps.{StepMade, cut_step}
-use borrow.Author.Tests.{le-ltb, leb-false, lt-leb, ltb-false}
+use Rattle.lexer.specs.declared.Fault.{Fault}
+use Rattle.lexer.specs.Refusals.{fault}
+use borrow.Author.Tests.{le-ltb, lt-leb}
 use lib.Dec.{leb, ltb}
 use lib.ListN.{length, take}
 use lib.Seq.{length-take-le}
-use mathlib.Core.Bool.{true, false, ◌||◌}
+use mathlib.Core.Bool.{true, ◌||◌}
 use mathlib.Core.List.{List}
 use mathlib.Core.Path.{◌≡◌, refl, sym, subst}
 use native.Mathlib.Omega.{arith}
 
--- A command whose first word stands in front of its end, which is among so many tokens, by the test.
-pub in-order : (h e count : ℕ) → leb e h || ltb count e ≡ false → (h < e) × (e ≤ count)
-in-order h e count f = (leb-false e h (or_left (leb e h) (ltb count e) f), ltb-false count e (or_right (leb e h) (ltb count e) f))
-
 module _ (text work : List ℕ) (count : ℕ) (s : State) (cut : Cut) where
-  pub none_made : cut ≡ Cut.None → StepMade text work work count s cut (Stepped.State s)
+  pub none_made : cut ≡ Cut.None → StepMade text work work count s cut (Ok s)
   unfolding step_held state_held stepped cut_step
-  none_made e = subst (λ k. StepMade text work work count s k (Stepped.State s)) (sym e) (record { size = refl; kept = refl; step = answered refl; placed = λ few w p. p })
+  none_made e = subst (λ k. StepMade text work work count s k (Ok s)) (sym e) (record { size = refl; kept = refl; step = answered refl; placed = λ few w p. p })
 
-  pub empty-made : (i : ℕ) → cut ≡ Cut.Empty i → StepMade text work work count s cut (Stepped.Refused Refusal.EmptyCommand i)
+  pub empty-made : (i : ℕ) → cut ≡ Cut.Empty i → StepMade text work work count s cut (Err (fault Refusal.EmptyCommand i))
   unfolding step_held stepped cut_step B.step
-  empty-made i e = subst (λ k. StepMade text work work count s k (Stepped.Refused Refusal.EmptyCommand i)) (sym e) (record { size = refl; kept = refl; step = answered refl; placed = λ few w p. tt })
+  empty-made i e = subst (λ k. StepMade text work work count s k (Err (fault Refusal.EmptyCommand i))) (sym e) (record { size = refl; kept = refl; step = answered refl; placed = λ few w p. tt })
 
-  pub unended-made : (i : ℕ) → cut ≡ Cut.Unended i → StepMade text work work count s cut (Stepped.Refused Refusal.UnendedCommand i)
+  pub unended-made : (i : ℕ) → cut ≡ Cut.Unended i → StepMade text work work count s cut (Err (fault Refusal.UnendedCommand i))
   unfolding step_held stepped cut_step B.step
-  unended-made i e = subst (λ k. StepMade text work work count s k (Stepped.Refused Refusal.UnendedCommand i)) (sym e) (record { size = refl; kept = refl; step = answered refl; placed = λ few w p. tt })
+  unended-made i e = subst (λ k. StepMade text work work count s k (Err (fault Refusal.UnendedCommand i))) (sym e) (record { size = refl; kept = refl; step = answered refl; placed = λ few w p. tt })
 
   -- A command from an index up to another, which must stand in order among the tokens.
   module _ (h e : ℕ) (found : cut ≡ Cut.Command h e) where
-    pub apart-made : leb e h || ltb count e ≡ true → StepMade text work work count s cut (Stepped.Refused Refusal.WorkMemoryShort 0)
+    pub apart-made : leb e h || ltb count e ≡ true → StepMade text work work count s cut (Err (fault Refusal.WorkMemoryShort 0))
     unfolding step_held stepped
     apart-made t =
-        subst (λ k. StepMade text work work count s k (Stepped.Refused Refusal.WorkMemoryShort 0)) (sym found)
+        subst (λ k. StepMade text work work count s k (Err (fault Refusal.WorkMemoryShort 0))) (sym found)
         (record {
           size = refl;
           kept = refl;
@@ -60,7 +58,7 @@ module _ (text work : List ℕ) (count : ℕ) (s : State) (cut : Cut) where
     unfolding longest
     enough-few fits q = omega (arith, length-take-le count work fits, q.bytes, q.tokens)
 
-    pub command-made : count ≤ length work → (after : List ℕ) (r : Stepped)
+    pub command-made : count ≤ length work → (after : List ℕ) (r : Result State (Fault ℕ))
         → Made text work after count h e s r (B.step (state_held text work count s) (command (word_of text (take count work) h) (range text (take count work) (h + 1) e)))
         → StepMade text work after count s cut r
     unfolding cut_step

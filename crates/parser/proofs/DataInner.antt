@@ -1,21 +1,19 @@
 -- A command of a data block: MATRIX, by what was read before it, and any other. Assumes nothing.
+use Rattle.std.specs.Prelude.{None, Err, Result, ⊤}
 use Prim.Native.Nat.{ℕ, ◌+◌, ◌≤◌, ◌<◌}
 use Rattle.block.proofs.DeclaredHeld.{other_word}
 use Rattle.block.specs.Blocks as B
 use Rattle.block.specs.Blocks.{data_command, data_step, in_data, in_phase, matrix, with_matrix}
 use Rattle.block.specs.Outcome.{Outcome, done, refused, then}
 use Rattle.block.specs.Reading.{Reading}
-use Rattle.block.specs.declared.Judged.{Judged}
 use Rattle.commands.proofs.AnswerLaws.{answers-wider}
 use Rattle.commands.proofs.DataLaws.{step-behind}
 use Rattle.commands.specs.MatrixHeld.{held}
 use Rattle.commands.specs.StateHeld.{Reader, data_of, matrix_of, state_of, stepped}
 use Rattle.commands.specs.StatePlaced.{CommandPlaced, DataPlaced, StatePlaced, SteppedPlaced}
 use Rattle.commands.specs.Stepping.{Answers, Made, state_held, step_held}
-use Rattle.commands.specs.declared.state.Matrix.{Matrix}
 use Rattle.commands.specs.declared.state.Phase.{Phase}
 use Rattle.commands.specs.declared.state.State.{State}
-use Rattle.commands.specs.declared.state.Stepped.{Stepped}
 use Rattle.lexer.proofs.Basics.{by-test}
 use Rattle.lexer.proofs.RangeLaws.{word_kept}
 use Rattle.lexer.specs.Base.{alike, bytes, given, lower, pick}
@@ -28,6 +26,8 @@ use Rattle.parser.proofs.StepLaws.{data-placed}
 use Rattle.parser.proofs.TaxaTold.{told-made}
 use Rattle.parser.specs.Storing.{matrix_step}
 use Rattle.parser.specs.TaxaTold.{TaxaTold}
+use Rattle.lexer.specs.declared.Fault.{Fault}
+use Rattle.lexer.specs.Refusals.{fault}
 use lib.ListN.{length, take}
 use mathlib.Core.Bool.{Bool, true, false}
 use mathlib.Core.List.{List}
@@ -61,10 +61,10 @@ data_right text work count head to s b =
 -- A command behind the matrix.
 module _ (text work : List ℕ) (count head to : ℕ) (s : State) (b : ℕ) where
   pub behind-made : (seen : Bool) → ((m : Reader) (t w : List ℕ) → seen ≡ given (matrix_of m t w s.«data».matrix)) → seen ≡ true
-      → Made text work work count head to s (Stepped.Refused Refusal.Command head) (data_right text work count head to s b)
+      → Made text work work count head to s (Err (fault Refusal.Command head)) (data_right text work count head to s b)
   unfolding step_held stepped word_of data_of
   behind-made seen known e =
-      kept-made text work count head to s (Stepped.Refused Refusal.Command head)
+      kept-made text work count head to s (Err (fault Refusal.Command head))
       (step-behind (word_of text (take count work) head) _ b _ _ (sym (known (held text work count) text (take count work)) ∙ e)) (λ k p. tt)
 
 module _ (text work : List ℕ) (count head to : ℕ) (s : State) (b : ℕ) (ahead : head < to) (within : to ≤ count) (open_here : s.phase ≡ Phase.Data b)
@@ -73,14 +73,14 @@ module _ (text work : List ℕ) (count head to : ℕ) (s : State) (b : ℕ) (ahe
   tested t e = ap (is (bytes "MATRIX")) (sym (word-front text work count head (omega arith))) ∙ sym is_first ∙ e
 
   -- A command that is not MATRIX.
-  pub other-made : first ≡ false → (r : Stepped)
+  pub other-made : first ≡ false → (r : Result State (Fault ℕ))
       → ((m : Reader) (size : ℕ) → is (bytes "MATRIX") (word_of text (take count work) head) ≡ false → Answers (DataPlaced text (take count work) size s.«data») (stepped m text (take count work) r)
       (then (data_step (word_of text (take count work) head) (range text (take count work) (head + 1) to) b (data_of m text (take count work) s.«data»)) (λ p. done (in_phase p (state_of m text (take count work) s)))))
-      → ((size : ℕ) → CommandPlaced (take count work) head to → StatePlaced text (take count work) size s → DataPlaced text (take count work) size s.«data» → s.matrix ≡ Matrix.None → SteppedPlaced text (take count work) size r)
+      → ((size : ℕ) → CommandPlaced (take count work) head to → StatePlaced text (take count work) size s → DataPlaced text (take count work) size s.«data» → s.matrix ≡ None → SteppedPlaced text (take count work) size r)
       → Made text work work count head to s r (data_right text work count head to s b)
   unfolding step_held state_held
   other-made f r a p =
-      let placed : StatePlaced text (take count work) (length work) s → DataPlaced text (take count work) (length work) s.«data» × (s.matrix ≡ Matrix.None) =
+      let placed : StatePlaced text (take count work) (length work) s → DataPlaced text (take count work) (length work) s.«data» × (s.matrix ≡ None) =
       λ q. data-placed text (take count work) (length work) s s.phase b open_here q.phase in
       record {
         size = refl;
@@ -91,7 +91,7 @@ module _ (text work : List ℕ) (count head to : ℕ) (s : State) (b : ℕ) (ahe
 
   -- MATRIX.
   pub matrix-made : first ≡ true → (seen : Bool) → ((m : Reader) (t w : List ℕ) → seen ≡ given (matrix_of m t w s.«data».matrix)) → seen ≡ false
-      → (after : List ℕ) (r : Stepped) → (s.phase ≡ Phase.Data b → Made text work after count head to s r (matrix_step text work count s b head to))
+      → (after : List ℕ) (r : Result State (Fault ℕ)) → (s.phase ≡ Phase.Data b → Made text work after count head to s r (matrix_step text work count s b head to))
       → Made text work after count head to s r (data_right text work count head to s b)
   unfolding matrix_step data_of
   matrix-made t seen known e after r made =
@@ -101,9 +101,9 @@ module _ (text work : List ℕ) (count head to : ℕ) (s : State) (b : ℕ) (ahe
       (made open_here)
 
 -- Such a step behind the judgement of the words of TAXLABELS is the step over the command.
-module _ (text before work : List ℕ) (count head to : ℕ) (s : State) (b : ℕ) (j : Judged) (t : TaxaTold text before work count head to s j) where
+module _ (text before work : List ℕ) (count head to : ℕ) (s : State) (b : ℕ) (j : Result ⊤ (Fault ℕ)) (t : TaxaTold text before work count head to s j) where
   pub told-first : head < count → (first : Bool) → first ≡ is (bytes "MATRIX") (word_of text before head) → first ≡ is (bytes "MATRIX") (word_of text work head)
   told-first h first e = e ∙ ap (is (bytes "MATRIX")) (sym (word_kept text work before count t.kept head h))
 
-  pub told-data : (r : Stepped) → Made text work work count head to s r (data_right text work count head to s b) → Made text before work count head to s r (data_right text before count head to s b)
+  pub told-data : (r : Result State (Fault ℕ)) → Made text work work count head to s r (data_right text work count head to s b) → Made text before work count head to s r (data_right text before count head to s b)
   told-data r m = told-made text before work count head to s j t work r (data_right text work count head to s b) (data_right text before count head to s b) (rw (t.declared, t.state, t.kept)) m

@@ -1,4 +1,5 @@
 -- The format that a style means, and the one that the code makes of it. Assumes nothing.
+use Rattle.std.specs.Prelude.{Some, None, Option}
 use Prim.Native.Nat.{ℕ, ◌≤◌}
 use Rattle.block.specs.Format as F
 use Rattle.block.specs.Formats.{Settled, meant, options_of}
@@ -7,7 +8,6 @@ use Rattle.block.specs.declared.formats.Format.{Format}
 use Rattle.commands.specs.MatrixHeld.{format_held}
 use Rattle.commands.specs.StateHeld.{style_of}
 use Rattle.commands.specs.StatePlaced.{StylePlaced}
-use Rattle.commands.specs.declared.state.Style.{Style}
 use Rattle.lexer.proofs.Basics.{by-test}
 use Rattle.lexer.specs.Base.{bytes}
 use Rattle.parser.specs.Storing.{symbols_few}
@@ -41,8 +41,8 @@ unfolding F.default_format bytes
 default-short = omega arith
 
 -- The same by the style.
-module _ (text front : List ℕ) (style : Style) where
-  module _ (e : style ≡ Style.None) where
+module _ (text front : List ℕ) (style : Option Options) where
+  module _ (e : style ≡ None) where
     held-default : F.default_format ≡ format_held text front style
     unfolding format_held style_of
     held-default = rw e
@@ -54,7 +54,7 @@ module _ (text front : List ℕ) (style : Style) where
     unfolding symbols_few
     default-few = rw (← held-default) (sym (le-leb (length (F.default_format).symbols) 74 default-short))
 
-  module _ (o : Options) (e : style ≡ Style.Given o) where
+  module _ (o : Options) (e : style ≡ Some o) where
     held-given : F.format_of (options_of text front o) ≡ format_held text front style
     unfolding format_held style_of
     held-given = rw e
@@ -69,7 +69,7 @@ module _ (text front : List ℕ) (style : Style) where
       given-few = settled-count f _ (rw held-given at s)
 
 -- A style that is placed has few symbols.
-pub placed-few : (text front : List ℕ) (size : ℕ) (style : Style) → StylePlaced text front size style → symbols_few text front style ≡ true
+pub placed-few : (text front : List ℕ) (size : ℕ) (style : Option Options) → StylePlaced text front size style → symbols_few text front style ≡ true
 unfolding symbols_few format_held style_of
-placed-few text front size Style.None p = sym (default-few text front Style.None refl)
-placed-few text front size (Style.Given o) p = le-leb (length (F.format_of (options_of text front o)).symbols) 74 p
+placed-few text front size None p = sym (default-few text front None refl)
+placed-few text front size (Some o) p = le-leb (length (F.format_of (options_of text front o)).symbols) 74 p

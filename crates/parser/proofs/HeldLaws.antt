@@ -1,8 +1,8 @@
 -- What a held matrix reads as: a default type and a set are written over its own, it has its characters, and it is the same where work memory is the
 -- same in front of the types. Assumes nothing.
+use Rattle.std.specs.Prelude.{Some, None}
 use Prim.Native.Nat.{ℕ, zero, suc, ◌+◌, ◌*◌, ◌≤◌, ◌<◌}
-use Rattle.assumptions.specs.TypesHeld.{type_word}
-use Rattle.assumptions.specs.declared.assumptions.TypeWord.{TypeWord}
+use Rattle.lexer.specs.Base.{option_of, pick}
 use Rattle.block.proofs.MatrixSound.{unordered-length}
 use Rattle.block.specs.Blocks.{unordered, retyped, with_types}
 use Rattle.block.specs.Commands.{words}
@@ -15,13 +15,12 @@ use Rattle.commands.specs.MatrixHeld.{held, order_held, reading_held, rows_of, t
 use Rattle.commands.specs.StateHeld.{Retypes}
 use Rattle.commands.specs.WorkMap.{labels_place, order_place, types_place}
 use Rattle.commands.specs.declared.state.Held.{Held}
-use Rattle.commands.specs.declared.state.Names.{Names}
 use Rattle.labels.proofs.LabelSlotLaws as slots
 use Rattle.labels.specs.LabelSlots.{labels_of, labels_held}
-use Rattle.lexer.specs.Base.{pick}
 use Rattle.lexer.specs.Stored.{range}
 use Rattle.matrix.proofs.StoredRows.{stored-kept}
 use Rattle.matrix.specs.OrderHeld.{ordered}
+use Rattle.std.specs.Prelude as Std
 use lib.ListN.{get_or, length, length-take, take}
 use lib.Seq.{get_or-take, take-take}
 use mathlib.Core.Bool.{false}
@@ -67,11 +66,11 @@ module _ (text work : List ℕ) (count : ℕ) where
 
   pub held-retypes : Retypes (held text work count)
   unfolding held reading_held types_at untyped_held rows_of
-  held-retypes = record { retyped = λ h default typed. sym (types-over (type_word default) (type_word h.default) _ _ _); counted = counted }
+  held-retypes = record { retyped = λ h default typed. sym (types-over (option_of default) (option_of h.default) _ _ _); counted = counted }
 
   -- Without a default type and a set it is the reading without types.
-  pub held-untyped : (h : Held) → h.default ≡ TypeWord.None → h.typed ≡ false → reading_held text work count h ≡ untyped_held text work count h
-  unfolding reading_held untyped_held with_types type_word pick
+  pub held-untyped : (h : Held) → h.default ≡ None → h.typed ≡ false → reading_held text work count h ≡ untyped_held text work count h
+  unfolding reading_held untyped_held with_types option_of pick
   held-untyped h d t = rw (d, t, unordered-untyped (labels_held text work (labels_place count h.lines h.taxa) h.characters))
 
 -- Work memory is the same up to an index.
@@ -87,10 +86,10 @@ module _ (after before : List ℕ) (p : ℕ) (kept : take p after ≡ take p bef
   ordered-kept rows at [] h = refl
   ordered-kept rows at (n ∷ ns) h = rw (number-kept at (omega arith), ordered-kept rows (suc at) ns (omega arith))
 
-  pub order-kept : (text front : List ℕ) (at taxa : ℕ) (names : Names) (rows : List Taxon) → at + taxa ≤ p → order_held text front after at taxa names rows ≡ order_held text front before at taxa names rows
+  pub order-kept : (text front : List ℕ) (at taxa : ℕ) (names : Std.Option (ℕ × ℕ)) (rows : List Taxon) → at + taxa ≤ p → order_held text front after at taxa names rows ≡ order_held text front before at taxa names rows
   unfolding order_held
-  order-kept text front at taxa Names.None rows h = refl
-  order-kept text front at taxa (Names.Words from to) rows h =
+  order-kept text front at taxa None rows h = refl
+  order-kept text front at taxa (Some (from, to)) rows h =
       let ns = names_of (words (range text front from to)) in
       ordered-kept rows at (take taxa ns) (omega (arith, length-take taxa ns))
 

@@ -1,11 +1,11 @@
 -- The order and the labels of a matrix, stored one after the other behind its rows. Assumes nothing.
+use Rattle.std.specs.Prelude.{Ok, Err, Result, ⊤}
 use Prim.Native.Nat.{ℕ, ◌+◌, ◌*◌, ◌≤◌, ◌<◌}
 use Rattle.block.specs.Format.{Format}
 use Rattle.block.specs.Judged.{judged}
 use Rattle.block.specs.Labels.{Labelled, apply_labels}
 use Rattle.block.specs.Outcome.{Outcome, done, then}
 use Rattle.block.specs.Reading.{Taxon}
-use Rattle.block.specs.declared.Judged.{Judged}
 use Rattle.commands.specs.MatrixHeld.{order_held}
 use Rattle.commands.specs.WorkMap.{labels_place, map_fits, order_place}
 use Rattle.commands.specs.declared.state.Data.{Data}
@@ -17,6 +17,8 @@ use Rattle.parser.proofs.HeldLaws.{front_kept, order-kept}
 use Rattle.parser.proofs.MapFits.{fits, fitting}
 use Rattle.parser.proofs.StartsLaws.{commands-fit, commands-front}
 use Rattle.parser.specs.Storing.{LabelsMade, OrderMade, commands_within, order_labelled, reading_parts}
+use Rattle.lexer.specs.declared.Fault.{Fault}
+use Rattle.lexer.specs.Refusals.{fault}
 use lib.ListN.{length, take}
 use mathlib.Core.Bool.{true}
 use mathlib.Core.List.{List}
@@ -42,21 +44,21 @@ module _ (size count lines taxa characters : ℕ) (h : map_fits size count lines
       (omega (arith, p, same, f.types), few, c.0, c.1, c.2)
 
 -- A judgement of the labels is one of the reading that has them.
-labels-judged : (f : Format) (taxa : List Taxon) (cs : List Labelled) (r : Judged) (o : Outcome (List Labelled)) → judged cs r ≡ o
+labels-judged : (f : Format) (taxa : List Taxon) (cs : List Labelled) (r : Result ⊤ (Fault ℕ)) (o : Outcome (List Labelled)) → judged cs r ≡ o
     → judged (reading_parts f taxa cs) r ≡ then o (λ ls. done (reading_parts f taxa ls))
 unfolding judged then
-labels-judged f taxa cs Judged.Good o e = rw (← e)
-labels-judged f taxa cs (Judged.Refused n i) o e = rw (← e)
+labels-judged f taxa cs (Ok tt) o e = rw (← e)
+labels-judged f taxa cs (Err g) o e = rw (← e)
 
 module _ (text before mid : List ℕ) (count lines taxa characters symbols head : ℕ) (d : Data) where
   -- The order was refused.
-  pub order-refused : (n : Refusal) (i : ℕ) → OrderMade text before mid count lines taxa head d.names (Judged.Refused n i) → LabelsMade text before mid count lines taxa characters symbols head d (Judged.Refused n i)
+  pub order-refused : (n : Refusal) (i : ℕ) → OrderMade text before mid count lines taxa head d.names (Err (fault n i)) → LabelsMade text before mid count lines taxa characters symbols head d (Err (fault n i))
   unfolding order_labelled judged then
   order-refused n i o = record { size = o.size; kept = o.kept; each = λ f taken named below differ agreed. rw (← o.each taken named below differ agreed) }
 
   -- The order is stored, and then the labels.
-  module _ (o : OrderMade text before mid count lines taxa head d.names Judged.Good) (after : List ℕ) (same : length after ≡ length mid) (at : ℕ) (p : at ≡ labels_place count lines taxa)
-      (front : take at after ≡ take at mid) (within : commands_within count d.labels ≡ true) (r : Judged)
+  module _ (o : OrderMade text before mid count lines taxa head d.names (Ok tt)) (after : List ℕ) (same : length after ≡ length mid) (at : ℕ) (p : at ≡ labels_place count lines taxa)
+      (front : take at after ≡ take at mid) (within : commands_within count d.labels ≡ true) (r : Result ⊤ (Fault ℕ))
       (labelled : judged (labels_held text after at characters) r ≡ apply_labels symbols characters (commands_held text mid d.labels)) where
     starts : take count mid ≡ take count before
     unfolding order_place

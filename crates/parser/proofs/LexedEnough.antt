@@ -1,4 +1,5 @@
 -- Behind lexing, work memory is enough, and its words are the numbered tokens of the text. Assumes nothing.
+use Rattle.std.specs.Prelude.{Ok}
 use Prim.Native.Nat.{ℕ}
 use Rattle.block.proofs.TokensWeigh.{tokens-weigh}
 use Rattle.commands.specs.Stepping.{Enough}
@@ -8,13 +9,12 @@ use Rattle.lexer.specs.Lexing.{lexed, longest, work_needed}
 use Rattle.lexer.specs.Stored.{Stored, range}
 use Rattle.lexer.specs.Tokens.{tokens}
 use Rattle.lexer.specs.Words.{numbered}
-use Rattle.lexer.specs.declared.Lexed.{Lexed}
 use lib.ListN.{length}
 use mathlib.Core.List.{List}
 use mathlib.Core.Path.{◌≡◌}
 use native.Mathlib.Omega.{arith}
 
-module _ (text work : List ℕ) (n : ℕ) (told : Lexed.Tokens n ≡ lexed text (length work)) (k : Stored text work n) where
+module _ (text work : List ℕ) (n : ℕ) (told : Ok n ≡ lexed text (length work)) (k : Stored text work n) where
   pub lexed-enough : Enough text work n
   unfolding longest work_needed
   lexed-enough =

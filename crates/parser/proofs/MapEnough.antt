@@ -1,4 +1,5 @@
 -- Work memory that is enough holds the map of a matrix that was read. Assumes nothing.
+use Rattle.std.specs.Prelude.{Ok}
 use Prim.Native.Nat.{ℕ, zero, suc, ◌+◌, ◌*◌, ◌-◌, ◌≤◌}
 use Rattle.block.specs.Format.{Format}
 use Rattle.block.specs.Weights.{weights}
@@ -9,7 +10,6 @@ use Rattle.lexer.proofs.RangeLaws.{range-next}
 use Rattle.lexer.specs.Lexing.{longest, work_needed}
 use Rattle.lexer.specs.Stored.{range, word_of, words_of}
 use Rattle.matrix.specs.RowsHeld.{RowsTaken}
-use Rattle.matrix.specs.declared.matrix.Rows.{Rows}
 use Rattle.parser.proofs.MapFits.{fits}
 use lib.ListN.{length, length-take, take}
 use mathlib.Core.Bool.{true}
@@ -43,7 +43,7 @@ module _ (text work : List ℕ) where
 -- The text has no fewer bytes than there are tokens, and no fewer than there are lines and characters together; taxa are no more than lines.
 module _ {text before after : List ℕ} {count head to taxa characters n : ℕ} {f : Format} where
   pub map-enough : Enough text before count → CommandPlaced (take count before) head to → count ≤ length before
-      → RowsTaken text before after count (head + 1) to taxa characters head f (Rows.Done n) → 1 ≤ taxa → map_fits (length after) count n taxa characters ≡ true
+      → RowsTaken text before after count (head + 1) to taxa characters head f (Ok n) → 1 ≤ taxa → map_fits (length after) count n taxa characters ≡ true
   unfolding longest work_needed
   map-enough enough placed room taken some =
       let front = length-take count before in

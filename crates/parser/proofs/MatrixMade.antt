@@ -1,4 +1,5 @@
 -- MATRIX as a step: whether it may be stored, and the state behind it. Assumes nothing.
+use Rattle.std.specs.Prelude.{Some, None, Ok, Err, Option, Result}
 use Prim.Native.Nat.{ℕ, zero, suc, ◌+◌, ◌≤◌, ◌<◌}
 use Rattle.block.proofs.MatrixParts.{matrix-shaped}
 use Rattle.block.specs.Blocks as B
@@ -9,26 +10,25 @@ use Rattle.block.specs.declared.data.CharacterNumber.{CharacterNumber}
 use Rattle.block.specs.declared.data.TaxonNumber.{TaxonNumber}
 use Rattle.block.specs.declared.dimension.Dimensions.{Dimensions}
 use Rattle.commands.specs.MatrixHeld.{format_held, held}
-use Rattle.commands.specs.StateHeld.{Reader, data_of, matrix_of, names_in, sizes_of, state_of, stepped}
+use Rattle.commands.specs.StateHeld.{Reader, data_of, matrix_of, names_in, state_of, stepped}
+use Rattle.lexer.specs.Base.{option_of}
 use Rattle.commands.specs.StatePlaced.{DataPlaced, PhasePlaced, StatePlaced}
 use Rattle.commands.specs.Stepping.{Answers, Enough, Made, answered, short, state_held, step_held}
 use Rattle.commands.specs.WorkMap.{map_fits}
 use Rattle.commands.specs.declared.state.Data.{Data}
-use Rattle.commands.specs.declared.state.Matrix.{Matrix}
 use Rattle.commands.specs.declared.state.Phase.{Phase}
-use Rattle.commands.specs.declared.state.Sizes.{Sizes}
 use Rattle.commands.specs.declared.state.State.{State}
-use Rattle.commands.specs.declared.state.Stepped.{Stepped}
 use Rattle.lexer.proofs.Basics.{and_both, and_left, and_right}
 use Rattle.lexer.specs.Lexing.{longest, work_needed}
 use Rattle.lexer.specs.Stored.{word_of}
 use Rattle.lexer.specs.declared.refusal.Refusal.{Refusal}
 use Rattle.matrix.specs.Lines.{RowsRoom}
-use Rattle.matrix.specs.declared.matrix.Rows.{Rows}
 use Rattle.parser.proofs.FormatHeld.{placed-few}
 use Rattle.parser.proofs.StartsLaws.{names-placed-within, placed-within}
 use Rattle.parser.specs.Storing.{MatrixStored, ReadingMade, commands_within, held_of, matrix_step, names_within, none_held, reading_step, rows_reading, shape_of, storable, symbols_few}
-use Rattle.parser.specs.declared.reading.MatrixShape.{MatrixShape}
+use Rattle.lexer.specs.declared.Fault.{Fault}
+use Rattle.lexer.specs.Refusals.{fault}
+use Rattle.commands.specs.declared.state.Held.{Held}
 use borrow.Author.Tests.{le-leb, leb-true}
 use lib.Seq.{length-take-le}
 use lib.Dec.{leb, eqb}
@@ -39,7 +39,7 @@ use mathlib.Core.Path.{◌≡◌, refl, sym, ap, subst, ◌∙◌}
 use native.Mathlib.Omega.{arith}
 
 -- What may be stored, as facts.
-pub record Storing (bytes size count : ℕ) (matrix : Matrix) (d : Data) (few : Bool) : Type 0 where
+pub record Storing (bytes size count : ℕ) (matrix : Option Held) (d : Data) (few : Bool) : Type 0 where
   pub short_text : bytes ≤ 1048576
   pub few_tokens : count ≤ 1048576
   pub room : count + count ≤ size
@@ -48,7 +48,7 @@ pub record Storing (bytes size count : ℕ) (matrix : Matrix) (d : Data) (few : 
   pub names : names_within count d.names ≡ true
   pub labels : commands_within count d.labels ≡ true
 
-module _ (bytes size count : ℕ) (matrix : Matrix) (d : Data) (few : Bool) where
+module _ (bytes size count : ℕ) (matrix : Option Held) (d : Data) (few : Bool) where
   pub storing : storable bytes size count matrix d few ≡ true → Storing bytes size count matrix d few
   unfolding storable longest
   storing h =
@@ -81,13 +81,13 @@ module _ (bytes size count : ℕ) (matrix : Matrix) (d : Data) (few : Bool) wher
 
 -- In a data block that is placed nothing else is held.
 module _ (text front : List ℕ) (size : ℕ) (s : State) (b : ℕ) (e : s.phase ≡ Phase.Data b) (p : StatePlaced text front size s) where
-  data-open : DataPlaced text front size s.«data» × (s.matrix ≡ Matrix.None)
+  data-open : DataPlaced text front size s.«data» × (s.matrix ≡ None)
   data-open = subst (PhasePlaced text front size s) e p.phase
 
   data-there : DataPlaced text front size s.«data»
   data-there = data-open.0
 
-  data-free : s.matrix ≡ Matrix.None
+  data-free : s.matrix ≡ None
   data-free = data-open.1
 
 module _ (text before : List ℕ) (count head to : ℕ) (s : State) (b : ℕ) (room : count ≤ length before) (few : Bool)
@@ -119,7 +119,7 @@ module _ (text before : List ℕ) (count head to : ℕ) (s : State) (b : ℕ) (r
       })
 
   pub storing-short : s.phase ≡ Phase.Data b → storable (length text) (length before) count s.matrix s.«data» few ≡ false → (right : Outcome B.State)
-      → Made text before before count head to s (Stepped.Refused Refusal.WorkMemoryShort 0) right
+      → Made text before before count head to s (Err (fault Refusal.WorkMemoryShort 0)) right
   unfolding step_held stepped
   storing-short e f right =
       record {
@@ -134,12 +134,12 @@ with-any : (m n : Reader) (text front : List ℕ) (d : Data) (x : Reading) → B
 unfolding B.with_matrix data_of
 with-any m n text front d x = refl
 
-phase-any : (m n : Reader) (text front : List ℕ) (s : State) (p : B.Phase) → s.matrix ≡ Matrix.None → B.in_phase p (state_of m text front s) ≡ B.in_phase p (state_of n text front s)
+phase-any : (m n : Reader) (text front : List ℕ) (s : State) (p : B.Phase) → s.matrix ≡ None → B.in_phase p (state_of m text front s) ≡ B.in_phase p (state_of n text front s)
 unfolding B.in_phase state_of matrix_of
 phase-any m n text front s p e = rw e
 
 -- The state with the matrix that was stored.
-stored-state : (m n : Reader) (text front starts : List ℕ) → front ≡ starts → (s t : State) (d : Data) (b : ℕ) (x : Reading) → s.matrix ≡ Matrix.None
+stored-state : (m n : Reader) (text front starts : List ℕ) → front ≡ starts → (s t : State) (d : Data) (b : ℕ) (x : Reading) → s.matrix ≡ None
     → data_of m text front d ≡ B.with_matrix (data_of m text front s.«data») x
     → state_of m text front t ≡ B.in_phase (B.in_data b (data_of m text front d)) (state_of m text front s)
     → state_of m text front t ≡ B.in_phase (B.in_data b (B.with_matrix (data_of n text starts s.«data») x)) (state_of n text starts s)
@@ -163,8 +163,8 @@ module _ {enough more : Type 0} (narrow : more → enough) (k : Reading → Outc
 
 module _ (text before after : List ℕ) (count head to taxa characters : ℕ) (s : State) (b : ℕ) (e : s.phase ≡ Phase.Data b)
     (agreed : B.agrees (names_in text (take count before) s.«data».names) taxa ≡ true) (some_taxa : 1 ≤ taxa) where
-  pub storing-refused : (n : Refusal) (i : ℕ) → ReadingMade text before after count head to taxa characters s.«data» (Rows.Refused n i)
-      → Made text before after count head to s (Stepped.Refused n i) (reading_step text before count s b head to taxa characters)
+  pub storing-refused : (n : Refusal) (i : ℕ) → ReadingMade text before after count head to taxa characters s.«data» (Err (fault n i))
+      → Made text before after count head to s (Err (fault n i)) (reading_step text before count s b head to taxa characters)
   unfolding step_held stepped rows_reading reading_step
   storing-refused n i r =
       record {
@@ -174,12 +174,12 @@ module _ (text before after : List ℕ) (count head to taxa characters : ℕ) (s
         placed = λ c p. tt;
       }
 
-  pub storing-done : (lines : ℕ) → ReadingMade text before after count head to taxa characters s.«data» (Rows.Done lines) → s.matrix ≡ Matrix.None → (count ≤ length before) → (d : Data) (t : State)
+  pub storing-done : (lines : ℕ) → ReadingMade text before after count head to taxa characters s.«data» (Ok lines) → s.matrix ≡ None → (count ≤ length before) → (d : Data) (t : State)
       → ((m : Reader) (text work : List ℕ) → data_of m text work d ≡ B.with_matrix (data_of m text work s.«data») (m.reading (held_of s.«data» head to lines taxa characters)))
       → ((m : Reader) (text work : List ℕ) → state_of m text work t ≡ B.in_phase (B.in_data b (data_of m text work d)) (state_of m text work s))
       → ((text front : List ℕ) (size : ℕ) → DataPlaced text front size s.«data» → map_fits size (length front) lines taxa characters ≡ true → DataPlaced text front size d)
-      → ((text front : List ℕ) (size : ℕ) → StatePlaced text front size s → DataPlaced text front size d → s.matrix ≡ Matrix.None → StatePlaced text front size t)
-      → Made text before after count head to s (Stepped.State t) (reading_step text before count s b head to taxa characters)
+      → ((text front : List ℕ) (size : ℕ) → StatePlaced text front size s → DataPlaced text front size d → s.matrix ≡ None → StatePlaced text front size t)
+      → Made text before after count head to s (Ok t) (reading_step text before count s b head to taxa characters)
   unfolding step_held stepped rows_reading reading_step state_held held
   storing-done lines r free room d t made opened placed-data placed-state =
       let m = held text after count in
@@ -205,19 +205,19 @@ not-zero (suc n) e = omega arith
 
 -- MATRIX by its shape.
 module _ (text before after : List ℕ) (count head to : ℕ) (s : State) (b : ℕ) where
-  pub matrix-absent : s.«data».sizes ≡ Sizes.None → Made text before before count head to s (Stepped.Refused Refusal.Absent head) (matrix_step text before count s b head to)
-  unfolding step_held stepped matrix_step B.matrix need then data_of sizes_of word_of
+  pub matrix-absent : s.«data».sizes ≡ None → Made text before before count head to s (Err (fault Refusal.Absent head)) (matrix_step text before count s b head to)
+  unfolding step_held stepped matrix_step B.matrix need then data_of option_of word_of
   matrix-absent e = record { size = refl; kept = refl; step = answered (rw e); placed = λ c p. tt }
 
-  module _ (dims : Dimensions) (given : s.«data».sizes ≡ Sizes.Given dims) (r : MatrixShape)
+  module _ (dims : Dimensions) (given : s.«data».sizes ≡ Some dims) (r : Result (TaxonNumber × CharacterNumber) Refusal)
       (told : (m : Reader) (k : ℕ) → shape_of (format_held text (take count before) s.«data».style) k r ≡ B.matrix_shape (data_of m text (take count before) s.«data») dims k) where
-    pub matrix-unshaped : (n : Refusal) → r ≡ MatrixShape.Refused n → Made text before before count head to s (Stepped.Refused n head) (matrix_step text before count s b head to)
-    unfolding step_held stepped matrix_step B.matrix B.matrix_shape need then data_of sizes_of word_of shape_of
+    pub matrix-unshaped : (n : Refusal) → r ≡ Err n → Made text before before count head to s (Err (fault n head)) (matrix_step text before count s b head to)
+    unfolding step_held stepped matrix_step B.matrix B.matrix_shape need then data_of option_of word_of shape_of
     matrix-unshaped n e =
         let same : refused n head ≡ B.matrix_shape (data_of (held text before count) text (take count before) s.«data») dims head = rw e at (told (held text before count) head) in
         record { size = refl; kept = refl; step = answered (rw (given, ← same)); placed = λ c p. tt }
 
-    module _ (taxa : TaxonNumber) (characters : CharacterNumber) (counts : r ≡ MatrixShape.Counts taxa characters) where
+    module _ (taxa : TaxonNumber) (characters : CharacterNumber) (counts : r ≡ Ok (taxa, characters)) where
       abbrev whole : Shape
       whole = record { taxa = taxa.0; characters = characters.0; format = format_held text (take count before) s.«data».style; head = head }
 
@@ -233,9 +233,9 @@ module _ (text before after : List ℕ) (count head to : ℕ) (s : State) (b : �
       shape-some = not-zero taxa.0 (matrix-shaped _ dims head whole (sym shaped)).some_taxa
 
       same_step : reading_step text before count s b head to taxa.0 characters.0 ≡ matrix_step text before count s b head to
-      unfolding reading_step matrix_step B.matrix B.matrix_reading B.matrix_shape need then data_of sizes_of word_of
+      unfolding reading_step matrix_step B.matrix B.matrix_reading B.matrix_shape need then data_of option_of word_of
       same_step = rw (given, ← shaped)
 
-      pub matrix-shaped-made : (x : Stepped) → MatrixStored text before after count s b head to taxa.0 characters.0 x → s.phase ≡ Phase.Data b
+      pub matrix-shaped-made : (x : Result State (Fault ℕ)) → MatrixStored text before after count s b head to taxa.0 characters.0 x → s.phase ≡ Phase.Data b
           → Made text before after count head to s x (matrix_step text before count s b head to)
       matrix-shaped-made x stored e = subst (Made text before after count head to s x) same_step (stored e shape-agrees shape-some)

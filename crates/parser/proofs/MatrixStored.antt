@@ -1,4 +1,5 @@
 -- A whole matrix, stored: its rows, then the order of its taxa and its labels. Assumes nothing.
+use Rattle.std.specs.Prelude.{Ok, Err, Result, ⊤}
 use Prim.Native.Nat.{ℕ, ◌+◌, ◌≤◌}
 use Rattle.block.proofs.RowsDiffer.{rows-differ}
 use Rattle.block.specs.Blocks.{agrees, matrix_reading, rows}
@@ -8,7 +9,6 @@ use Rattle.block.specs.Outcome.{done, then}
 use Rattle.block.specs.Reading.{Taxon}
 use Rattle.block.specs.Sequential.{Shape, names}
 use Rattle.block.specs.Sound.{names_differ}
-use Rattle.block.specs.declared.Judged.{Judged}
 use Rattle.commands.specs.MatrixHeld.{format_held, order_held, reading_held, rows_of, untyped_held}
 use Rattle.commands.specs.StateHeld.{Reader, data_of, names_in}
 use Rattle.commands.specs.Stepping.{answered, short}
@@ -22,11 +22,12 @@ use Rattle.lexer.specs.declared.refusal.Refusal.{Refusal}
 use Rattle.matrix.proofs.StoredRows.{stored-kept}
 use Rattle.matrix.specs.Lines.{stored}
 use Rattle.matrix.specs.RowsHeld.{RowsTaken, rows_answer, rows_held}
-use Rattle.matrix.specs.declared.matrix.Rows.{Rows}
 use Rattle.parser.proofs.HeldLaws.{front_kept, held-untyped}
 use Rattle.parser.proofs.MapEnough.{map-enough}
 use Rattle.parser.proofs.StartsLaws.{range_front}
 use Rattle.parser.specs.Storing.{LabelsMade, ReadingMade, held_of, order_labelled, reading_parts, rows_reading}
+use Rattle.lexer.specs.declared.Fault.{Fault}
+use Rattle.lexer.specs.Refusals.{fault}
 use lib.ListN.{length, take}
 use mathlib.Core.Bool.{true, false, true≢false}
 use mathlib.Core.List.{List}
@@ -41,37 +42,37 @@ module _ (text before mid : List ℕ) (count head to taxa characters : ℕ) (d :
   abbrev whole : Shape
   whole = record { taxa = taxa; characters = characters; format = form; head = head }
 
-  abbrev Taking : Rows → Type 0
+  abbrev Taking : Result ℕ (Fault ℕ) → Type 0
   Taking r = RowsTaken text before mid count (head + 1) to taxa characters head form r
 
   abbrev raw : List Numbered
   raw = range text (take count before) (head + 1) to
 
   -- by the code's format and answer
-  pub rows_told : (f : Format) (r q : Rows) → f ≡ form → r ≡ q → RowsTaken text before mid count (head + 1) to taxa characters head f r → Taking q
+  pub rows_told : (f : Format) (r q : Result ℕ (Fault ℕ)) → f ≡ form → r ≡ q → RowsTaken text before mid count (head + 1) to taxa characters head f r → Taking q
   rows_told f r q e g t = rw (g, e) at t
 
-  pub labels-told : (f : Format) (lines symbols : ℕ) (after : List ℕ) (r : Judged) → f ≡ form → symbols ≡ length f.symbols → LabelsMade text mid after count lines taxa characters symbols head d r
+  pub labels-told : (f : Format) (lines symbols : ℕ) (after : List ℕ) (r : Result ⊤ (Fault ℕ)) → f ≡ form → symbols ≡ length f.symbols → LabelsMade text mid after count lines taxa characters symbols head d r
       → LabelsMade text mid after count lines taxa characters (length form.symbols) head d r
   labels-told f lines symbols after r e g l = rw (g, e) at l
 
-  taken-rows : (r : Rows) → Taking r → rows_answer text mid count form taxa characters to r ≡ rows whole raw
+  taken-rows : (r : Result ℕ (Fault ℕ)) → Taking r → rows_answer text mid count form taxa characters to r ≡ rows whole raw
   taken-rows r t = rw (range_front text before count (head + 1) to within) at t.read
 
   -- Rows that are refused refuse the matrix.
-  pub rows-refused : (n : Refusal) (i : ℕ) → Taking (Rows.Refused n i) → ReadingMade text before mid count head to taxa characters d (Rows.Refused n i)
+  pub rows-refused : (n : Refusal) (i : ℕ) → Taking (Err (fault n i)) → ReadingMade text before mid count head to taxa characters d (Err (fault n i))
   unfolding rows_answer rows_reading matrix_reading then
   rows-refused n i t =
       record {
         size = t.size;
         kept = t.kept;
-        read = λ m agreed some_taxa. answered (rw (← taken-rows (Rows.Refused n i) t));
+        read = λ m agreed some_taxa. answered (rw (← taken-rows (Err (fault n i)) t));
         fits = λ lines e. absurd (let z : ◌≡◌ {A = ℕ} 0 1 = cc in omega arith);
       }
 
-  module _ (lines : ℕ) (t : Taking (Rows.Done lines)) where
+  module _ (lines : ℕ) (t : Taking (Ok lines)) where
     -- The map does not fit, which it does where work memory is enough.
-    pub rows_short : count ≤ length before → map_fits (length mid) count lines taxa characters ≡ false → ReadingMade text before mid count head to taxa characters d (Rows.Refused Refusal.WorkMemoryShort 0)
+    pub rows_short : count ≤ length before → map_fits (length mid) count lines taxa characters ≡ false → ReadingMade text before mid count head to taxa characters d (Err (fault Refusal.WorkMemoryShort 0))
     unfolding rows_reading
     rows_short room f =
         record {
@@ -88,15 +89,15 @@ module _ (text before mid : List ℕ) (count head to taxa characters : ℕ) (d :
     -- Their names differ.
     taken-differ : names_differ (names taken) ≡ true
     unfolding rows_answer taken
-    taken-differ = rows-differ whole raw (rows_held text (take count mid) form taxa characters to (stored mid count lines)) (sym (taken-rows (Rows.Done lines) t))
+    taken-differ = rows-differ whole raw (rows_held text (take count mid) form taxa characters to (stored mid count lines)) (sym (taken-rows (Ok lines) t))
 
     -- The matrix is what its order and its labels come to behind these rows.
     behind-rows : (m : Reader) → order_labelled form head (length form.symbols) characters (data_of m text (take count before) d).taxa (data_of m text (take count before) d).labels taken ≡ matrix_reading (data_of m text (take count before) d) whole raw
     unfolding order_labelled matrix_reading then rows_answer reading_parts taken
-    behind-rows m = rw (← taken-rows (Rows.Done lines) t)
+    behind-rows m = rw (← taken-rows (Ok lines) t)
 
     -- The order and the labels, stored behind the rows.
-    module _ (after : List ℕ) (r : Judged) (l : LabelsMade text mid after count lines taxa characters (length form.symbols) head d r) where
+    module _ (after : List ℕ) (r : Result ⊤ (Fault ℕ)) (l : LabelsMade text mid after count lines taxa characters (length form.symbols) head d r) where
       front : take count after ≡ take count before
       unfolding order_place
       front = front_kept after mid (order_place count lines taxa) l.kept count (omega arith) ∙ t.kept
@@ -117,7 +118,7 @@ module _ (text before mid : List ℕ) (count head to taxa characters : ℕ) (d :
       unfolding held_of untyped_held rows_of reading_parts taken
       as-held = held-untyped text after count (held_of d head to lines taxa characters) refl refl ∙ rw (front, same_lines, t.kept)
 
-      pub labels-refused : (n : Refusal) (i : ℕ) → r ≡ Judged.Refused n i → ReadingMade text before after count head to taxa characters d (Rows.Refused n i)
+      pub labels-refused : (n : Refusal) (i : ℕ) → r ≡ Err (fault n i) → ReadingMade text before after count head to taxa characters d (Err (fault n i))
       unfolding rows_reading judged data_of
       labels-refused n i e =
           record {
@@ -127,7 +128,7 @@ module _ (text before mid : List ℕ) (count head to taxa characters : ℕ) (d :
             fits = λ k z. absurd (let z : ◌≡◌ {A = ℕ} 0 1 = cc in omega arith);
           }
 
-      pub labels-good : r ≡ Judged.Good → map_fits (length mid) count lines taxa characters ≡ true → ReadingMade text before after count head to taxa characters d (Rows.Done lines)
+      pub labels-good : r ≡ Ok tt → map_fits (length mid) count lines taxa characters ≡ true → ReadingMade text before after count head to taxa characters d (Ok lines)
       unfolding rows_reading judged data_of
       labels-good e f =
           record {

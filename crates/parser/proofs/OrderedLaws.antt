@@ -1,8 +1,9 @@
 -- Whether a character of a held matrix is ordered: by the types of its set, and by its default type. Assumes nothing.
+use Rattle.std.specs.Prelude.{Some, None}
 use Prim.Native.Nat.{ℕ, zero, suc, ◌+◌, ◌-◌, ◌≤◌, ◌<◌}
 use Rattle.assumptions.proofs.VectorTypes.{types-length}
-use Rattle.assumptions.specs.TypesHeld.{type_of, type_word, types_held}
-use Rattle.assumptions.specs.declared.assumptions.TypeWord.{TypeWord}
+use Rattle.assumptions.specs.TypesHeld.{type_of, types_held}
+use Rattle.lexer.specs.Base.{option_of, pick}
 use Rattle.block.specs.Blocks.{has_ordered, is_ordered, retyped, with_types}
 use Rattle.block.specs.Reading.{Character, Reading}
 use Rattle.block.specs.Typeset.{Types}
@@ -11,9 +12,9 @@ use Rattle.commands.specs.MatrixHeld.{reading_held, types_at, untyped_held}
 use Rattle.commands.specs.WorkMap.{types_place}
 use Rattle.commands.specs.declared.state.Held.{Held}
 use Rattle.lexer.proofs.Basics.{and-false}
-use Rattle.lexer.specs.Base.{pick}
 use Rattle.parser.proofs.HeldLaws.{untyped-length}
 use Rattle.parser.specs.ParsedHeld.{types_ordered}
+use Rattle.std.specs.Prelude as Std
 use borrow.Author.Tests.{lt-ltb}
 use lib.Dec.{eqb, ltb}
 use lib.ListN.{get_or, length}
@@ -24,13 +25,13 @@ use mathlib.Core.Option.{Option, none, some}
 use mathlib.Core.Path.{◌≡◌, refl, sym, ap, ◌∙◌}
 use native.Mathlib.Omega.{arith}
 
-module _ (default : TypeWord) where
-  pub given-ordered : (o p : CharacterOrdering) → default ≡ TypeWord.Type o → o ≡ p → is_ordered p ≡ is_ordered (Option.get_or (type_word default) CharacterOrdering.Unordered)
-  unfolding type_word
+module _ (default : Std.Option CharacterOrdering) where
+  pub given-ordered : (o p : CharacterOrdering) → default ≡ Some o → o ≡ p → is_ordered p ≡ is_ordered (Option.get_or (option_of default) CharacterOrdering.Unordered)
+  unfolding option_of
   given-ordered o p d e = rw (d, e)
 
-  pub none-ordered : default ≡ TypeWord.None → false ≡ is_ordered (Option.get_or (type_word default) CharacterOrdering.Unordered)
-  unfolding type_word is_ordered
+  pub none-ordered : default ≡ None → false ≡ is_ordered (Option.get_or (option_of default) CharacterOrdering.Unordered)
+  unfolding option_of is_ordered
   none-ordered d = rw d
 
 -- A type by its number
@@ -46,9 +47,6 @@ pub record UnorderedYet (work : List ℕ) (at n : ℕ) (default : Bool) (k : ℕ
   pub rest : (o : CharacterOrdering) → default ≡ is_ordered o → types_ordered o (types_held work (at + k) (n - k)) ≡ types_ordered o (types_held work at n)
 
 module _ (work : List ℕ) (at n : ℕ) (default : Bool) where
-  pub yet-start : UnorderedYet work at n default 0
-  yet-start = record { below = omega arith; rest = λ o d. let here : at + 0 ≡ at = omega arith in let all : n - 0 ≡ n = omega arith in rw (here, all) }
-
   module _ (k : ℕ) (y : UnorderedYet work at n default k) where
     -- one type more
     next : k < n → (o : CharacterOrdering) → default ≡ is_ordered o
@@ -95,19 +93,19 @@ module _ (d : Option CharacterOrdering) (typed : Bool) (ts : Types) (r : Reading
   unfolding with_types pick
   without-set t = rw t (no-set-ordered (Option.get_or d CharacterOrdering.Unordered) r.characters)
 
-module _ (text work : List ℕ) (count : ℕ) (h : Held) (ordered : Bool) (ordered_is : ordered ≡ is_ordered (Option.get_or (type_word h.default) CharacterOrdering.Unordered)) where
+module _ (text work : List ℕ) (count : ℕ) (h : Held) (ordered : Bool) (ordered_is : ordered ≡ is_ordered (Option.get_or (option_of h.default) CharacterOrdering.Unordered)) where
   pub typed-ordered : (at : ℕ) (r : Bool) → h.typed ≡ true → at ≡ types_place count h.lines h.taxa h.characters
       → ((o : CharacterOrdering) → ordered ≡ is_ordered o → r ≡ types_ordered o (types_held work at h.characters))
       → r ≡ has_ordered (reading_held text work count h).characters
   unfolding reading_held types_at
   typed-ordered at r t place found =
       let ts = types_held work (types_place count h.lines h.taxa h.characters) h.characters in
-      let here : r ≡ types_ordered (Option.get_or (type_word h.default) CharacterOrdering.Unordered) ts = rw place at (found _ ordered_is) in
-      here ∙ sym (with-set (type_word h.default) h.typed ts (untyped_held text work count h) t (types-length work _ h.characters ∙ sym (untyped-length text work count h)))
+      let here : r ≡ types_ordered (Option.get_or (option_of h.default) CharacterOrdering.Unordered) ts = rw place at (found _ ordered_is) in
+      here ∙ sym (with-set (option_of h.default) h.typed ts (untyped_held text work count h) t (types-length work _ h.characters ∙ sym (untyped-length text work count h)))
 
   pub untyped-ordered : h.typed ≡ false → ordered && ltb 0 h.characters ≡ has_ordered (reading_held text work count h).characters
   unfolding reading_held
   untyped-ordered t =
       ap (λ b. b && ltb 0 h.characters) ordered_is
-      ∙ ap (λ n. is_ordered (Option.get_or (type_word h.default) CharacterOrdering.Unordered) && ltb 0 n) (sym (untyped-length text work count h))
-      ∙ sym (without-set (type_word h.default) h.typed (types_at text work count h) (untyped_held text work count h) t)
+      ∙ ap (λ n. is_ordered (Option.get_or (option_of h.default) CharacterOrdering.Unordered) && ltb 0 n) (sym (untyped-length text work count h))
+      ∙ sym (without-set (option_of h.default) h.typed (types_at text work count h) (untyped_held text work count h) t)

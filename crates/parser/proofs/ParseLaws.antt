@@ -1,4 +1,5 @@
 -- A text by the first of its tokens that is no newline: it must be #NEXUS, and the commands stand behind it. Assumes nothing.
+use Rattle.std.specs.Prelude.{Err, Result}
 use Prim.Native.Nat.{ℕ, zero, suc, ◌+◌, ◌-◌, ◌≤◌, ◌<◌}
 use Rattle.block.proofs.CutLaws.{first_stops}
 use Rattle.block.specs.Commands.{newline}
@@ -7,7 +8,6 @@ use Rattle.block.specs.Outcome.{refused}
 use Rattle.block.specs.Parse.{parse_behind, parse_from}
 use Rattle.commands.proofs.AnswerLaws.{answers-as}
 use Rattle.commands.specs.Stepping.{answered, short}
-use Rattle.commands.specs.declared.state.Parsed.{Parsed}
 use Rattle.lexer.proofs.Basics.{by-test}
 use Rattle.lexer.proofs.RangeLaws.{range-end, range-next}
 use Rattle.lexer.specs.Base.{bytes, pick}
@@ -15,12 +15,14 @@ use Rattle.lexer.specs.Lexing.{work_needed}
 use Rattle.lexer.specs.Stored.{range, word_of, words_of}
 use Rattle.lexer.specs.Words.{is}
 use Rattle.lexer.specs.declared.refusal.Refusal.{Refusal}
-use Rattle.parser.proofs.FinishLaws.{refused-fits}
 use Rattle.parser.proofs.StartsLaws.{range_front}
 use Rattle.parser.specs.ParsedHeld.{parsed_held}
 use Rattle.parser.specs.Steps.{ParseMade}
 use Rattle.parser.specs.Turning.{BehindMade}
-use borrow.Author.Tests.{not-true, not-false}
+use Rattle.lexer.specs.declared.Fault.{Fault}
+use Rattle.lexer.specs.Refusals.{fault}
+use Rattle.commands.specs.declared.state.Held.{Held}
+use borrow.Author.Tests.{not-true}
 use lib.ListN.{length}
 use mathlib.Core.Bool.{Bool, true, false, not}
 use mathlib.Core.List.{List}
@@ -52,23 +54,23 @@ module _ (text work : List ℕ) (count : ℕ) where
 
       -- by the answer of the test
       module _ (there : Bool) (told : there ≡ is (bytes "#NEXUS") (word_of text work h)) where
-        pub other-header : not there ≡ true → refused Refusal.NoNexus h ≡ parse_from count (range text work 0 count)
+        pub other-header : there ≡ false → refused Refusal.NoNexus h ≡ parse_from count (range text work 0 count)
         unfolding parse_from pick word_of
-        other-header t = sym (at-header ∙ rw (range-next text work h count l, no-newline, ← told, not-true there t) refl)
+        other-header f = sym (at-header ∙ rw (range-next text work h count l, no-newline, ← told, f) refl)
 
-        pub behind-header : not there ≡ false → parse_behind h (range text work (h + 1) count) ≡ parse_from count (range text work 0 count)
+        pub behind-header : there ≡ true → parse_behind h (range text work (h + 1) count) ≡ parse_from count (range text work 0 count)
         unfolding parse_from pick word_of
-        behind-header f = sym (at-header ∙ rw (range-next text work h count l, no-newline, ← told, not-false there f) refl)
+        behind-header t = sym (at-header ∙ rw (range-next text work h count l, no-newline, ← told, t) refl)
 
 module _ (text before : List ℕ) (count : ℕ) where
   -- Work memory that does not hold so many tokens is not enough.
-  pub parse-short : length before < count → ParseMade text before before count (Parsed.Refused Refusal.WorkMemoryShort 0)
+  pub parse-short : length before < count → ParseMade text before before count (Err (fault Refusal.WorkMemoryShort 0))
   unfolding parsed_held work_needed
-  parse-short l = record { size = refl; kept = refl; answer = short refl (λ e. absurd (omega (arith, l, e.tokens, e.room))); fits = λ h e. refused-fits _ _ h e }
+  parse-short l = record { size = refl; kept = refl; answer = short refl (λ e. absurd (omega (arith, l, e.tokens, e.room))); fits = λ h e. cc }
 
-  pub parse-refused : (n : Refusal) (i : ℕ) → refused n i ≡ parse_from count (range text before 0 count) → ParseMade text before before count (Parsed.Refused n i)
+  pub parse-refused : (n : Refusal) (i : ℕ) → refused n i ≡ parse_from count (range text before 0 count) → ParseMade text before before count (Err (fault n i))
   unfolding parsed_held
-  parse-refused n i e = record { size = refl; kept = refl; answer = answered e; fits = λ h e. refused-fits _ _ h e }
+  parse-refused n i e = record { size = refl; kept = refl; answer = answered e; fits = λ h e. cc }
 
-  pub parse-read : (after : List ℕ) (h : ℕ) (r : Parsed) → parse_behind h (range text before (h + 1) count) ≡ parse_from count (range text before 0 count) → BehindMade text before after count h r → ParseMade text before after count r
+  pub parse-read : (after : List ℕ) (h : ℕ) (r : Result Held (Fault ℕ)) → parse_behind h (range text before (h + 1) count) ≡ parse_from count (range text before 0 count) → BehindMade text before after count h r → ParseMade text before after count r
   parse-read after h r e k = record { size = k.size; kept = k.kept; answer = answers-as refl (rw (range_front text before count (h + 1) count (omega arith)) at e) k.answer; fits = k.fits }

@@ -1,4 +1,5 @@
 -- What a matrix is to be, one case at a time. Assumes nothing.
+use Rattle.std.specs.Prelude.{Some, None}
 use Prim.Native.Nat.{ℕ, zero, suc, ◌-◌, ◌^◌, ◌<◌}
 use Rattle.block.specs.Blocks.{Data, agrees, declared_count, matrix_shape}
 use Rattle.block.specs.Commands.{words}
@@ -7,12 +8,12 @@ use Rattle.block.specs.NamesHeld.{names_of}
 use Rattle.block.specs.Outcome.{done, refused}
 use Rattle.block.specs.declared.dimension.Dimensions.{Dimensions}
 use Rattle.commands.specs.StateHeld.{names_in}
-use Rattle.commands.specs.declared.state.Names.{Names}
 use Rattle.lexer.proofs.Basics.{and-true}
 use Rattle.lexer.specs.Base.{pick}
 use Rattle.lexer.specs.Stored.{range}
 use Rattle.lexer.specs.Words.{Numbered, largest}
 use Rattle.lexer.specs.declared.refusal.Refusal.{Refusal}
+use Rattle.std.specs.Prelude as Std
 use borrow.Author.Tests.{le-leb}
 use lib.Dec.{eqb}
 use lib.ListN.{length, length-map}
@@ -28,11 +29,11 @@ unfolding names_of
 names-length ws = length-map ws _
 
 module _ (text front : List ℕ) where
-  pub names-none : (names : Names) → names ≡ Names.None → names_in text front names ≡ none
+  pub names-none : (names : Std.Option (ℕ × ℕ)) → names ≡ None → names_in text front names ≡ none
   unfolding names_in
   names-none names e = rw e
 
-  pub names-words : (names : Names) (from to : ℕ) → names ≡ Names.Words from to → names_in text front names ≡ some (names_of (words (range text front from to)))
+  pub names-words : (names : Std.Option (ℕ × ℕ)) (from to : ℕ) → names ≡ Some (from, to) → names_in text front names ≡ some (names_of (words (range text front from to)))
   unfolding names_in
   names-words names from to e = rw e
 

@@ -1,8 +1,8 @@
 -- The front of work memory, where the tokens begin: words, label commands and names that are among so many tokens are the same by it alone; and what
 -- a state is placed in is among its tokens. Assumes nothing.
+use Rattle.std.specs.Prelude.{Some, None, Option}
 use Prim.Native.Nat.{ℕ, ◌+◌, ◌≤◌, ◌<◌}
 use Rattle.commands.specs.StatePlaced.{CommandsPlaced, NamesPlaced}
-use Rattle.commands.specs.declared.state.Names.{Names}
 use Rattle.labels.specs.LabelLists.{Fits, command_held, commands_held}
 use Rattle.labels.specs.declared.labels.LabelCommand.{LabelCommand}
 use Rattle.labels.specs.declared.labels.LabelCommands.{LabelCommands}
@@ -76,7 +76,7 @@ module _ (text front : List ℕ) (size : ℕ) where
       let n = length front in
       and_both (and_both (fit-within n ls.first p.first) (fit-within n ls.second p.second)) (fit-within n ls.third p.third)
 
-  pub names-placed-within : (names : Names) → NamesPlaced text front size names → names_within (length front) names ≡ true
+  pub names-placed-within : (names : Option (ℕ × ℕ)) → NamesPlaced text front size names → names_within (length front) names ≡ true
   unfolding names_within
-  names-placed-within Names.None p = refl
-  names-placed-within (Names.Words from to) p = le-leb to (length front) p
+  names-placed-within None p = refl
+  names-placed-within (Some (from, to)) p = le-leb to (length front) p

@@ -1,4 +1,5 @@
 -- The step over what was found next, and the commands behind it, make of a state what all the commands make of it. Assumes nothing.
+use Rattle.std.specs.Prelude.{Ok, Err}
 use Prim.Native.Nat.{ℕ, ◌≤◌, ◌<◌}
 use Rattle.block.specs.Blocks as B
 use Rattle.block.specs.Commands.{commands, commands_from}
@@ -9,13 +10,12 @@ use Rattle.commands.proofs.AnswerLaws.{answers-as, answers-then, answers-wider}
 use Rattle.commands.specs.StateHeld.{stepped}
 use Rattle.commands.specs.Stepping.{Answers, answered, short, state_held, step_held}
 use Rattle.commands.specs.declared.state.State.{State}
-use Rattle.commands.specs.declared.state.Stepped.{Stepped}
 use Rattle.lexer.proofs.RangeLaws.{range-end}
 use Rattle.lexer.specs.Stored.{range}
 use Rattle.lexer.specs.declared.refusal.Refusal.{Refusal}
 use Rattle.parser.specs.Steps.{StepMade, cut_step}
 use Rattle.parser.specs.Turning.{TurnMade, commands_held, cut_end}
-use Rattle.parser.specs.declared.parse.Turned.{Turned}
+use Rattle.lexer.specs.Refusals.{fault}
 use lib.ListN.{take}
 use mathlib.Core.Bool.{Bool, true, false, true≢false}
 use mathlib.Core.List.{List}
@@ -41,7 +41,7 @@ module _ (from count : ℕ) where
   cut-further (Cut.Unended i) w l = l
   cut-further (Cut.Command h e) w l = omega (arith, w.0, w.1)
 
-  pub cut-within : (cut : Cut) → Within from count cut → Within 0 count cut
+  cut-within : (cut : Cut) → Within from count cut → Within 0 count cut
   cut-within Cut.None w = tt
   cut-within (Cut.Empty i) w = (omega arith, w.1)
   cut-within (Cut.Unended i) w = (omega arith, w.1)
@@ -74,7 +74,7 @@ module _ (text front : List ℕ) (count : ℕ) where
     stop n i x = answers-as refl all (answers-then (λ t. fold B.step t (commands (range text front (cut_end count cut) count))) x)
 
 module _ (text before after : List ℕ) (count from : ℕ) (cut : Cut) (found : cut_of text (take count before) count cut ≡ commands (range text (take count before) from count)) (within : Within from count cut) (s : State) where
-  pub turn_on : (t : State) (end : ℕ) → from < count → end ≡ cut_end count cut → StepMade text before after count s cut (Stepped.State t) → TurnMade text before after count from s (Turned.State t end)
+  pub turn_on : (t : State) (end : ℕ) → from < count → end ≡ cut_end count cut → StepMade text before after count s cut (Ok t) → TurnMade text before after count from s (Ok (t, end))
   unfolding commands_held state_held step_held stepped
   turn_on t end l is k =
       record {
@@ -84,7 +84,7 @@ module _ (text before after : List ℕ) (count from : ℕ) (cut : Cut) (found : 
         placed = λ few p. k.placed few (cut-within from count cut within) p;
       }
 
-  pub turn-refused : (n : Refusal) (i : ℕ) → StepMade text before after count s cut (Stepped.Refused n i) → TurnMade text before after count from s (Turned.Refused n i)
+  pub turn-refused : (n : Refusal) (i : ℕ) → StepMade text before after count s cut (Err (fault n i)) → TurnMade text before after count from s (Err (fault n i))
   unfolding commands_held step_held stepped
   turn-refused n i k =
       record {

@@ -11,30 +11,21 @@ ghost use Rattle.commands.specs.WorkMap.{map_fits};
 ghost use Rattle.matrix.specs.Lines.{RowsRoom};
 ghost use Rattle.parser.specs.Storing.{LabelsMade, MatrixStored, OrderMade, ReadingMade, command_within, commands_within, held_of, matrix_step, names_within, shape_of, storable, symbols_few};
 
-use assumptions::TypeWord;
-use block::{CharacterNumber, Dimensions, Format, Judged, TaxonNumber, count_words};
+use block::{CharacterNumber, Dimensions, Format, Options, TaxonNumber, count_words};
 use commands::{
-    Data, Held, Matrix, Names, Phase, Sizes, State, Stepped, Style, in_data, labels_place,
-    map_fits, matrix_given, order_place,
+    Data, Held, Phase, State, in_data, labels_place, map_fits, matrix_given, order_place,
 };
 use labels::{LabelCommand, LabelCommands, apply_labels};
-use lexer::Refusal;
-use matrix::{Rows, arrange, rows_of};
-
-// What the matrix is to be: how many taxa and characters; or a refusal of the command.
-#[derive(Clone, Copy)]
-pub enum MatrixShape {
-    Counts(TaxonNumber, CharacterNumber),
-    Refused(Refusal),
-}
+use lexer::{Fault, Refusal};
+use matrix::{arrange, rows_of};
 
 // The count of taxa: NTAX or, without it, that of the declared names.
-fn declared_count(text: &[u8], starts: &[u32], names: Names, taxa: u64) -> u64
+fn declared_count(text: &[u8], starts: &[u32], names: Option<(usize, usize)>, taxa: u64) -> u64
     ensures { result ≡ declared_count (names_in text.now starts.now names) taxa }
 {
     match names {
-        Names::None => taxa,
-        Names::Words(from, to) => {
+        None => taxa,
+        Some((from, to)) => {
             if taxa == 0 {
                 return count_words(text, starts, from, to) as u64;
             }
@@ -44,47 +35,53 @@ fn declared_count(text: &[u8], starts: &[u32], names: Names, taxa: u64) -> u64
 }
 
 // Are there as many declared names, if there are any?
-fn names_agree(text: &[u8], starts: &[u32], names: Names, taxa: u64) -> bool
+fn names_agree(text: &[u8], starts: &[u32], names: Option<(usize, usize)>, taxa: u64) -> bool
     ensures { result ≡ agrees (names_in text.now starts.now names) taxa }
 {
     match names {
-        Names::None => true,
-        Names::Words(from, to) => count_words(text, starts, from, to) as u64 == taxa,
+        None => true,
+        Some((from, to)) => count_words(text, starts, from, to) as u64 == taxa,
     }
 }
 
 // What the matrix is to be, by what was declared before it.
-fn matrix_shape(text: &[u8], starts: &[u32], d: Data, dims: Dimensions) -> MatrixShape
+fn matrix_shape(
+    text: &[u8],
+    starts: &[u32],
+    d: Data,
+    dims: Dimensions,
+) -> Result<(TaxonNumber, CharacterNumber), Refusal>
     ensures { (m : Reader) (head : ℕ) → shape_of (format_held text.now starts.now d.style) head result ≡ matrix_shape (data_of m text.now starts.now d) dims head }
 {
-    let names = d.names;
-    let taxa = declared_count(text, starts, names, dims.taxa);
+    let taxa = declared_count(text, starts, d.names, dims.taxa);
     if (dims.characters == 0) | (taxa == 0) {
-        return MatrixShape::Refused(Refusal::Absent);
+        return Err(Refusal::Absent);
     }
-    if !names_agree(text, starts, names, taxa) {
-        return MatrixShape::Refused(Refusal::Count);
+    if !names_agree(text, starts, d.names, taxa) {
+        return Err(Refusal::Count);
     }
     if dims.new_taxa & (dims.taxa == 0) {
-        return MatrixShape::Refused(Refusal::Absent);
+        return Err(Refusal::Absent);
     }
-    MatrixShape::Counts(
+    Ok((
         TaxonNumber(taxa as usize),
         CharacterNumber(dims.characters as usize),
-    )
+    ))
 }
 
 // Are the words of the declared names among so many tokens?
-fn names_within(count: usize, names: Names) -> bool
+#[tactic(auto, unfolding(crate::specs::Storing::names_within))]
+fn names_within(count: usize, names: Option<(usize, usize)>) -> bool
     ensures { result ≡ names_within count names }
 {
     match names {
-        Names::None => true,
-        Names::Words(_, to) => to <= count,
+        None => true,
+        Some((_, to)) => to <= count,
     }
 }
 
 // Are the words of a label command among so many tokens?
+#[tactic(auto, unfolding(crate::specs::Storing::command_within, lexer::specs::Lexing::longest))]
 fn command_within(count: usize, c: LabelCommand) -> bool
     ensures { result ≡ command_within count c }
 {
@@ -92,6 +89,7 @@ fn command_within(count: usize, c: LabelCommand) -> bool
 }
 
 // Are the words of all label commands among so many tokens?
+#[tactic(auto, unfolding(crate::specs::Storing::commands_within))]
 fn commands_within(count: usize, ls: LabelCommands) -> bool
     ensures { result ≡ commands_within count ls }
 {
@@ -101,38 +99,43 @@ fn commands_within(count: usize, ls: LabelCommands) -> bool
 }
 
 // May a matrix be stored behind so many tokens of a text of so many bytes, in work memory of a size?
-fn storable(bytes: usize, size: usize, count: usize, matrix: Matrix, d: Data, few: bool) -> bool
+fn storable(
+    bytes: usize,
+    size: usize,
+    count: usize,
+    matrix: Option<Held>,
+    d: Data,
+    few: bool,
+) -> bool
     ensures { result ≡ storable bytes size count matrix d few }
 {
     if (1048576 < bytes) | (1048576 < count) {
         return false;
     }
-    let names = d.names;
-    let labels = d.labels;
     (count + count <= size)
         & few
         & !matrix_given(matrix)
-        & names_within(count, names)
-        & commands_within(count, labels)
+        & names_within(count, d.names)
+        & commands_within(count, d.labels)
 }
 
 // The format that was given, or the default.
-pub fn format_of(text: &[u8], starts: &[u32], style: Style) -> Format
+pub fn format_of(text: &[u8], starts: &[u32], style: Option<Options>) -> Format
     ensures { symbols_few text.now starts.now style ≡ true → meant result ≡ format_held text.now starts.now style }
 {
     match style {
-        Style::None => Format::default(),
-        Style::Given(o) => Format::of(text, starts, o),
+        None => Format::default(),
+        Some(o) => Format::of(text, starts, o),
     }
 }
 
 // Has the format no more symbols than one can hold?
-fn symbols_few(text: &[u8], starts: &[u32], style: Style) -> bool
+fn symbols_few(text: &[u8], starts: &[u32], style: Option<Options>) -> bool
     ensures { result ≡ symbols_few text.now starts.now style }
 {
     match style {
-        Style::None => true,
-        Style::Given(o) => {
+        None => true,
+        Some(o) => {
             let format = Format::of(text, starts, o);
             format.count <= 74
         }
@@ -144,17 +147,17 @@ fn taxa_order(
     text: &[u8],
     work: &mut [u32],
     count: usize,
-    names: Names,
+    names: Option<(usize, usize)>,
     lines: usize,
     taxa: usize,
     head: usize,
-) -> Judged
+) -> Result<(), Fault<usize>>
     requires { (map_fits (length work.old) count lines taxa 0 ≡ true) × (names_within count names ≡ true) }
     ensures { OrderMade text.now work.old work.new count lines taxa head names result }
 {
     match names {
-        Names::None => Judged::Good,
-        Names::Words(from, to) => arrange(
+        None => Ok(()),
+        Some((from, to)) => arrange(
             text,
             work,
             count,
@@ -178,24 +181,14 @@ fn order_labels(
     taxa: TaxonNumber,
     characters: CharacterNumber,
     symbols: usize,
-) -> Judged
+) -> Result<(), Fault<usize>>
     requires { (map_fits (length work.old) count lines taxa.0 characters.0 ≡ true) × (names_within count d.names ≡ true) × (commands_within count d.labels ≡ true) × (symbols < 128) }
     ensures { LabelsMade text.now work.old work.new count lines taxa.0 characters.0 symbols head d result }
 {
-    let names = d.names;
-    let labels = d.labels;
     let rows = taxa.0;
-    match taxa_order(text, work, count, names, lines, rows, head) {
-        Judged::Good => apply_labels(
-            text,
-            work,
-            labels,
-            symbols,
-            characters.0,
-            labels_place(count, lines, rows),
-        ),
-        Judged::Refused(n, i) => Judged::Refused(n, i),
-    }
+    taxa_order(text, work, count, d.names, lines, rows, head)?;
+    let at = labels_place(count, lines, rows);
+    apply_labels(text, work, d.labels, symbols, characters.0, at)
 }
 
 // A whole matrix, of a shape that was declared: its rows, then their order and the labels. 2 where work memory is too short for the map.
@@ -208,29 +201,23 @@ fn matrix_reading(
     to: usize,
     taxa: TaxonNumber,
     characters: CharacterNumber,
-) -> Rows
+) -> Result<usize, Fault<usize>>
     requires { (head < to) × (count ≤ length work.old) × RowsRoom text.now work.old count to × (symbols_few text.now (take count work.old) d.style ≡ true) × (names_within count d.names ≡ true) × (commands_within count d.labels ≡ true) }
     ensures { ReadingMade text.now work.old work.new count head to taxa.0 characters.0 d result }
 {
-    let style = d.style;
-    let format = format_of(text, &work[..count], style);
+    let format = format_of(text, &work[..count], d.style);
     let from = head + 1;
-    match rows_of(text, work, count, from, to, taxa, characters, head, format) {
-        Rows::Done(lines) => {
-            if !map_fits(work.len(), count, lines, taxa, characters) {
-                return Rows::Refused(Refusal::WorkMemoryShort, 0);
-            }
-            let symbols = format.states();
-            match order_labels(text, work, count, d, head, lines, taxa, characters, symbols) {
-                Judged::Good => Rows::Done(lines),
-                Judged::Refused(n, i) => Rows::Refused(n, i),
-            }
-        }
-        Rows::Refused(n, i) => Rows::Refused(n, i),
+    let lines = rows_of(text, work, count, from, to, taxa, characters, head, format)?;
+    if !map_fits(work.len(), count, lines, taxa, characters) {
+        return Err(Fault(Refusal::WorkMemoryShort, 0));
     }
+    let symbols = format.states();
+    order_labels(text, work, count, d, head, lines, taxa, characters, symbols)?;
+    Ok(lines)
 }
 
 // The data of a block with the matrix that was stored.
+#[tactic(auto, unfolding(block::specs::Blocks::with_matrix, commands::specs::StateHeld::data_of, commands::specs::StateHeld::matrix_of, crate::specs::Storing::held_of))]
 fn with_matrix(
     d: Data,
     head: usize,
@@ -242,26 +229,19 @@ fn with_matrix(
     ensures step { (m : Reader) (text work : List ℕ) → data_of m text work result ≡ with_matrix (data_of m text work d) (m.reading (held_of d head to lines taxa.0 characters.0)) }
     ensures placed { (text front : List ℕ) (size : ℕ) → DataPlaced text front size d → map_fits size (length front) lines taxa.0 characters.0 ≡ true → DataPlaced text front size result }
 {
-    let names = d.names;
-    let style = d.style;
-    let sizes = d.sizes;
-    let labels = d.labels;
     Data {
-        sizes,
-        style,
-        names,
-        labels,
-        matrix: Matrix::Read(Held {
-            names,
-            style,
+        matrix: Some(Held {
+            names: d.names,
+            style: d.style,
             head,
             to,
             lines,
             taxa: taxa.0,
             characters: characters.0,
-            default: TypeWord::None,
+            default: None,
             typed: false,
         }),
+        ..d
     }
 }
 
@@ -276,25 +256,18 @@ fn matrix_stored(
     to: usize,
     taxa: TaxonNumber,
     characters: CharacterNumber,
-) -> Stepped
+) -> Result<State, Fault<usize>>
     requires { (count ≤ length work.old) × (head < to) × (to ≤ count) }
     ensures { MatrixStored text.now work.old work.new count s b head to taxa.0 characters.0 result }
 {
     let d = s.data;
-    let held = s.matrix;
-    let style = d.style;
-    let few = symbols_few(text, &work[..count], style);
-    if !storable(text.len(), work.len(), count, held, d, few) {
-        return Stepped::Refused(Refusal::WorkMemoryShort, 0);
+    let few = symbols_few(text, &work[..count], d.style);
+    if !storable(text.len(), work.len(), count, s.matrix, d, few) {
+        return Err(Fault(Refusal::WorkMemoryShort, 0));
     }
-    match matrix_reading(text, work, count, d, head, to, taxa, characters) {
-        Rows::Done(lines) => Stepped::State(in_data(
-            s,
-            b,
-            with_matrix(d, head, to, lines, taxa, characters),
-        )),
-        Rows::Refused(n, i) => Stepped::Refused(n, i),
-    }
+    let lines = matrix_reading(text, work, count, d, head, to, taxa, characters)?;
+    let filled = with_matrix(d, head, to, lines, taxa, characters);
+    Ok(in_data(s, b, filled))
 }
 
 // MATRIX.
@@ -306,19 +279,19 @@ pub fn matrix(
     b: usize,
     head: usize,
     to: usize,
-) -> Stepped
+) -> Result<State, Fault<usize>>
     requires { (count ≤ length work.old) × (head < to) × (to ≤ count) }
     ensures { s.phase ≡ Phase.Data b → Made text.now work.old work.new count head to s result (matrix_step text.now work.old count s b head to) }
 {
     let d = s.data;
-    let sizes = d.sizes;
-    match sizes {
-        Sizes::None => Stepped::Refused(Refusal::Absent, head),
-        Sizes::Given(dims) => match matrix_shape(text, &work[..count], d, dims) {
-            MatrixShape::Counts(taxa, characters) => matrix_stored(
+    match d.sizes {
+        None => Err(Fault(Refusal::Absent, head)),
+        Some(dims) => match matrix_shape(text, &work[..count], d, dims) {
+            Ok((taxa, characters)) => matrix_stored(
                 text, work, count, s, b, head, to, taxa, characters,
             ),
-            MatrixShape::Refused(n) => Stepped::Refused(n, head),
+            // The refusal of the shape gets its token here.
+            Err(n) => Err(Fault(n, head)),
         },
     }
 }

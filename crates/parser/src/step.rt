@@ -1,5 +1,6 @@
 // The step over a command, after parse in mod.rs.
 
+ghost use Rattle.std.specs.Prelude as Std;
 ghost use Rattle.std.specs.Prelude.{ℕ, ◌+◌, ◌<◌, ◌≤◌, length, take, List, ◌≡◌};
 ghost use Rattle.block.specs.Blocks as B;
 ghost use Rattle.block.specs.Blocks.{block_step, data_step, end_block, in_phase, inner_step, is_outside, taxa_step};
@@ -10,33 +11,31 @@ ghost use Rattle.commands.specs.StateHeld.{Reader, Retypes, data_of, names_in, p
 ghost use Rattle.commands.specs.StatePlaced.{StatePlaced, SteppedPlaced};
 ghost use Rattle.commands.specs.Stepping.{Made, state_held};
 ghost use Rattle.commands.specs.declared.state.Data.{Data};
-ghost use Rattle.commands.specs.declared.state.Matrix.{Matrix};
 ghost use Rattle.lexer.specs.Stored.{range, word_of};
 ghost use Rattle.parser.specs.Steps.{StepMade};
 ghost use Rattle.parser.specs.TaxaTold.{FreeFrom, TaxaTold};
+ghost use Rattle.commands.specs.declared.state.Held.{Held};
 
 use super::reading::matrix;
 use super::types::{assumption_step, end_assumptions};
-use assumptions::assumptions::next_word;
-use block::{Cut, Judged, is, unique_names};
+use assumptions::assumptions::word_ahead;
+use block::{Cut, is, unique_names};
 use commands::{
-    Names, Phase, State, Stepped, begin_words, data_end, data_step, in_phase, matrix_given,
-    taxa_end, taxa_step,
+    Phase, State, begin_words, data_end, data_step, in_phase, matrix_given, taxa_end, taxa_step,
 };
-use lexer::Refusal;
+use lexer::{Fault, Refusal};
 
 // END: what the open block declared is taken over, and no block is open.
-fn end_block(text: &[u8], starts: &[u32], s: State) -> Stepped
+fn end_block(text: &[u8], starts: &[u32], s: State) -> Result<State, Fault<usize>>
     ensures step { (m : Reader) → Retypes m → stepped m text.now starts.now result ≡ end_block (state_of m text.now starts.now s) (phase_of m text.now starts.now s.«data» s.matrix s.phase) }
     ensures placed { (size : ℕ) → StatePlaced text.now starts.now size s → SteppedPlaced text.now starts.now size result }
 {
-    let phase = s.phase;
-    match phase {
-        Phase::Outside => Stepped::State(s),
+    match s.phase {
+        Phase::Outside => Ok(s),
         Phase::Taxa(b, count, names) => taxa_end(text, starts, s, b, count, names),
         Phase::Data(b) => data_end(s, b),
         Phase::Assumptions(_, default, typed) => end_assumptions(s, default, typed),
-        Phase::Trees(_) => Stepped::State(in_phase(Phase::Outside, s)),
+        Phase::Trees(_) => Ok(in_phase(Phase::Outside, s)),
     }
 }
 
@@ -45,13 +44,10 @@ fn free_from(size: usize, count: usize, s: State) -> usize
     requires { count ≤ size }
     ensures { FreeFrom size count s result }
 {
-    let data = s.data;
-    let matrix = s.matrix;
-    let read = data.matrix;
-    if matrix_given(matrix) {
+    if matrix_given(s.matrix) {
         return size;
     }
-    if matrix_given(read) {
+    if matrix_given(s.data.matrix) {
         return size;
     }
     count
@@ -65,12 +61,12 @@ fn judge_taxa(
     s: State,
     head: usize,
     to: usize,
-) -> Judged
+) -> Result<(), Fault<usize>>
     requires { (count ≤ length work.old) × (head < to) × (to ≤ count) }
     ensures { TaxaTold text.now work.old work.new count head to s result }
 {
     if !is(text, work, head, b"TAXLABELS") {
-        return Judged::Good;
+        return Ok(());
     }
     let base = free_from(work.len(), count, s);
     unique_names(text, work, head + 1, to, base)
@@ -84,10 +80,10 @@ fn taxa_inner(
     s: State,
     b: usize,
     n: u64,
-    names: Names,
+    names: Option<(usize, usize)>,
     head: usize,
     to: usize,
-) -> Stepped
+) -> Result<State, Fault<usize>>
     requires { (count ≤ length work.old) × (head < to) × (to ≤ count) }
     ensures { Made text.now work.old work.new count head to s result (then (taxa_step (word_of text.now (take count work.old) head) (words (range text.now (take count work.old) (head + 1) to)) b n (names_in text.now (take count work.old) names)) (λ p. done (in_phase p (state_held text.now work.old count s)))) }
 {
@@ -104,14 +100,12 @@ fn data_inner(
     b: usize,
     head: usize,
     to: usize,
-) -> Stepped
+) -> Result<State, Fault<usize>>
     requires { (count ≤ length work.old) × (head < to) × (to ≤ count) }
     ensures { s.phase ≡ Phase.Data b → Made text.now work.old work.new count head to s result (then (data_step (word_of text.now (take count work.old) head) (range text.now (take count work.old) (head + 1) to) b (data_of (held text.now work.old count) text.now (take count work.old) s.«data»)) (λ p. done (in_phase p (state_held text.now work.old count s)))) }
 {
-    let data = s.data;
-    let read = data.matrix;
-    if matrix_given(read) {
-        return Stepped::Refused(Refusal::Command, head);
+    if matrix_given(s.data.matrix) {
+        return Err(Fault(Refusal::Command, head));
     }
     if is(text, work, head, b"MATRIX") {
         return matrix(text, work, count, s, b, head, to);
@@ -128,19 +122,18 @@ fn inner_step(
     s: State,
     head: usize,
     to: usize,
-) -> Stepped
+) -> Result<State, Fault<usize>>
     requires { (count ≤ length work.old) × (head < to) × (to ≤ count) }
     ensures { Made text.now work.old work.new count head to s result (then (inner_step (state_held text.now work.old count s) (word_of text.now (take count work.old) head) (range text.now (take count work.old) (head + 1) to) (phase_of (held text.now work.old count) text.now (take count work.old) s.«data» s.matrix s.phase)) (λ p. done (in_phase p (state_held text.now work.old count s)))) }
 {
-    let phase = s.phase;
-    match phase {
-        Phase::Outside => Stepped::State(in_phase(Phase::Outside, s)),
+    match s.phase {
+        Phase::Outside => Ok(in_phase(Phase::Outside, s)),
         Phase::Taxa(b, n, names) => taxa_inner(text, work, count, s, b, n, names, head, to),
         Phase::Data(b) => data_inner(text, work, count, s, b, head, to),
         Phase::Assumptions(b, default, typed) => {
             assumption_step(text, work, count, s, b, default, typed, head, to)
         }
-        Phase::Trees(b) => Stepped::State(in_phase(Phase::Trees(b), s)),
+        Phase::Trees(b) => Ok(in_phase(Phase::Trees(b), s)),
     }
 }
 
@@ -152,13 +145,13 @@ fn block_step(
     s: State,
     head: usize,
     to: usize,
-) -> Stepped
+) -> Result<State, Fault<usize>>
     requires { (count ≤ length work.old) × (head < to) × (to ≤ count) }
     ensures { Made text.now work.old work.new count head to s result (block_step (state_held text.now work.old count s) (word_of text.now (take count work.old) head) (range text.now (take count work.old) (head + 1) to)) }
 {
     if is(text, work, head, b"END") | is(text, work, head, b"ENDBLOCK") {
-        if next_word(text, work, head + 1, to) < to {
-            return Stepped::Refused(Refusal::WordsAfterEnd, head);
+        if let Some(_) = word_ahead(text, work, head + 1, to) {
+            return Err(Fault(Refusal::WordsAfterEnd, head));
         }
         return end_block(text, &work[..count], s);
     }
@@ -166,16 +159,11 @@ fn block_step(
 }
 
 // Is no block open?
+#[tactic(auto, unfolding(block::specs::Blocks::is_outside, commands::specs::StateHeld::phase_of))]
 fn is_outside(phase: Phase) -> bool
-    ensures { (m : Reader) (text work : List ℕ) (d : Data) (matrix : Matrix) → result ≡ is_outside (phase_of m text work d matrix phase) }
+    ensures { (m : Reader) (text work : List ℕ) (d : Data) (matrix : Std.Option Held) → result ≡ is_outside (phase_of m text work d matrix phase) }
 {
-    match phase {
-        Phase::Outside => true,
-        Phase::Taxa(_, _, _) => false,
-        Phase::Data(_) => false,
-        Phase::Assumptions(_, _, _) => false,
-        Phase::Trees(_) => false,
-    }
+    matches!(phase, Phase::Outside)
 }
 
 // A command: outside a block it begins one.
@@ -186,29 +174,34 @@ fn command_step(
     s: State,
     head: usize,
     to: usize,
-) -> Stepped
+) -> Result<State, Fault<usize>>
     requires { (count ≤ length work.old) × (head < to) × (to ≤ count) }
     ensures { Made text.now work.old work.new count head to s result (B.step (state_held text.now work.old count s) (command (word_of text.now (take count work.old) head) (range text.now (take count work.old) (head + 1) to))) }
 {
-    let phase = s.phase;
-    if is_outside(phase) {
+    if is_outside(s.phase) {
         return begin_words(text, &work[..count], s, head, to);
     }
     block_step(text, work, count, s, head, to)
 }
 
 // The step over what was found next. The answer to a command that does not stand among so many tokens is that work memory is short.
-pub fn step(text: &[u8], work: &mut [u32], count: usize, s: State, cut: Cut) -> Stepped
+pub fn step(
+    text: &[u8],
+    work: &mut [u32],
+    count: usize,
+    s: State,
+    cut: Cut,
+) -> Result<State, Fault<usize>>
     requires { count ≤ length work.old }
     ensures { StepMade text.now work.old work.new count s cut result }
 {
     match cut {
-        Cut::None => Stepped::State(s),
-        Cut::Empty(i) => Stepped::Refused(Refusal::EmptyCommand, i),
-        Cut::Unended(i) => Stepped::Refused(Refusal::UnendedCommand, i),
+        Cut::None => Ok(s),
+        Cut::Empty(i) => Err(Fault(Refusal::EmptyCommand, i)),
+        Cut::Unended(i) => Err(Fault(Refusal::UnendedCommand, i)),
         Cut::Command(head, end) => {
             if (end <= head) | (count < end) {
-                return Stepped::Refused(Refusal::WorkMemoryShort, 0);
+                return Err(Fault(Refusal::WorkMemoryShort, 0));
             }
             command_step(text, work, count, s, head, end)
         }

@@ -1,4 +1,7 @@
 -- What the read call comes to, by what lexing and parsing say. Assumes nothing.
+use Rattle.std.specs.Prelude.{Ok, Err}
+use Rattle.std.specs.Prelude as Std
+use Rattle.lexer.specs.Refusals as Refusals
 use Prim.Native.Nat.{ℕ, ◌≤◌}
 use Rattle.block.proofs.ReadingSound.{reading-sound}
 use Rattle.block.specs.Blocks.{with_types}
@@ -7,7 +10,6 @@ use Rattle.block.specs.Reading.{Reading}
 use Rattle.block.specs.Sound.{Sound, most_symbols, gap_in}
 use Rattle.commands.specs.MatrixHeld.{format_held, untyped_held, reading_held}
 use Rattle.commands.specs.declared.state.Held.{Held}
-use Rattle.commands.specs.declared.state.Parsed.{Parsed}
 use Rattle.lexer.proofs.Basics.{by-test}
 use Rattle.lexer.proofs.LexedAnswers.{Lexes, tokens-lexed}
 use Rattle.lexer.specs.Base.{pick}
@@ -16,7 +18,6 @@ use Rattle.lexer.specs.Places.{place}
 use Rattle.lexer.specs.Stored.{Stored}
 use Rattle.lexer.specs.Tokens.{Token, tokens, left_open}
 use Rattle.lexer.specs.Utf8.{utf8}
-use Rattle.lexer.specs.declared.Lexed.{Lexed}
 use Rattle.lexer.specs.declared.Place.{Place}
 use Rattle.lexer.specs.declared.refusal.Refusal.{Refusal}
 use Rattle.parser.proofs.ParseRead.{parse-lexed}
@@ -25,7 +26,7 @@ use Rattle.parser.specs.Steps.{ParseMade}
 use Rattle.emit.specs.Delivered.{Delivered}
 use Rattle.read.specs.Call.{HeldDelivered, LexedSo, ReadCall, TokensCall}
 use Rattle.record.specs.Calls.{Result, refusal, refuse, answer, leaves, recorded, read_result, read_answer, read_leaves}
-use Rattle.record.specs.declared.Answer.{Answer}
+use Rattle.lexer.specs.declared.Fault.{Fault}
 use borrow.Author.Tests.{leb-true}
 use lib.Dec.{leb}
 use lib.ListN.{length, get_or, take}
@@ -36,9 +37,9 @@ use mathlib.Core.Path.{◌≡◌, refl, sym, ap, ◌∙◌}
 use native.Mathlib.Omega.{arith}
 
 -- What a call comes to by what lexing says: its refusal, or what is read of the tokens.
-abbrev told : Lexed → Result → Result
-told (Lexed.Tokens n) x = x
-told (Lexed.Refused n p) x = refusal n p
+abbrev told : Std.Result ℕ (Fault Place) → Result → Result
+told (Ok n) x = x
+told (Err f) x = refusal f.0 f.1
 
 counted-told : (text : List ℕ) (ts : List Token) (o : Option Refusal) → recorded (read_tokens text ts o) ≡ told (counted text o) (recorded (read_tokens text ts o))
 unfolding recorded read_tokens counted
@@ -57,10 +58,10 @@ lexed-told text k =
     (λ long. rw long)
 
 -- A refusal of lexing is the call's, and a count of tokens leaves it to what the text is read as.
-refused-result : (text : List ℕ) (k : ℕ) (n : Refusal) (p : Place) → Lexed.Refused n p ≡ lexed text k → read_result text k ≡ refusal n p
+refused-result : (text : List ℕ) (k : ℕ) (n : Refusal) (p : Place) → Err (Refusals.fault n p) ≡ lexed text k → read_result text k ≡ refusal n p
 refused-result text k n p e = lexed-told text k ∙ ap (λ l. told l (recorded (read text))) (sym e)
 
-counted-result : (text : List ℕ) (k n : ℕ) → Lexed.Tokens n ≡ lexed text k → read_result text k ≡ recorded (read text)
+counted-result : (text : List ℕ) (k n : ℕ) → Ok n ≡ lexed text k → read_result text k ≡ recorded (read text)
 counted-result text k n e = lexed-told text k ∙ ap (λ l. told l (recorded (read text))) (sym e)
 
 -- A text that is lexed is read as its tokens say.
@@ -80,7 +81,7 @@ symbols-bound r s =
     omega (arith, most-bound (gap_in r.taxa))
 
 -- What parsing leaves of tokens that lexing stored.
-module _ (text before after : List ℕ) (n : ℕ) (so : LexedSo text before n) (r : Parsed) (made : ParseMade text before after n r) where
+module _ (text before after : List ℕ) (n : ℕ) (so : LexedSo text before n) (r : Std.Result Held (Fault ℕ)) (made : ParseMade text before after n r) where
   -- The tokens are stored still.
   pub still-stored : Stored text after n
   still-stored = record { count = so.held.count; held = made.kept ∙ so.held.held }
@@ -91,7 +92,7 @@ module _ (text before after : List ℕ) (n : ℕ) (so : LexedSo text before n) (
       ∙ ap (placed text) (sym (parse-lexed text before after n r so.told so.held made))
 
   -- A refusal is the text's own, at the place of the token.
-  module _ (why : Refusal) (i : ℕ) (e : r ≡ Parsed.Refused why i) where
+  module _ (why : Refusal) (i : ℕ) (e : r ≡ Err (Refusals.fault why i)) where
     refused-read : read text ≡ fault why (place_of text i)
     unfolding placed parsed_held
     refused-read = parsed-read ∙ ap (λ x. placed text (parsed_held text after n x)) e
@@ -100,12 +101,12 @@ module _ (text before after : List ℕ) (n : ℕ) (so : LexedSo text before n) (
     unfolding place_of
     there = ap (λ l. place text (get_or l i 0)) still-stored.held
 
-    pub refused-delivered : (buffer : List ℕ) (a : Answer) → a ≡ Answer.Refused why (place text (get_or (take n after) i 0)) → Delivered (recorded (read text)) buffer buffer a
+    pub refused-delivered : (buffer : List ℕ) (a : Std.Result ℕ (Fault Place)) → a ≡ Err (Refusals.fault why (place text (get_or (take n after) i 0))) → Delivered (recorded (read text)) buffer buffer a
     unfolding recorded answer leaves
-    refused-delivered buffer a told = rw refused-read (record { answered = told ∙ ap (Answer.Refused why) there; left = refl })
+    refused-delivered buffer a told = rw refused-read (record { answered = told ∙ ap (λ i. Err (Refusals.fault why i)) there; left = refl })
 
   -- A matrix that is held is the text's reading, and its format has few symbols.
-  module _ (h : Held) (e : r ≡ Parsed.Held h) where
+  module _ (h : Held) (e : r ≡ Ok h) where
     held-read : read text ≡ reading (reading_held text after n h)
     unfolding placed parsed_held
     held-read = parsed-read ∙ ap (λ x. placed text (parsed_held text after n x)) e
@@ -117,23 +118,23 @@ module _ (text before after : List ℕ) (n : ℕ) (so : LexedSo text before n) (
     unfolding reading_held untyped_held with_types
     held-few = let bound = symbols-bound (reading_held text after n h) held-sound in omega arith
 
-    pub held-delivered : (buffer left : List ℕ) (a : Answer) → HeldDelivered text after n h buffer left a → Delivered (recorded (read text)) buffer left a
+    pub held-delivered : (buffer left : List ℕ) (a : Std.Result ℕ (Fault Place)) → HeldDelivered text after n h buffer left a → Delivered (recorded (read text)) buffer left a
     unfolding recorded
     held-delivered buffer left a d = rw held-read (d held-few held-sound)
 
 -- The call: what lexing counts is left to the tokens, and its refusal is the call's.
-pub lexed-so : (text work after : List ℕ) (n : ℕ) (l : Lexed) → l ≡ lexed text (length work) → ((m : ℕ) → l ≡ Lexed.Tokens m → Stored text after m)
-    → length after ≡ length work → l ≡ Lexed.Tokens n → LexedSo text after n
+pub lexed-so : (text work after : List ℕ) (n : ℕ) (l : Std.Result ℕ (Fault Place)) → l ≡ lexed text (length work) → ((m : ℕ) → l ≡ Ok m → Stored text after m)
+    → length after ≡ length work → l ≡ Ok n → LexedSo text after n
 lexed-so text work after n l told stored same e = record { told = sym e ∙ told ∙ ap (lexed text) (sym same); held = stored n e }
 
-module _ (text work : List ℕ) (buffer : List ℕ) (l : Lexed) (answered : l ≡ lexed text (length work)) (mid : List ℕ) (same : length mid ≡ length work) where
-  pub counted-call : (n : ℕ) → l ≡ Lexed.Tokens n → (after left : List ℕ) (a : Answer) → TokensCall text mid after buffer left a → ReadCall text work after buffer left a
+module _ (text work : List ℕ) (buffer : List ℕ) (l : Std.Result ℕ (Fault Place)) (answered : l ≡ lexed text (length work)) (mid : List ℕ) (same : length mid ≡ length work) where
+  pub counted-call : (n : ℕ) → l ≡ Ok n → (after left : List ℕ) (a : Std.Result ℕ (Fault Place)) → TokensCall text mid after buffer left a → ReadCall text work after buffer left a
   unfolding read_answer read_leaves
   counted-call n e after left a t =
       let result = counted-result text (length work) n (sym e ∙ answered) in
       record { answer = rw result t.given.answered; left = rw result t.given.left; size = t.size ∙ same }
 
-  pub refused-call : (n : Refusal) (p : Place) → l ≡ Lexed.Refused n p → ReadCall text work mid buffer buffer (Answer.Refused n p)
+  pub refused-call : (n : Refusal) (p : Place) → l ≡ Err (Refusals.fault n p) → ReadCall text work mid buffer buffer (Err (Refusals.fault n p))
   unfolding read_answer read_leaves answer leaves
   refused-call n p e =
       let result = refused-result text (length work) n p (sym e ∙ answered) in

@@ -1,6 +1,7 @@
 -- The walk that puts the characters one after another, as work memory holds them. Assumes nothing.
 use Prim.Native.Nat.{ℕ, suc, ◌+◌, ◌*◌, ◌-◌, ◌≤◌, ◌<◌}
-use Rattle.assumptions.specs.TypesHeld.{type_word, types_held}
+use Rattle.assumptions.specs.TypesHeld.{types_held}
+use Rattle.lexer.specs.Base.{option_of, pick}
 use Rattle.block.specs.Blocks.{retyped, unordered, with_types}
 use Rattle.block.specs.declared.model.CharacterOrdering.{CharacterOrdering}
 use Rattle.commands.specs.MatrixHeld.{reading_held, types_at, untyped_held}
@@ -8,7 +9,6 @@ use Rattle.commands.specs.WorkMap.{labels_place, map_fits, types_place}
 use Rattle.commands.specs.declared.state.Held.{Held}
 use Rattle.emit.specs.Puts.{Puts}
 use Rattle.labels.specs.LabelSlots.{labels_held, labels_of, slots}
-use Rattle.lexer.specs.Base.{pick}
 use Rattle.parser.proofs.MapFits.{fitting}
 use Rattle.reading.proofs.PutWalks.{Putting, putting-end, putting-start, putting-turn}
 use Rattle.reading.specs.CharactersHeld.{characters_from, slot_character, slot_label, slot_states, slot_type}
@@ -81,7 +81,7 @@ module _ (text front work : List ℕ) (at characters : ℕ) (typed : Bool) (o : 
 
 -- The characters of a matrix that work memory holds, and the room for all that it holds of them.
 module _ (work : List ℕ) (count : ℕ) (h : Held) (at : ℕ) (e : at ≡ labels_place count h.lines h.taxa) where
-  pub characters-held : (text : List ℕ) (o : CharacterOrdering) → o ≡ Option.get_or (type_word h.default) CharacterOrdering.Unordered
+  pub characters-held : (text : List ℕ) (o : CharacterOrdering) → o ≡ Option.get_or (option_of h.default) CharacterOrdering.Unordered
       → characters_from text (take at work) work o h.typed at (at + h.characters) (at + 2 * h.characters) h.characters ≡ (reading_held text work count h).characters
   unfolding characters_from reading_held with_types untyped_held labels_held types_at labels_place types_place
   characters-held text o d = rw (d, e) refl

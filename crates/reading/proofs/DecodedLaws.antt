@@ -6,10 +6,10 @@ use Rattle.lexer.specs.Base.{given, pick}
 use Rattle.reading.specs.CodedCells.{decoded, marks, members}
 use borrow.Author.Tests.{eqb-false, eqb-true, le-ltb, lt-ltb, ltb-false, ltb-true, ne_eqb}
 use lib.Dec.{eqb, ltb}
-use mathlib.Core.Bool.{true}
+use mathlib.Core.Bool.{true, false}
 use mathlib.Core.List.{List}
 use mathlib.Core.Option.{Option, none, some}
-use mathlib.Core.Path.{◌≡◌, sym, ap, ◌∙◌}
+use mathlib.Core.Path.{◌≡◌, sym, ap}
 use native.Mathlib.Omega.{arith}
 
 module _ (code : ℕ) where
@@ -21,7 +21,7 @@ module _ (code : ℕ) where
   unfolding decoded pick
   decoded-set h k = rw (le-ltb code 96 h, lt-ltb code 112 k)
 
-  pub decoded-missing : code ≡ 126 → decoded code ≡ some missing
+  decoded-missing : code ≡ 126 → decoded code ≡ some missing
   unfolding decoded pick
   decoded-missing e = rw e
 
@@ -40,10 +40,17 @@ module _ (code : ℕ) where
       rw (le-ltb code 96 h) (unfold pick in chosen P (ltb code 112) (λ _. s _) (λ _. chosen P (eqb code 126) (λ _. m) (λ _. chosen P (eqb code 127) (λ _. g) (λ _. n))))
 
   -- Has it a cell?
-  pub cell-low : code < 112 → given (decoded code) ≡ true
+  cell-low : code < 112 → given (decoded code) ≡ true
   unfolding given
   cell-low h = by-test (ltb code 96) (λ t. ap given (decoded-state (ltb-true code 96 t))) (λ f. ap given (decoded-set (ltb-false code 96 f) h))
 
-  pub cell-high : 112 ≤ code → (code ≡ 126 → ⊥) → eqb code 127 ≡ given (decoded code)
-  unfolding decoded given pick
-  cell-high h m = by-test (eqb code 127) (λ t. t ∙ sym (ap given (decoded-gap (eqb-true code 127 t)))) (λ f. f ∙ sym (ap given (decoded-none h m (eqb-false code 127 f))))
+  pub cell-some : (112 ≤ code → (code ≡ 126 → ⊥) → code ≡ 127) → true ≡ given (decoded code)
+  unfolding given
+  cell-some h =
+      by-test (ltb code 112) (λ t. sym (cell-low (ltb-true code 112 t)))
+      (λ f. by-test (eqb code 126) (λ t. sym (ap given (decoded-missing (eqb-true code 126 t))))
+      (λ g. sym (ap given (decoded-gap (h (ltb-false code 112 f) (eqb-false code 126 g))))))
+
+  pub cell-none : 112 ≤ code → (code ≡ 126 → ⊥) → (code ≡ 127 → ⊥) → false ≡ given (decoded code)
+  unfolding given
+  cell-none h m g = sym (ap given (decoded-none h m g))

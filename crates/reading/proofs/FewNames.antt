@@ -6,7 +6,7 @@ use Rattle.block.specs.NamesHeld.{name_of, names_of}
 use Rattle.emit.specs.Puts.{Puts}
 use Rattle.lexer.specs.Base.{bytes}
 use Rattle.lexer.specs.Stored.{range, word_of}
-use Rattle.reading.proofs.PutWalks.{Putting, putting-as, putting-end, putting-start, putting-turn}
+use Rattle.reading.proofs.PutWalks.{Putting, putting-as, putting-end, putting-turn}
 use Rattle.reading.specs.Pieces.{name_piece}
 use Rattle.record.specs.Spell.{line, spell_states}
 use lib.ListN.{length, take}
@@ -43,9 +43,6 @@ pub record Counting (text starts : List ℕ) (from most count i : ℕ) : Type 0 
   pub rest : count + length (few_names text starts (most - count) i) ≡ length (few_names text starts most from)
 
 module _ (text starts : List ℕ) (from most : ℕ) where
-  pub counting-start : Counting text starts from most 0 from
-  counting-start = let all : most - 0 ≡ most = omega arith in record { below = omega arith; rest = omega (arith, ap (λ n. length (few_names text starts n from)) all) }
-
   module _ (count i : ℕ) (c : Counting text starts from most count i) where
     pub counting-newline : i < length starts → newline (word_of text starts i) ≡ true → Counting text starts from most count (i + 1)
     counting-newline h e = record { below = c.below; rest = omega (arith, c.rest, ap length (few-newline text starts (most - count) i h e)) }
@@ -56,9 +53,6 @@ module _ (text starts : List ℕ) (from most : ℕ) where
         let next = rw less at (ap length (few-next text starts (most - count) i h e (omega arith))) in
         record { below = omega arith; rest = omega (arith, c.rest, next) }
 
-    pub counting-full : most ≤ count → count ≡ length (few_names text starts most from)
-    counting-full h = omega (arith, c.rest, ap length (few-none text starts (most - count) i (omega arith)))
-
     pub counting-end : length starts ≤ i → count ≡ length (few_names text starts most from)
     counting-end h = omega (arith, c.rest, ap length (few-end text starts (most - count) i h))
 
@@ -67,9 +61,6 @@ pub record Listing (text starts before : List ℕ) (at : ℕ) (whole : List ℕ 
   pub walk : Putting before at whole buffer n (spell_states (few_names text starts most i))
 
 module _ (text starts before : List ℕ) (at : ℕ) where
-  pub listing_start : (most i : ℕ) → Listing text starts before at (spell_states (few_names text starts most i)) before at most i
-  listing_start most i = record { walk = putting-start }
-
   module _ (whole : List ℕ → List ℕ) (buffer : List ℕ) (n most i : ℕ) (l : Listing text starts before at whole buffer n most i) where
     pub listing-newline : i < length starts → newline (word_of text starts i) ≡ true → Listing text starts before at whole buffer n most (i + 1)
     listing-newline h e = record { walk = putting-as l.walk (λ behind. rw (few-newline text starts most i h e)) }

@@ -1,17 +1,13 @@
 -- The pieces of the record's first four lines. Assumes nothing.
-use Prim.Native.Nat.{ℕ, ◌≤◌}
+use Prim.Native.Nat.{ℕ}
 use Rattle.block.specs.Format as F
-use Rattle.block.specs.Formats.{meant}
 use Rattle.block.specs.declared.data.DataType.{DataType}
-use Rattle.block.specs.declared.formats.Format.{Format}
 use Rattle.lexer.specs.Base.{bytes}
 use Rattle.reading.specs.RecordPut.{head_piece}
 use Rattle.record.specs.Decimal.{decimal}
 use Rattle.record.specs.Spell.{line, type_word}
-use lib.ListN.{length, length-take}
 use mathlib.Core.List.{List, ◌∷◌, ◌++◌}
 use mathlib.Core.Path.{◌≡◌, refl}
-use native.Mathlib.Omega.{arith}
 
 -- The line of the data type.
 module _ (t : DataType) (behind : List ℕ) where
@@ -22,11 +18,6 @@ module _ (t : DataType) (behind : List ℕ) where
   pub type-dna : t ≡ DataType.Dna → bytes "datatype=DNA\n" ++ behind ≡ line "datatype=" (type_word t) behind
   unfolding bytes line type_word
   type-dna e = rw e
-
--- A format has no more symbols than its array.
-pub symbols-few : (f : Format) (n : ℕ) → n ≡ length (meant f).symbols → n ≤ length f.symbols
-unfolding meant
-symbols-few f n e = omega (arith, length-take f.count f.symbols)
 
 -- All four lines.
 pub head-lines : (f : F.Format) (taxa characters : ℕ) (behind : List ℕ)

@@ -1,6 +1,7 @@
 -- The rows of a matrix that is held: what its places are, the cells of a row as they are put, and the walks over the taxa. Assumes nothing.
+use Rattle.std.specs.Prelude.{Some, None}
 use Prim.Native.Nat.{ℕ, suc, ◌+◌, ◌-◌, ◌*◌, ◌%◌, ◌≤◌, ◌<◌}
-use Rattle.assumptions.specs.NextWord.{Next}
+use Rattle.assumptions.specs.NextWord.{Found}
 use Rattle.block.specs.Chunk.{plain}
 use Rattle.block.specs.Codes.{Coded}
 use Rattle.block.specs.Commands.{words}
@@ -10,7 +11,6 @@ use Rattle.block.specs.Reading.{Taxon}
 use Rattle.commands.specs.MatrixHeld.{format_held, order_held, rows_of, untyped_held}
 use Rattle.commands.specs.WorkMap.{map_fits, order_place}
 use Rattle.commands.specs.declared.state.Held.{Held}
-use Rattle.commands.specs.declared.state.Names.{Names}
 use Rattle.emit.proofs.PutLaws.{puts_none}
 use Rattle.emit.specs.Puts.{Puts}
 use Rattle.lexer.proofs.Basics.{pick_first}
@@ -91,7 +91,7 @@ module _ (text work codes : List ℕ) (count : ℕ) (h : Held) (interleave : Boo
 
   abbrev pub WordsLeft : ℕ → ℕ → ℕ → ℕ → ℕ → Type 0
   WordsLeft from to order i j =
-      Left (order_held text (take count work) work (order_place count h.lines h.taxa) h.taxa (Names.Words from to) (rows_of text work count h))
+      Left (order_held text (take count work) work (order_place count h.lines h.taxa) h.taxa (Some (from, to)) (rows_of text work count h))
       (ordered (rows_of text work count h) work (order + j) (take (h.taxa - j) (names_of (words (range text (take count work) i to)))))
 
 module _ (text work codes : List ℕ) (count : ℕ) (h : Held) (fit : map_fits (length work) count h.lines h.taxa h.characters ≡ true) where
@@ -187,7 +187,7 @@ module _ (text work codes : List ℕ) (count : ℕ) (h : Held) (fit : map_fits (
     -- So many declared names are passed, up to an index, and what puts the taxa of the others puts all.
     module _ (before : List ℕ) (n from to order : ℕ) (p : order ≡ order_place count h.lines h.taxa) where
       abbrev all : List Taxon
-      all = order_held text front work (order_place count h.lines h.taxa) h.taxa (Names.Words from to) rows
+      all = order_held text front work (order_place count h.lines h.taxa) h.taxa (Some (from, to)) rows
 
       abbrev left_from : ℕ → ℕ → List Taxon
       left_from i j = ordered rows work (order + j) (take (h.taxa - j) (names_of (words (range text front i to))))
@@ -209,22 +209,22 @@ module _ (text work codes : List ℕ) (count : ℕ) (h : Held) (fit : map_fits (
         unfolding ordered
         words-end l = let none : h.taxa - j ≡ 0 = omega arith in none_left (ap (λ x. ordered rows work (order + j) (take x (names_of (words (range text front i to))))) none)
 
-        module _ (word : ℕ) (found : Next text front i to word) where
-          pub words-over : to ≤ word → Told → Puts before n (spell_taxa all) buffer next
-          unfolding ordered names_of
-          words-over l = none_left (ap (λ x. ordered rows work (order + j) (take (h.taxa - j) (names_of x))) (found.past l) ∙ ap (ordered rows work (order + j)) (take-nil (h.taxa - j)))
+        pub words-over : words (range text front i to) ≡ [] → Told → Puts before n (spell_taxa all) buffer next
+        unfolding ordered names_of
+        words-over past = none_left (ap (λ x. ordered rows work (order + j) (take (h.taxa - j) (names_of x))) past ∙ ap (ordered rows work (order + j)) (take-nil (h.taxa - j)))
 
-          pub words-turn : word < to → j < h.taxa → (r : ℕ) → r ≡ get_or work (order + j) 0 → {buffer' : List ℕ} {next' : ℕ}
+        module _ (word : ℕ) (found : Found text front i to word) where
+          pub words-turn : j < h.taxa → (r : ℕ) → r ≡ get_or work (order + j) 0 → {buffer' : List ℕ} {next' : ℕ}
               → (Told → Puts buffer next (spell_taxa (record { name = name_of (word_of text front word); cells = cells_at rows r } ∷ [])) buffer' next')
               → WordsLeft text work codes count h interleave before n buffer' next' from to order (word + 1) (j + 1)
           unfolding ordered names_of
-          words-turn w l r s {buffer'} {next'} put t after k q =
+          words-turn l r s {buffer'} {next'} put t after k q =
               let names = names_of (words (range text front (word + 1) to)) in
               let one : h.taxa - j ≡ suc (h.taxa - (j + 1)) = omega arith in
               let on : suc (order + j) ≡ order + (j + 1) = omega arith in
               let this : Taxon = record { name = name_of (word_of text front word); cells = cells_at rows r } in
               let split : left_from i j ≡ this ∷ left_from (word + 1) (j + 1) =
-              ap (λ x. ordered rows work (order + j) (take (h.taxa - j) (names_of x))) (found.here w)
+              ap (λ x. ordered rows work (order + j) (take (h.taxa - j) (names_of x))) found.here
               ∙ ap (λ x. ordered rows work (order + j) (take x (name_of (word_of text front word) ∷ names))) one
               ∙ ap (λ x. record { name = name_of (word_of text front word); cells = cells_at rows x } ∷ ordered rows work (suc (order + j)) (take (h.taxa - (j + 1)) names)) (sym s)
               ∙ ap (λ x. this ∷ ordered rows work x (take (h.taxa - (j + 1)) names)) on in
@@ -232,12 +232,12 @@ module _ (text work codes : List ℕ) (count : ℕ) (h : Held) (fit : map_fits (
 
 -- The taxa are the rows, or those of the declared names.
 module _ (text work : List ℕ) (count : ℕ) (h : Held) {b c : List ℕ} {n k : ℕ} where
-  pub taxa-none : h.names ≡ Names.None → Puts b n (spell_taxa (rows_of text work count h)) c k → Puts b n (spell_taxa (untyped_held text work count h).taxa) c k
+  pub taxa-none : h.names ≡ None → Puts b n (spell_taxa (rows_of text work count h)) c k → Puts b n (spell_taxa (untyped_held text work count h).taxa) c k
   unfolding untyped_held order_held
   taxa-none e put = subst (λ x. Puts b n (spell_taxa (order_held text (take count work) work (order_place count h.lines h.taxa) h.taxa x (rows_of text work count h))) c k) (sym e) put
 
-  pub taxa-words : (from to : ℕ) → h.names ≡ Names.Words from to
-      → Puts b n (spell_taxa (order_held text (take count work) work (order_place count h.lines h.taxa) h.taxa (Names.Words from to) (rows_of text work count h))) c k
+  pub taxa-words : (from to : ℕ) → h.names ≡ Some (from, to)
+      → Puts b n (spell_taxa (order_held text (take count work) work (order_place count h.lines h.taxa) h.taxa (Some (from, to)) (rows_of text work count h))) c k
       → Puts b n (spell_taxa (untyped_held text work count h).taxa) c k
   unfolding untyped_held
   taxa-words from to e put = subst (λ x. Puts b n (spell_taxa (order_held text (take count work) work (order_place count h.lines h.taxa) h.taxa x (rows_of text work count h))) c k) (sym e) put

@@ -10,6 +10,7 @@ mod HeldRows
 mod LinesWalk
 mod MarkLaws
 mod NamePuts
+mod OptionLaws
 mod PageCells
 mod PutWalks
 mod PutsOver

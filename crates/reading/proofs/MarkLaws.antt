@@ -1,5 +1,5 @@
 -- States that are put into a set by their marks. Assumes nothing.
-use Prim.Native.Nat.{ℕ, ◌+◌, ◌≤◌, ◌<◌}
+use Prim.Native.Nat.{ℕ, ◌+◌, ◌-◌, ◌≤◌, ◌<◌}
 use Rattle.block.specs.Cell.{Cell, state, uncertain, polymorphic, missing, gap}
 use Rattle.lexer.proofs.Basics.{by-test}
 use Rattle.lexer.proofs.NextBytes.{front-left}
@@ -11,13 +11,14 @@ use Rattle.lexer.specs.declared.Cursor.{Cursor}
 use Rattle.matrix.specs.Taken.{also, states_taken}
 use Rattle.reading.proofs.DecodedLaws.{decoded-other, decoded-state}
 use Rattle.reading.specs.CodedCells.{Cleared, cells_coded, decoded, marked, topped}
-use borrow.Author.Tests.{eqb-false, eqb-true, le-ltb, lt-ltb, ltb-false, ltb-true}
-use lib.Dec.{eqb, ltb}
-use lib.ListN.{length, get_or, set, get_or-eq_default, length-set}
-use lib.Seq.{get_or-set_other, get_or-set_same, set_out}
+use borrow.Author.Tests.{ltb-false, ltb-true}
+use lib.Dec.{ltb}
+use lib.ListN.{length, get_or, set, drop, replicate, get_or-append}
+use lib.Seq.{get_or-append_right}
+use Rattle.std.proofs.lemmas.List.{get_or-drop, get_or-replicate, length-append, length-drop, length-replicate}
 use mathlib.Core.List.{List, [], ◌∷◌, ◌++◌}
 use mathlib.Core.Option.{Option, none, some}
-use mathlib.Core.Path.{◌≡◌, refl, sym, ap, ◌∙◌}
+use mathlib.Core.Path.{◌≡◌, refl, ap, ◌∙◌}
 use native.Mathlib.Omega.{arith}
 
 -- The states among a cell and others.
@@ -62,10 +63,13 @@ module _ (text codes : List ℕ) (start : ℕ) {before : List ℕ} {from : ℕ} 
           within = rw (q, e, ← topped-append (states_taken (also o [])) (states_taken rest) top, ← all) k.within;
         }
 
-    pub marking-end : left text c ≡ [] → (set ≡ marked (states_taken (cells_coded codes (token_at text start).text)) before)
-        × (top ≡ topped (states_taken (cells_coded codes (token_at text start).text)) from)
+    pub marking-end : left text c ≡ []
+        → record {
+          grown : set ≡ marked (states_taken (cells_coded codes (token_at text start).text)) before;
+          within : top ≡ topped (states_taken (cells_coded codes (token_at text start).text)) from;
+        }
     unfolding cells_coded states_taken marked topped
-    marking-end e = (rw e at k.grown, rw e at k.within)
+    marking-end e = record { grown = rw e at k.grown; within = rw e at k.within }
 
 -- The states of a code: itself, below 96, and else none.
 pub states-low : (code : ℕ) → code < 96 → states_taken (also (decoded code) []) ≡ code ∷ []
@@ -76,32 +80,17 @@ pub states-high : (code : ℕ) → 96 ≤ code → states_taken (also (decoded c
 unfolding also states_taken
 states-high code h = decoded-other code (λ o. states_taken (also o []) ≡ []) h (λ s. refl) refl refl refl
 
--- Marks that are 0 up to a state, and then up to the next.
-zero-set : (l : List ℕ) (i : ℕ) → get_or (set l i 0) i 0 ≡ 0
-zero-set l i =
-    by-test (ltb i (length l)) (λ t. get_or-set_same l i 0 0 (ltb-true i (length l) t))
-    (λ f. let out = ltb-false i (length l) f in rw (set_out l i 0 out) (get_or-eq_default l 0 out))
-
-pub cleared-none : (before : List ℕ) → Cleared before 0 before
+-- Marks that were filled with 0 up to an end.
+pub cleared-filled : (before zeros : List ℕ) (top : ℕ) → top ≤ length before → zeros ≡ replicate top 0 → Cleared before top (zeros ++ drop top before)
 unfolding pick
-cleared-none before = record { kept = refl; marks = λ k. rw (le-ltb k 0 (omega arith)) }
-
-pub cleared_more : (before l : List ℕ) (i : ℕ) → Cleared before i l → Cleared before (i + 1) (set l i 0)
-unfolding pick
-cleared_more before l i h =
+cleared-filled before zeros top fits filled =
+    let size : length zeros ≡ top = rw filled (length-replicate top 0) in
     record {
-      kept = length-set l i 0 ∙ h.kept;
+      kept = omega (arith, length-append zeros (drop top before), length-drop top before, size);
       marks = λ k.
-          by-test (eqb k i)
-          (λ t. let e = eqb-true k i t in rw (e, lt-ltb i (i + 1) (omega arith)) (zero-set l i))
-          (λ f. let ne = eqb-false k i f in get_or-set_other l i k 0 0 ne ∙ h.marks k ∙ ap (λ b. pick b 0 (get_or before k 0)) (same k ne));
+          by-test (ltb k top)
+          (λ t. let h = ltb-true k top t in rw t (get_or-append zeros (drop top before) 0 k (omega arith) ∙ rw filled (get_or-replicate top k 0 0 h)))
+          (λ f. let h = ltb-false k top f in
+          let there : top + (k - length zeros) ≡ k = omega arith in
+          rw f (get_or-append_right zeros (drop top before) k 0 (omega arith) ∙ get_or-drop top before (k - length zeros) 0 ∙ ap (λ n. get_or before n 0) there));
     }
-  where
-    same : (k : ℕ) → (k ≡ i → ⊥) → ltb k i ≡ ltb k (i + 1)
-    same k ne =
-        by-test (ltb k i)
-        (λ t. let lt = ltb-true k i t in t ∙ sym (lt-ltb k (i + 1) (omega arith)))
-        (λ f. let le = ltb-false k i f in f ∙ sym (le-ltb k (i + 1) (omega (arith, ne))))
-
-pub cleared-all : (before after : List ℕ) (i top : ℕ) → i ≤ top → top ≤ i → Cleared before i after → Cleared before top after
-cleared-all before after i top h k e = let same : i ≡ top = omega arith in rw same at e

@@ -2,11 +2,10 @@
 use Prim.Native.Nat.{ℕ, ◌≤◌, ◌<◌}
 use Rattle.emit.proofs.PutLaws.{puts-as, puts_none, puts_then}
 use Rattle.emit.specs.Puts.{Puts}
-use Rattle.lexer.proofs.Basics.{and_right}
 use borrow.Author.Tests.{leb-true, lt-leb}
 use lib.Dec.{leb}
 use lib.ListN.{length}
-use mathlib.Core.Bool.{Bool, true, ◌&&◌, ◌||◌}
+use mathlib.Core.Bool.{Bool, true, ◌||◌}
 use mathlib.Core.List.{List}
 use mathlib.Core.Path.{◌≡◌, refl, sym, ◌∙◌}
 
@@ -35,9 +34,6 @@ module _ {a b : List ℕ} {n m : ℕ} {whole rest : List ℕ → List ℕ} (k : 
 pub puts-from : {a b c : List ℕ} {n m k : ℕ} {p : List ℕ → List ℕ} → b ≡ a → m ≡ n → Puts b m p c k → Puts a n p c k
 puts-from e f q = rw (e, f) at q
 
--- There is room, by a test for it and another one; or there is if anything has.
-pub room-and : (test room : Bool) (end size : ℕ) → room ≡ leb end size → test && room ≡ true → end ≤ size
-room-and test room end size e both = leb-true end size (sym e ∙ and_right test room both)
-
+-- There is room, if anything has room.
 pub room-or : (room : Bool) (n end size : ℕ) → room ≡ leb end size → leb size n || room ≡ true → n < size → end ≤ size
 room-or room n end size e either h = leb-true end size (sym e ∙ rw (lt-leb size n h) at either)

@@ -1,4 +1,5 @@
 -- The record of a matrix that is held, by its pieces: its counts, and its format as the code's format has it. Assumes nothing.
+use Rattle.std.specs.Prelude.{Some, None, Option}
 use Prim.Native.Nat.{ℕ, suc, ◌≤◌, min}
 use Rattle.block.specs.Codes.{Coded}
 use Rattle.block.specs.Commands.{words}
@@ -10,7 +11,6 @@ use Rattle.block.specs.declared.formats.Format.{Format}
 use Rattle.commands.specs.MatrixHeld.{format_held, held, order_held, reading_held, rows_of, untyped_held}
 use Rattle.commands.specs.WorkMap.{map_fits, order_place}
 use Rattle.commands.specs.declared.state.Held.{Held}
-use Rattle.commands.specs.declared.state.Names.{Names}
 use Rattle.emit.proofs.PutLaws.{puts-as, puts_then}
 use Rattle.emit.specs.Puts.{Puts}
 use Rattle.lexer.proofs.Basics.{by-test}
@@ -52,11 +52,11 @@ module _ (text work codes : List ℕ) (count : ℕ) (h : Held) (fit : map_fits (
 
   -- There are as many taxa as the code counts, and as many characters as are held.
   module _ (interleave : Bool) (layout : (format_held text front h.style).interleave ≡ interleave) where
-    names-counted : (names : Names) → length (order_held text front work (order_place count h.lines h.taxa) h.taxa names (rows_of text work count h))
+    names-counted : (names : Option (ℕ × ℕ)) → length (order_held text front work (order_place count h.lines h.taxa) h.taxa names (rows_of text work count h))
         ≡ names_count text front (row_count interleave h.lines h.taxa) h.taxa names
     unfolding order_held names_count names_of
-    names-counted Names.None = rows-laid text work codes count h fit interleave layout
-    names-counted (Names.Words from to) =
+    names-counted None = rows-laid text work codes count h fit interleave layout
+    names-counted (Some (from, to)) =
         let ws = words (range text front from to) in
         ordered-length (rows_of text work count h) work (order_place count h.lines h.taxa) (take h.taxa (names_of ws))
         ∙ length-take h.taxa (names_of ws) ∙ ap (min h.taxa) (length-map ws _) ∙ smaller h.taxa (length ws)

@@ -1,4 +1,5 @@
 -- The record of a matrix that is held, beside that of its names and characters alone. Assumes nothing.
+use Rattle.std.specs.Prelude.{Some, None, Option}
 use Prim.Native.Nat.{ℕ, suc, ◌+◌, ◌*◌, ◌≤◌, ◌<◌, min}
 use Rattle.block.specs.Blocks.{with_types}
 use Rattle.block.specs.Format.{Format}
@@ -10,7 +11,6 @@ use Rattle.block.specs.declared.formats.Format as F
 use Rattle.commands.specs.MatrixHeld.{format_held, order_held, reading_held, rows_of, types_at, untyped_held}
 use Rattle.commands.specs.WorkMap.{map_fits, order_place}
 use Rattle.commands.specs.declared.state.Held.{Held}
-use Rattle.commands.specs.declared.state.Names.{Names}
 use Rattle.emit.specs.Puts.{last_place}
 use Rattle.matrix.specs.Lines.{name_at, stored}
 use Rattle.matrix.specs.OrderHeld.{ordered}
@@ -101,10 +101,10 @@ module _ (text work : List ℕ) (count : ℕ) (h : Held) where
   unfolding reading_held with_types untyped_held bare order_held
   taxa-names = go h.names
     where
-      go : (n : Names) → names (order_held text front work (order_place count h.lines h.taxa) h.taxa n (rows_of text work count h))
+      go : (n : Option (ℕ × ℕ)) → names (order_held text front work (order_place count h.lines h.taxa) h.taxa n (rows_of text work count h))
           ≡ names (order_held text front work (order_place count h.lines h.taxa) h.taxa n (rows_of text work count (bare h)))
-      go Names.None = rows-names
-      go (Names.Words from to) = ordered-names _ _ _ _ ∙ sym (ordered-names _ _ _ _)
+      go None = rows-names
+      go (Some (from, to)) = ordered-names _ _ _ _ ∙ sym (ordered-names _ _ _ _)
 
   -- The characters are the same, and the first four lines.
   characters-same : (reading_held text work count h).characters ≡ (reading_held text work count (bare h)).characters

@@ -13,7 +13,6 @@ use Rattle.reading.proofs.RowPieces.{CellsLeft, row-none, row-then, spell-on-app
 use Rattle.reading.proofs.ShortLaws.{Shorts, run_cells, shorts-more, shorts-none, spell-short}
 use Rattle.reading.specs.CodedCells.{RowPut, cell_byte, cells_coded, decoded}
 use Rattle.reading.specs.Pieces.{spell_on}
-use Rattle.reading.specs.ShortCells.{ShortWrote}
 use Rattle.reading.specs.declared.cells.Putting.{Putting}
 use lib.ListN.{length, get_or, set, take, drop, length-set}
 use lib.Seq.{drop-drop, take-add}
@@ -85,26 +84,23 @@ module _ (codes text : List ℕ) where
         record { ahead = omega arith; within = h; place = omega arith; room = r; kept = refl; short = shorts-none codes text from; written = rw none puts_none }
 
     module _ {buffer : List ℕ} {at i : ℕ} (k : Wrote buffer at i) where
-      pub wrote-turn : (b : ℕ) → b ≡ cell_byte (get_or codes (get_or text i 0) 0) → i < end → i < length text → (b ≡ 0 → ⊥) → Wrote (set (set buffer at 32) (at + 1) b) (at + 1 + 1) (i + 1)
+      pub wrote-turn : (b : ℕ) → b ≡ cell_byte (get_or codes (get_or text i 0) 0) → i < end → i < length text → (cell_byte (get_or codes (get_or text i 0) 0) ≡ 0 → ⊥) → Wrote (set (set buffer at 32) (at + 1) b) (at + 2) (i + 1)
       wrote-turn b e h here s =
           let ahead = k.ahead in
-          let some : cell_byte (get_or codes (get_or text i 0) 0) ≡ 0 → ⊥ = λ z. s (e ∙ z) in
+          let two : at + 1 + 1 ≡ at + 2 = omega arith in
           record {
             ahead = omega arith;
             within = omega arith;
             place = omega (arith, k.place);
             room = omega (arith, k.room, length-set buffer at 32, length-set (set buffer at 32) (at + 1) b);
             kept = length-set (set buffer at 32) (at + 1) b ∙ length-set buffer at 32 ∙ k.kept;
-            short = shorts-more codes text from i k.short some;
-            written = puts-as (puts_then k.written (puts_then (byte-written buffer at 32) (byte-written (set buffer at 32) (at + 1) b)))
+            short = shorts-more codes text from i k.short s;
+            written = puts-as (rw two at (puts_then k.written (puts_then (byte-written buffer at 32) (byte-written (set buffer at 32) (at + 1) b))))
                 (λ behind.
-                ap (λ l. spell_on true (run_cells codes text from i) l) (sym (one-short i here some behind ∙ ap (λ x. 32 ∷ x ∷ behind) (sym e)))
+                ap (λ l. spell_on true (run_cells codes text from i) l) (sym (one-short i here s behind ∙ ap (λ x. 32 ∷ x ∷ behind) (sym e)))
                 ∙ spell-on-append true (run_cells codes text from i) (run_cells codes text i (i + 1)) behind
                 ∙ sym (ap (λ l. spell_on true l behind) (part-split from i (i + 1) ahead (omega arith))));
           }
-
-      pub wrote-end : ShortWrote codes text from end before n buffer i
-      wrote-end = record { ahead = k.ahead; within = k.within; short = k.short.each; written = rw k.place at k.written }
 
   -- Whatever puts the cells from a place up to an end makes all from the first on put.
   module _ (from end : ℕ) where

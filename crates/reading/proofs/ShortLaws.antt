@@ -1,4 +1,6 @@
 -- Cells of one byte each, put behind those of a row: how they are spelled, where they are only counted, and where they are written. Assumes nothing.
+use Rattle.std.specs.Prelude.{None, Some, is_some}
+use Rattle.std.specs.Prelude as Std
 use Prim.Native.Nat.{ℕ, zero, suc, ◌+◌, ◌*◌, ◌-◌, ◌^◌, ◌≤◌, ◌<◌, min}
 use Rattle.block.specs.Cell.{Cell}
 use Rattle.emit.proofs.DecimalMade.{decimal-one}
@@ -13,7 +15,7 @@ use Rattle.reading.specs.CodedCells.{RowPut, cell_byte, cells_coded, decoded, sp
 use Rattle.reading.specs.Pieces.{spell_on}
 use Rattle.reading.specs.declared.cells.Putting.{Putting}
 use Rattle.record.specs.Spell.{spell_cell}
-use borrow.Author.Tests.{eqb-false, eqb-true, leb-false, leb-true, ltb-true}
+use borrow.Author.Tests.{le-ltb, lt-ltb, ne_eqb, eqb-false, eqb-true, leb-false, leb-true, ltb-true}
 use lib.Dec.{eqb, leb, ltb}
 use lib.ListN.{length, get_or, take, drop}
 use mathlib.Core.Bool.{true, false≢true}
@@ -21,6 +23,46 @@ use mathlib.Core.List.{List, [], ◌∷◌, ◌++◌}
 use mathlib.Core.Option.{Option, none, some}
 use mathlib.Core.Path.{◌≡◌, refl, sym, ap, ◌∙◌}
 use native.Mathlib.Omega.{arith}
+
+-- The byte of a cell that takes one byte.
+abbrev pub maybe : ℕ → Std.Option ℕ
+maybe b = pick (eqb b 0) None (Some b)
+
+module _ (code : ℕ) where
+  pub byte-state : code < 10 → Some (48 + code) ≡ maybe (cell_byte code)
+  unfolding cell_byte pick
+  byte-state h = rw (lt-ltb code 10 h, ne_eqb (48 + code) 0 (λ e. omega arith))
+
+  pub byte-missing : code ≡ 126 → Some 109 ≡ maybe (cell_byte code)
+  unfolding cell_byte pick
+  byte-missing e = rw e
+
+  pub byte-gap : code ≡ 127 → Some 103 ≡ maybe (cell_byte code)
+  unfolding cell_byte pick
+  byte-gap e = rw e
+
+  pub byte-other : 10 ≤ code → (code ≡ 126 → ⊥) → (code ≡ 127 → ⊥) → None ≡ maybe (cell_byte code)
+  unfolding cell_byte pick
+  byte-other h m g = rw (le-ltb code 10 h, ne_eqb code 126 m, ne_eqb code 127 g)
+
+-- There is one, or none.
+module _ (n : ℕ) where
+  pub byte-given : (b : ℕ) → Some b ≡ maybe n → (b ≡ n) × (n ≡ 0 → ⊥)
+  unfolding pick
+  byte-given b e =
+      by-test (eqb n 0)
+      (λ t. let no : ◌≡◌ {A = Std.Option ℕ} (Some b) None = rw t at e in absurd cc)
+      (λ f. let yes : Some b ≡ Some n = rw f at e in (cc, eqb-false n 0 f))
+
+  pub byte-some : {o : Std.Option ℕ} → o ≡ maybe n → is_some o ≡ true → n ≡ 0 → ⊥
+  unfolding pick
+  byte-some e h z = false≢true (rw (e, z) at h)
+
+  pub byte-none : None ≡ maybe n → n ≡ 0
+  unfolding pick
+  byte-none e =
+      by-test (eqb n 0) (λ t. eqb-true n 0 t)
+      (λ f. let no : ◌≡◌ {A = Std.Option ℕ} None (Some n) = rw f at e in absurd cc)
 
 -- What a code is whose cell is of one byte.
 module _ (code : ℕ) (P : Type 0) where

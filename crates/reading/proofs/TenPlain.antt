@@ -111,14 +111,11 @@ bare-least CharacterOrdering.Unordered behind = omega (arith, ap length (bare-un
 abbrev pub from_digit : ℕ → CharacterOrdering → ℕ → List ℕ → List ℕ
 from_digit number o digit = spell_characters (number + (digit - 48)) (replicate (58 - digit) (plain_character o))
 
--- None of them, and all.
+-- None of them.
 module _ (number : ℕ) (o : CharacterOrdering) where
   pub ten-end : (digit : ℕ) → 58 ≤ digit → (behind : List ℕ) → from_digit number o digit behind ≡ behind
   unfolding spell_characters
   ten-end digit h behind = let none : 58 - digit ≡ 0 = omega arith in rw none refl
-
-  pub ten-start : (behind : List ℕ) → from_digit number o 48 behind ≡ spell_characters number (replicate 10 (plain_character o)) behind
-  ten-start behind = let first : number + 0 ≡ number = omega arith in rw first refl
 
 -- Ten numbers, the first of which ends with 0.
 module _ (number : ℕ) (some : 1 ≤ number) (round : number % 10 ≡ 0) where

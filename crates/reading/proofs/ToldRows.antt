@@ -1,4 +1,5 @@
 -- Words and whole sets that are told by their bytes at once and put behind a row, one after another. Assumes nothing.
+use Rattle.std.specs.Prelude.{None, Some, is_some}
 use Prim.Native.Nat.{ℕ, suc, ◌+◌, ◌-◌, ◌≤◌, ◌<◌}
 use Rattle.block.specs.Cell.{Cell}
 use Rattle.block.specs.Chunk.{set_cell}
@@ -17,11 +18,12 @@ use Rattle.reading.proofs.WordCells.{plain-put}
 use Rattle.reading.specs.CodedCells.{RowPut, cells_coded, codes_of, decoded}
 use Rattle.reading.specs.RowWalk.{AheadPut, ToldPut, full, full_with, more_told, none_told, nothing_put, one_word, plain_walk, told_put, whole_set}
 use Rattle.reading.specs.declared.cells.Putting.{Putting}
-use Rattle.reading.specs.declared.lines.Open.{Open}
 use Rattle.reading.specs.declared.lines.Walk.{Walk}
+use Rattle.std.specs.Prelude as Std
+use Rattle.block.specs.declared.kinds.Bracket.{Bracket}
 use borrow.Author.Tests.{ne_eqb}
 use lib.ListN.{length, get_or, drop, length-take}
-use mathlib.Core.Bool.{false}
+use mathlib.Core.Bool.{true, false, false≢true}
 use mathlib.Core.List.{List, [], ◌∷◌}
 use mathlib.Core.Option.{Option, none, some}
 use mathlib.Core.Path.{◌≡◌, refl, ap, ◌∙◌}
@@ -66,7 +68,7 @@ module _ {codes text starts : List ℕ} {to : ℕ} {before : List ℕ} {row : Pu
       (λ z. omega (arith, p.lacking))
 
 -- The buffer keeps its length, and the index does not go back.
-pub told-kept : {codes text starts : List ℕ} {to : ℕ} {before : List ℕ} {row : Putting} {from : ℕ} {b : List ℕ} {r : Putting} {i : ℕ} → ToldPut codes text starts to before row from b r i
+told-kept : {codes text starts : List ℕ} {to : ℕ} {before : List ℕ} {row : Putting} {from : ℕ} {b : List ℕ} {r : Putting} {i : ℕ} → ToldPut codes text starts to before row from b r i
     → (length b ≡ length before) × (from ≤ i)
 told-kept none_told = (refl, omega arith)
 told-kept (more_told k h w s l) = let e = told-kept k in let a = step-ahead (s [] 0 (omega arith)) in (step_kept (s [] 0 (omega arith)) ∙ e.0, omega (arith, e.1))
@@ -91,5 +93,11 @@ ahead-on nothing_put = omega arith
 ahead-on (told_put e t) = (told-kept t).1
 
 -- A row in which no set is open is told by its cells.
-pub plain_known : (walk : Walk) → walk.opened ≡ Open.None → walk ≡ plain_walk walk.row walk.top
-plain_known walk e = ap (λ (o : Open). record { row = walk.row; opened = o; top = walk.top }) e
+pub plain_known : (walk : Walk) → walk.opened ≡ None → walk ≡ plain_walk walk.row walk.top
+plain_known walk e = ap (λ (o : Std.Option Bracket). record { row = walk.row; opened = o; top = walk.top }) e
+
+-- A row is not full while a set is open.
+pub open-short : (o : Std.Option Bracket) (left : ℕ) → is_some o ≡ true → false ≡ full_with o left
+unfolding full_with
+open-short None left e = absurd (false≢true e)
+open-short (Some k) left e = refl

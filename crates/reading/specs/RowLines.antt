@@ -1,20 +1,19 @@
 -- The lines of a row: how many rows lines make, which line is the first of a row, and the cells of a row's lines. And what is promised of putting
 -- them: the format of a matrix is known by its codes.
-use Rattle.std.specs.Prelude.{ℕ, zero, suc, ◌+◌, ◌-◌, ◌*◌, ◌%◌, ◌≤◌, ◌<◌, ltb, length, get_or, take, Bool, false, ◌&&◌, List, [], ◌++◌, ◌≡◌}
+use Rattle.std.specs.Prelude.{ℕ, zero, suc, ◌+◌, ◌-◌, ◌*◌, ◌%◌, ◌≤◌, ◌<◌, ltb, length, get_or, take, Bool, false, ◌&&◌, List, [], ◌++◌, ◌≡◌, Some, None, Option}
 use Rattle.block.specs.Cell.{Cell}
 use Rattle.block.specs.Codes.{Coded}
 use Rattle.block.specs.Commands.{words}
 use Rattle.block.specs.Format.{Format}
 use Rattle.commands.specs.MatrixHeld.{format_held}
 use Rattle.commands.specs.declared.state.Held.{Held}
-use Rattle.commands.specs.declared.state.Names.{Names}
-use Rattle.commands.specs.declared.state.Style.{Style}
 use Rattle.emit.specs.Puts.{Puts}
 use Rattle.lexer.specs.Base.{pick}
 use Rattle.lexer.specs.Stored.{range}
 use Rattle.matrix.specs.Lines.{stored}
 use Rattle.matrix.specs.PagesHeld.{line_at}
 use Rattle.reading.specs.Pieces.{spell_on}
+use Rattle.block.specs.declared.format_options.Options.{Options}
 
 -- How many rows so many lines make. Sequential, each is a row. Interleaved, the rows are those of whole pages, but for those that lines behind the
 -- last whole page go on with.
@@ -26,9 +25,9 @@ unfoldable pub first_line : Bool → ℕ → ℕ → ℕ → ℕ
 first_line interleave lines taxa r = pick (interleave && ltb 0 taxa) (lines % taxa + r) r
 
 -- How many taxa a matrix that is held has: as many as rows or, under declared names, as many as there are of these, up to so many.
-unfoldable pub names_count : List ℕ → List ℕ → ℕ → ℕ → Names → ℕ
-names_count text front rows taxa Names.None = rows
-names_count text front rows taxa (Names.Words from to) = let count = length (words (range text front from to)) in pick (ltb taxa count) taxa count
+unfoldable pub names_count : List ℕ → List ℕ → ℕ → ℕ → Option (ℕ × ℕ) → ℕ
+names_count text front rows taxa None = rows
+names_count text front rows taxa (Some (from, to)) = let count = length (words (range text front from to)) in pick (ltb taxa count) taxa count
 
 unfoldable pub taxa_count : List ℕ → List ℕ → Held → Bool → ℕ
 taxa_count text front h interleave = names_count text front (row_count interleave h.lines h.taxa) h.taxa h.names
@@ -43,7 +42,7 @@ unfoldable pub cells_on : List ℕ → List ℕ → Format → ℕ → List ℕ 
 cells_on text front f to starts j = (line_at text front f to (get_or starts j 0)).cells
 
 -- The format of a matrix has these codes, no more symbols than the code's format can hold, and this layout.
-pub record FormatTold (text front codes : List ℕ) (style : Style) (interleave : Bool) : Type 0 where
+pub record FormatTold (text front codes : List ℕ) (style : Option Options) (interleave : Bool) : Type 0 where
   pub coded : Coded (format_held text front style) codes
   pub few : length (format_held text front style).symbols ≤ 74
   pub layout : (format_held text front style).interleave ≡ interleave

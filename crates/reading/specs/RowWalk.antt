@@ -1,5 +1,5 @@
 -- A row that is put word by word: what the code keeps of it stands for the row of the definition.
-use Rattle.std.specs.Prelude.{ℕ, ◌+◌, ◌≤◌, ◌<◌, eqb, length, get_or, Bool, false, List, [], ◌∷◌, ◌≡◌}
+use Rattle.std.specs.Prelude.{ℕ, ◌+◌, ◌≤◌, ◌<◌, eqb, length, get_or, Bool, false, List, [], ◌∷◌, ◌≡◌, Some, None, Option}
 use Rattle.block.specs.Chunk.{Row, plain, within, set_cell}
 use Rattle.block.specs.Commands.{newline}
 use Rattle.block.specs.Format.{Format}
@@ -10,25 +10,24 @@ use Rattle.matrix.specs.Taken.{cells_in, taken, word_taken}
 use Rattle.matrix.specs.WholeSets.{WholeSet}
 use Rattle.reading.specs.CodedCells.{RowPut, codes_of, members, word_coded}
 use Rattle.reading.specs.declared.cells.Putting.{Putting}
-use Rattle.reading.specs.declared.lines.Open.{Open}
 use Rattle.reading.specs.declared.lines.Walk.{Walk}
 
 -- A row before its first word: so many cells are lacking, and no set is open.
 abbrev pub begun : ℕ → Bool → ℕ → Walk
-begun n started left = record { row = record { at = n; started = started; left = left }; opened = Open.None; top = 0 }
+begun n started left = record { row = record { at = n; started = started; left = left }; opened = None; top = 0 }
 
--- Is no cell of a row lacking, and no set is_open
-unfoldable pub full_with : Open → ℕ → Bool
-full_with Open.None left = eqb left 0
-full_with (Open.Set k) left = false
+-- Is no cell of a row lacking, and no set open?
+unfoldable pub full_with : Option Bracket → ℕ → Bool
+full_with None left = eqb left 0
+full_with (Some k) left = false
 
 unfoldable pub full : Walk → Bool
 full walk = full_with walk.opened walk.row.left
 
 -- The set that is open in a row, if one is.
-unfoldable pub open_in : Row → Open
-open_in (plain cells) = Open.None
-open_in (within cells k i s) = Open.Set k
+unfoldable pub open_in : Row → Option Bracket
+open_in (plain cells) = None
+open_in (within cells k i s) = Some k
 
 -- The states of the set that is open in a row; none if none is.
 unfoldable pub states_in : Row → List ℕ
@@ -60,9 +59,9 @@ pub record SetPut (codes text starts : List ℕ) (to i : ℕ) (buffer set : List
   pub kind : Bracket
   pub states : List ℕ
   pub words : WholeSet codes text starts i to kind states
-  pub none : walk.opened ≡ Open.None
+  pub none : walk.opened ≡ None
   pub put : RowPut buffer walk.row (set_cell kind (codes_of codes states) ∷ []) after next.row
-  pub opened : next.opened ≡ Open.None
+  pub opened : next.opened ≡ None
   pub top : next.top ≡ walk.top
   pub same : marks ≡ set
 
@@ -73,7 +72,7 @@ pub data StepPut (codes text starts : List ℕ) (to i : ℕ) (buffer set : List 
 
 -- A row in which no set is open.
 abbrev pub plain_walk : Putting → ℕ → Walk
-plain_walk row top = record { row = row; opened = Open.None; top = top }
+plain_walk row top = record { row = row; opened = None; top = top }
 
 -- Words and whole sets were put behind a row, from an index on up to another, and behind each of them cells are lacking.
 pub data ToldPut (codes text starts : List ℕ) (to : ℕ) (before : List ℕ) (row : Putting) (from : ℕ) : List ℕ → Putting → ℕ → Type 0 where

@@ -4,7 +4,6 @@ use Rattle.emit.specs.Puts.{Puts}
 use Rattle.reading.specs.CodedCells.{RowPut, cell_byte, cells_coded}
 use Rattle.reading.specs.Pieces.{spell_on}
 use Rattle.reading.specs.declared.cells.Putting.{Putting}
-use Rattle.reading.specs.declared.cells.Ran.{Ran}
 
 -- The cells of the bytes from a place up to another are of one byte each; it is no further than an end, and there or at the first cell that is not.
 pub record ShortRun (codes text : List ℕ) (from end stop : ℕ) : Type 0 where
@@ -21,7 +20,7 @@ pub record ShortWrote (codes text : List ℕ) (from end : ℕ) (before : List �
   pub written : Puts before at (spell_on true (cells_coded codes (take (stop - from) (drop from text)))) after (at + 2 * (stop - from))
 
 -- The cells from a place up to where a run goes on, no further than an end, were put behind those of a row.
-pub record RanPut (codes text : List ℕ) (from end : ℕ) (before : List ℕ) (row : Putting) (after : List ℕ) (r : Ran) : Type 0 where
-  pub ahead : from ≤ r.next
-  pub within : r.next ≤ end
-  pub put : RowPut before row (cells_coded codes (take (r.next - from) (drop from text))) after r.row
+pub record RanPut (codes text : List ℕ) (from end : ℕ) (before : List ℕ) (row : Putting) (after : List ℕ) (r : Putting × ℕ) : Type 0 where
+  pub ahead : from ≤ r.1
+  pub within : r.1 ≤ end
+  pub put : RowPut before row (cells_coded codes (take (r.1 - from) (drop from text))) after r.0

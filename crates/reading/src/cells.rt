@@ -1,6 +1,6 @@
 // The cells of a row, put from the words of work memory.
 
-ghost use Rattle.std.specs.Prelude.{◌+◌, ◌*◌, ◌-◌, ◌≤◌, min, length, take, drop, true, [], ◌∷◌, ◌≡◌};
+ghost use Rattle.std.specs.Prelude.{◌+◌, ◌*◌, ◌-◌, ◌≤◌, eqb, min, length, take, drop, true, [], ◌∷◌, ◌≡◌};
 ghost use Rattle.emit.specs.Puts.{Puts, last_place};
 ghost use Rattle.lexer.specs.Base.{given, pick};
 ghost use Rattle.lexer.specs.Lexing.{token_at};
@@ -14,8 +14,8 @@ use super::sets::{put_bits, put_whole_set};
 use block::punct;
 use emit::{put, put_decimal};
 use lexer::{
-    Item, Kind, entry_of, kind_at, next_byte, plain_run, start_of, text_start, word_bytes,
-    word_stop, word_stop_by,
+    Kind, entry_of, kind_at, next_byte, plain_run, start_of, text_start, word_bytes, word_stop,
+    word_stop_by,
 };
 use matrix::sets::set_closes;
 
@@ -27,67 +27,37 @@ pub struct Putting {
     pub left: usize,
 }
 
-// A row behind the cells of a run, and where the run goes on.
-#[derive(Clone, Copy)]
-pub struct Ran {
-    pub row: Putting,
-    pub next: usize,
-}
-
-// The byte that the cell of a code is, or 0: a state below 10 is a digit, missing is `m` and a gap `g`.
-fn cell_byte(code: u8) -> u8
-    ensures { result ≡ cell_byte code }
+// The byte that the cell of a code is, if it is one: a state below 10 is a digit, missing is `m` and a gap `g`.
+fn cell_byte(code: u8) -> Option<u8>
+    ensures { result ≡ pick (eqb (cell_byte code) 0) None (Some (cell_byte code)) }
 {
-    if code < 10 {
-        return 48 + code;
+    match code {
+        0..=9 => Some(b'0' + code),
+        126 => Some(b'm'),
+        127 => Some(b'g'),
+        _ => None,
     }
-    if code == 126 {
-        return 109;
-    }
-    if code == 127 {
-        return 103;
-    }
-    0
 }
 
 // Puts the cell of a code, if it has one.
 fn put_code(buffer: &mut [u8], n: usize, code: u8) -> usize
     ensures { Puts buffer.old n (spell_maybe (decoded code)) buffer.new result }
 {
-    let short = cell_byte(code);
-    if short != 0 {
+    if let Some(short) = cell_byte(code) {
         return put(buffer, n, short);
     }
-    if code < 96 {
-        return put_decimal(buffer, n, code as u64);
+    match code {
+        0..=95 => put_decimal(buffer, n, code as u64),
+        96..=111 => put_bits(buffer, n, code - 96),
+        _ => n,
     }
-    if code < 112 {
-        return put_bits(buffer, n, code - 96);
-    }
-    n
 }
 
 // Has a code a cell?
 fn has_cell(code: u8) -> bool
     ensures { result ≡ given (decoded code) }
 {
-    if code < 112 {
-        return true;
-    }
-    if code == 126 {
-        return true;
-    }
-    code == 127
-}
-
-// One less; 0 stays 0.
-pub fn fewer(left: usize) -> usize
-    ensures { result ≡ left - 1 }
-{
-    if left == 0 {
-        return 0;
-    }
-    left - 1
+    matches!(code, 0..=111 | 126 | 127)
 }
 
 // Puts the blank before a cell that is not the first.
@@ -95,9 +65,20 @@ pub fn put_blank(buffer: &mut [u8], n: usize, started: bool) -> usize
     ensures { Puts buffer.old n (λ behind. pick started (32 ∷ behind) behind) buffer.new result }
 {
     if started {
-        return put(buffer, n, 32);
+        return put(buffer, n, b' ');
     }
     n
+}
+
+// A row with so many cells more, which ends at a place that is known.
+pub fn row_behind(row: Putting, at: usize, cells: usize) -> Putting
+    ensures { result ≡ record { at = at; started = true; left = row.left - cells } }
+{
+    Putting {
+        at,
+        started: true,
+        left: row.left.saturating_sub(cells),
+    }
 }
 
 // Puts the cell of a code behind those of a row, if it has one.
@@ -109,11 +90,7 @@ fn put_cell(buffer: &mut [u8], row: Putting, code: u8) -> Putting
     }
     let at = put_blank(buffer, row.at, row.started);
     let next = put_code(buffer, at, code);
-    Putting {
-        at: next,
-        started: true,
-        left: fewer(row.left),
-    }
+    row_behind(row, next, 1)
 }
 
 // Where the cells of one byte each end, from a place of a text on and no further than an end.
@@ -121,24 +98,19 @@ fn short_end(text: &[u8], from: usize, end: usize, codes: &[u8; 256]) -> usize
     requires { (from ≤ end) × (end - from ≤ length text.now - from) }
     ensures { ShortRun codes.now text.now from end result }
 {
-    let mut i = from;
-    while i < end {
-        if cell_byte(entry_of(codes, text[i])) == 0 {
+    for i in from..end {
+        if cell_byte(entry_of(codes, text[i])).is_none() {
             return i;
         }
-        i += 1;
     }
-    i
+    end
 }
 
 // The place behind so many cells of a blank and a byte each, from a place on; it stops at the largest place.
 fn place_behind(n: usize, cells: usize) -> usize
     ensures { result ≡ min last_place (n + 2 * cells) }
 {
-    if (18446744073709551615 - n) / 2 < cells {
-        return 18446744073709551615;
-    }
-    n + 2 * cells
+    n.saturating_add(cells.saturating_mul(2))
 }
 
 // Writes the cells of a text from `from` on, each as a blank and one byte, up to `end` or to the first symbol whose cell is longer. Answers where in the
@@ -155,42 +127,20 @@ fn write_short(
     ensures { ShortWrote codes.now text.now from end buffer.old n buffer.new result }
 {
     let mut at = n;
-    let mut i = from;
-    while i < end {
-        let b = cell_byte(entry_of(codes, text[i]));
-        if b == 0 {
+    for i in from..end {
+        let Some(b) = cell_byte(entry_of(codes, text[i])) else {
             return i;
-        }
-        buffer[at] = 32;
-        at += 1;
-        buffer[at] = b;
-        at += 1;
-        i += 1;
-    }
-    i
-}
-
-// A row with so many cells more, which ends at a place that is known.
-fn row_behind(row: Putting, at: usize, cells: usize) -> Putting
-    ensures { result ≡ record { at = at; started = true; left = row.left - cells } }
-{
-    if row.left < cells {
-        return Putting {
-            at,
-            started: true,
-            left: 0,
         };
+        buffer[at] = b' ';
+        buffer[at + 1] = b;
+        at += 2;
     }
-    Putting {
-        at,
-        started: true,
-        left: row.left - cells,
-    }
+    end
 }
 
 // Puts the cells of a text from `from` on behind those of a row, each as a blank and one byte, up to `end` or to the first symbol whose cell is longer.
 // Behind the buffer's end they are only counted. None is put if the row has no cell yet, since its first has no blank before it, or if the buffer may end
-// among them.
+// among them. Answers where the run goes on besides.
 fn put_short(
     text: &[u8],
     from: usize,
@@ -198,31 +148,25 @@ fn put_short(
     buffer: &mut [u8],
     row: Putting,
     codes: &[u8; 256],
-) -> Ran
+) -> (Putting, usize)
     requires { (from ≤ end) × (end - from ≤ length text.now - from) }
     ensures { RanPut codes.now text.now from end buffer.old row buffer.new result }
 {
     if !row.started {
-        return Ran { row, next: from };
+        return (row, from);
     }
     let at = row.at;
     if buffer.len() <= at {
         let stop = short_end(text, from, end, codes);
         let count = stop - from;
-        return Ran {
-            row: row_behind(row, place_behind(at, count), count),
-            next: stop,
-        };
+        return (row_behind(row, place_behind(at, count), count), stop);
     }
     if (buffer.len() - at) / 2 < end - from {
-        return Ran { row, next: from };
+        return (row, from);
     }
     let next = write_short(text, from, end, buffer, at, codes);
     let cells = next - from;
-    Ran {
-        row: row_behind(row, at + 2 * cells, cells),
-        next,
-    }
+    (row_behind(row, at + 2 * cells, cells), next)
 }
 
 // Puts the cells of a text from `from` up to `end` behind those of a row: one cell of any length, then those of one byte that follow it, and so on.
@@ -241,9 +185,7 @@ fn put_rest(
     let mut i = from;
     while i < end {
         last = put_cell(buffer, last, entry_of(codes, text[i]));
-        let ran = put_short(text, i + 1, end, buffer, last, codes);
-        last = ran.row;
-        i = ran.next;
+        (last, i) = put_short(text, i + 1, end, buffer, last, codes);
     }
     last
 }
@@ -261,8 +203,8 @@ fn put_run(
     requires { (from ≤ end) × (end - from ≤ length text.now - from) }
     ensures { RowPut buffer.old row (cells_coded codes.now (take (end - from) (drop from text.now))) buffer.new result }
 {
-    let ran = put_short(text, from, end, buffer, row, codes);
-    put_rest(text, ran.next, end, buffer, ran.row, codes)
+    let (last, next) = put_short(text, from, end, buffer, row, codes);
+    put_rest(text, next, end, buffer, last, codes)
 }
 
 // Puts the cells of a token's text behind those of a row: those of a run of plain bytes, then of the next byte, and so on.
@@ -281,15 +223,11 @@ fn put_cells(
         let at = c.at;
         let run = plain_run(text, c);
         row = put_run(text, at, run.at, buffer, row, codes);
-        match next_byte(text, run) {
-            Item::Byte(b, d) => {
-                row = put_cell(buffer, row, entry_of(codes, b));
-                c = d;
-            }
-            Item::End => {
-                return row;
-            }
-        }
+        let Some((b, d)) = next_byte(text, run) else {
+            return row;
+        };
+        row = put_cell(buffer, row, entry_of(codes, b));
+        c = d;
     }
 }
 
@@ -299,7 +237,7 @@ pub fn has_cells(text: &[u8], starts: &[u32], i: usize) -> bool
 {
     match kind_at(text, start_of(starts, i)) {
         Kind::Word => true,
-        _ => punct(text, starts, i, 43),
+        _ => punct(text, starts, i, b'+'),
     }
 }
 
@@ -325,7 +263,8 @@ pub fn put_word(
     put_cells(text, start, buffer, row, codes)
 }
 
-// Puts the words and whole sets that are told by their bytes at once, from the word of an index on, as long as cells are lacking behind each.
+// Puts the words and whole sets that are told by their bytes at once, from the word of an index on, as long as cells are lacking behind each. Answers the
+// index of the next word besides.
 pub fn put_told(
     text: &[u8],
     starts: &[u32],
@@ -334,29 +273,31 @@ pub fn put_told(
     buffer: &mut [u8],
     row: Putting,
     codes: &[u8; 256],
-) -> Ran
-    ensures { ToldPut codes.now text.now starts.now to buffer.old row from buffer.new result.row result.next }
+) -> (Putting, usize)
+    ensures { ToldPut codes.now text.now starts.now to buffer.old row from buffer.new result.0 result.1 }
 {
     let table = word_bytes();
     let mut last = row;
     let mut i = from;
+    // A turn passes one word, or the three of a whole set.
     while (i < to) & (1 < last.left) {
         let start = start_of(starts, i);
         let end = word_stop_by(text, start, &table);
         if start < end {
             if last.left <= end - start {
-                return Ran { row: last, next: i };
+                return (last, i);
             }
             last = put_run(text, start, end, buffer, last, codes);
             i += 1;
             continue;
         }
+        // `set_closes` answers 0 where there is no whole set.
         let close = set_closes(text, starts, i, to, codes);
         if close == 0 {
-            return Ran { row: last, next: i };
+            return (last, i);
         }
         last = put_whole_set(text, start, close, buffer, last, codes);
         i += 3;
     }
-    Ran { row: last, next: i }
+    (last, i)
 }

@@ -1,19 +1,15 @@
 // The characters of a record, put into a lent buffer.
 
 ghost use Rattle.std.specs.Prelude.{◌*◌, ◌+◌, ◌≤◌, length, take, true, ◌≡◌};
-ghost use Rattle.assumptions.specs.TypesHeld.{type_word};
-ghost use Rattle.block.specs.declared.model.CharacterOrdering.{CharacterOrdering};
 ghost use Rattle.commands.specs.MatrixHeld.{reading_held};
 ghost use Rattle.commands.specs.WorkMap.{map_fits};
 ghost use Rattle.emit.specs.Puts.{Puts};
 ghost use Rattle.reading.specs.CharactersHeld.{characters_from, slot_character, slot_type};
 ghost use Rattle.record.specs.Spell.{line, order_word, spell_character, spell_characters};
-ghost use Rattle.std.proofs.Math.Option.{get_or};
 
 use super::label_lines::{put_label, put_state_labels};
 use super::names::put_number;
 use super::plain::{plain_size, put_plain, put_ten, ten_plain};
-use assumptions::TypeWord;
 use block::CharacterOrdering;
 use commands::{Held, labels_place};
 use emit::{further, has_room, put_all};
@@ -55,16 +51,6 @@ fn put_character(
     put_state_labels(text, starts, buffer, m, states)
 }
 
-// The type of characters that no set types.
-fn default_type(default: TypeWord) -> CharacterOrdering
-    ensures { result ≡ get_or (type_word default) CharacterOrdering.Unordered }
-{
-    match default {
-        TypeWord::Type(o) => o,
-        TypeWord::None => CharacterOrdering::Unordered,
-    }
-}
-
 // The type at a place of work memory, if a set was read and gave one; else this one.
 fn type_at(work: &[u32], t: usize, typed: bool, o: CharacterOrdering) -> CharacterOrdering
     ensures { result ≡ slot_type work.now o typed t }
@@ -72,14 +58,11 @@ fn type_at(work: &[u32], t: usize, typed: bool, o: CharacterOrdering) -> Charact
     if !typed {
         return o;
     }
-    let number = start_of(work, t);
-    if number == 0 {
-        return o;
+    match start_of(work, t) {
+        0 => o,
+        1 => CharacterOrdering::Unordered,
+        _ => CharacterOrdering::Ordered,
     }
-    if number == 1 {
-        return CharacterOrdering::Unordered;
-    }
-    CharacterOrdering::Ordered
 }
 
 // Puts the characters: their labels stand from a place of work memory on, behind them their state labels, behind these their types. Where ten can be put
@@ -99,6 +82,7 @@ fn put_each(
 {
     let mut m = n;
     let mut k = 0;
+    // A turn passes ten characters or one, so this is no `for`.
     while k < characters {
         let ordering = type_at(work, at + 2 * characters + k, typed, o);
         let room = (buffer.len() <= m) | has_room(buffer.len(), m, 640);
@@ -128,15 +112,6 @@ pub fn put_characters(
     ensures { Puts buffer.old n (spell_characters 1 (reading_held text.now work.now count held).characters) buffer.new result }
 {
     let at = labels_place(count, held.lines, held.taxa);
-    let default = held.default;
-    put_each(
-        text,
-        work,
-        at,
-        held.characters,
-        held.typed,
-        default_type(default),
-        buffer,
-        n,
-    )
+    let o = held.default.unwrap_or(CharacterOrdering::Unordered);
+    put_each(text, work, at, held.characters, held.typed, o, buffer, n)
 }

@@ -17,17 +17,14 @@ fn count_names(text: &[u8], starts: &[u32], i: usize, most: usize) -> usize
     ensures { result ≡ length (take most (names_of (words (range text.now starts.now i (length starts.now))))) }
 {
     let mut count = 0;
-    let mut j = i;
-    while j < starts.len() {
+    for j in i..starts.len() {
         if most <= count {
             return count;
         }
         if newline(text, starts, j) {
-            j += 1;
             continue;
         }
         count += 1;
-        j += 1;
     }
     count
 }
@@ -45,23 +42,20 @@ fn put_states(
 {
     let mut m = n;
     let mut left = most;
-    let mut j = i;
-    while j < starts.len() {
+    for j in i..starts.len() {
         if left == 0 {
             return m;
         }
         if newline(text, starts, j) {
-            j += 1;
             continue;
         }
         m = put_named(text, starts, buffer, m, b"state=", j);
         left -= 1;
-        j += 1;
     }
     m
 }
 
-// Puts the line of a label, by the number that work memory holds for it.
+// Puts the line of a label, by the number that work memory holds for it: 0 where there is none.
 pub fn put_label(text: &[u8], starts: &[u32], buffer: &mut [u8], n: usize, slot: usize) -> usize
     ensures { Puts buffer.old n (line "label=" (escaped (slot_label text.now starts.now slot))) buffer.new result }
 {
@@ -71,7 +65,7 @@ pub fn put_label(text: &[u8], starts: &[u32], buffer: &mut [u8], n: usize, slot:
     put_named(text, starts, buffer, n, b"label=", slot - 1)
 }
 
-// Puts the count of state labels and a line for each, by the number that work memory holds for them.
+// Puts the count of state labels and a line for each, by the number that work memory holds for them: 0 where there are none.
 pub fn put_state_labels(
     text: &[u8],
     starts: &[u32],

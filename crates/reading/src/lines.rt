@@ -1,17 +1,15 @@
 // The cells of a row, put from its words: those of a line, and those of a row that ends when it is full.
 
-ghost use Rattle.std.specs.Prelude.{ℕ, ◌≤◌, ◌<◌, length, take, false, List, [], ◌∷◌, ◌≡◌};
-ghost use Rattle.block.specs.Chunk.{closer, plain, set_cell};
+ghost use Rattle.std.specs.Prelude.{ℕ, ◌≤◌, ◌<◌, false, List, [], ◌≡◌};
+ghost use Rattle.block.specs.Chunk.{closer, plain};
 ghost use Rattle.block.specs.Commands.{words};
 ghost use Rattle.block.specs.Interleaved.{to_newline};
 ghost use Rattle.lexer.specs.Stored.{range, word_of};
 ghost use Rattle.lexer.specs.Words.{punct};
 ghost use Rattle.matrix.specs.Taken.{line_taken, row_taken};
-ghost use Rattle.reading.specs.CodedCells.{RowPut, members};
 ghost use Rattle.reading.specs.Pieces.{spell_on};
 ghost use Rattle.reading.specs.RowLines.{CodedPuts};
 ghost use Rattle.reading.specs.RowWalk.{AheadPut, StepPut, WordPut, begun, full};
-ghost use Rattle.reading.specs.declared.lines.Open.{Open};
 
 use super::cells::{Putting, put_told, put_word};
 use super::sets::{clear, mark_word, put_set_cell, put_whole_set};
@@ -19,26 +17,12 @@ use block::{Bracket, newline, punct};
 use lexer::start_of;
 use matrix::sets::set_closes;
 
-// The set that is open in a row: none, or one of a kind.
-#[derive(Clone, Copy)]
-pub enum Open {
-    None,
-    Set(Bracket),
-}
-
 // A row that is put word by word: its cells so far, the set that is open, and an index above all states of that set.
 #[derive(Clone, Copy)]
 pub struct Walk {
     pub row: Putting,
-    pub opened: Open,
+    pub opened: Option<Bracket>,
     pub top: usize,
-}
-
-// A row behind one word or several, and the index of the next.
-#[derive(Clone, Copy)]
-pub struct Step {
-    pub walk: Walk,
-    pub next: usize,
 }
 
 // A row before its first word: so many cells are lacking, and no set is open.
@@ -51,7 +35,7 @@ fn begin_row(n: usize, started: bool, left: usize) -> Walk
             started,
             left,
         },
-        opened: Open::None,
+        opened: None,
         top: 0,
     }
 }
@@ -61,8 +45,8 @@ fn closes(text: &[u8], starts: &[u32], i: usize, kind: Bracket) -> bool
     ensures { result ≡ punct (closer kind) (word_of text.now starts.now i) }
 {
     match kind {
-        Bracket::Brace => punct(text, starts, i, 125),
-        Bracket::Parenthesis => punct(text, starts, i, 41),
+        Bracket::Brace => punct(text, starts, i, b'}'),
+        Bracket::Parenthesis => punct(text, starts, i, b')'),
     }
 }
 
@@ -76,37 +60,26 @@ fn put_plain(
     codes: &[u8; 256],
 ) -> Walk
     requires { walk.top ≤ 96 }
-    ensures { walk.opened ≡ Open.None → (set : List ℕ) → WordPut codes.now (word_of text.now starts.now i) buffer.old set walk buffer.new set result }
+    ensures { walk.opened ≡ None → (set : List ℕ) → WordPut codes.now (word_of text.now starts.now i) buffer.old set walk buffer.new set result }
 {
-    let row = walk.row;
-    if punct(text, starts, i, 123) {
+    if punct(text, starts, i, b'{') {
         return Walk {
-            row,
-            opened: Open::Set(Bracket::Brace),
-            top: walk.top,
+            opened: Some(Bracket::Brace),
+            ..walk
         };
     }
-    if punct(text, starts, i, 40) {
+    if punct(text, starts, i, b'(') {
         return Walk {
-            row,
-            opened: Open::Set(Bracket::Parenthesis),
-            top: walk.top,
+            opened: Some(Bracket::Parenthesis),
+            ..walk
         };
     }
-    let next = put_word(text, starts, buffer, i, row, codes);
+    let row = put_word(text, starts, buffer, i, walk.row, codes);
     Walk {
-        row: next,
-        opened: Open::None,
-        top: walk.top,
+        row,
+        opened: None,
+        ..walk
     }
-}
-
-// Puts a set behind the cells of a row, its states by the marks up to an end.
-fn put_marks(buffer: &mut [u8], row: Putting, kind: Bracket, set: &[u8], top: usize) -> Putting
-    requires { top ≤ length set.now }
-    ensures { RowPut buffer.old row (set_cell kind (members 0 (take top set.now)) ∷ []) buffer.new result }
-{
-    put_set_cell(buffer, row, kind, &set[..top])
 }
 
 // Puts a word where a set is open: the set ends and is put, or the word's states are put into it.
@@ -121,28 +94,27 @@ fn put_within(
     codes: &[u8; 256],
 ) -> Walk
     requires { walk.top ≤ 96 }
-    ensures { walk.opened ≡ Open.Set kind → WordPut codes.now (word_of text.now starts.now i) buffer.old set.old walk buffer.new set.new result }
+    ensures { walk.opened ≡ Some kind → WordPut codes.now (word_of text.now starts.now i) buffer.old set.old walk buffer.new set.new result }
 {
-    let row = walk.row;
     let top = walk.top;
     if closes(text, starts, i, kind) {
-        let next = put_marks(buffer, row, kind, set, top);
+        let row = put_set_cell(buffer, walk.row, kind, &set[..top]);
         clear(set, top);
         return Walk {
-            row: next,
-            opened: Open::None,
+            row,
+            opened: None,
             top: 0,
         };
     }
-    let end = mark_word(text, starts, set, i, top, codes);
+    let top = mark_word(text, starts, set, i, top, codes);
     Walk {
-        row,
-        opened: Open::Set(kind),
-        top: end,
+        opened: Some(kind),
+        top,
+        ..walk
     }
 }
 
-// Puts a word where no set is open, or a whole set at once, where it is told by its bytes.
+// Puts a word where no set is open, or a whole set at once, where it is told by its bytes. Answers the index of the next word besides.
 fn put_next(
     text: &[u8],
     starts: &[u32],
@@ -151,30 +123,25 @@ fn put_next(
     to: usize,
     walk: Walk,
     codes: &[u8; 256],
-) -> Step
+) -> (Walk, usize)
     requires { (walk.top ≤ 96) × (i < to) }
-    ensures { walk.opened ≡ Open.None → (set : List ℕ) → StepPut codes.now text.now starts.now to i buffer.old set walk buffer.new set result.walk result.next }
+    ensures { walk.opened ≡ None → (set : List ℕ) → StepPut codes.now text.now starts.now to i buffer.old set walk buffer.new set result.0 result.1 }
 {
+    // `set_closes` answers 0 where there is no whole set.
     let end = set_closes(text, starts, i, to, codes);
     if end == 0 {
-        let next = put_plain(text, starts, buffer, i, walk, codes);
-        return Step {
-            walk: next,
-            next: i + 1,
-        };
+        return (put_plain(text, starts, buffer, i, walk, codes), i + 1);
     }
     let row = put_whole_set(text, start_of(starts, i), end, buffer, walk.row, codes);
-    Step {
-        walk: Walk {
-            row,
-            opened: Open::None,
-            top: walk.top,
-        },
-        next: i + 3,
-    }
+    let next = Walk {
+        row,
+        opened: None,
+        ..walk
+    };
+    (next, i + 3)
 }
 
-// Puts one word more of a row, or the words of a whole set.
+// Puts one word more of a row, or the words of a whole set. Answers the index of the next word besides.
 fn put_step(
     text: &[u8],
     starts: &[u32],
@@ -184,24 +151,20 @@ fn put_step(
     to: usize,
     walk: Walk,
     codes: &[u8; 256],
-) -> Step
+) -> (Walk, usize)
     requires { (walk.top ≤ 96) × (i < to) }
-    ensures { StepPut codes.now text.now starts.now to i buffer.old set.old walk buffer.new set.new result.walk result.next }
+    ensures { StepPut codes.now text.now starts.now to i buffer.old set.old walk buffer.new set.new result.0 result.1 }
 {
-    let opened = walk.opened;
-    match opened {
-        Open::None => put_next(text, starts, buffer, i, to, walk, codes),
-        Open::Set(kind) => {
-            let next = put_within(text, starts, buffer, set, i, walk, kind, codes);
-            Step {
-                walk: next,
-                next: i + 1,
-            }
-        }
+    match walk.opened {
+        None => put_next(text, starts, buffer, i, to, walk, codes),
+        Some(kind) => (
+            put_within(text, starts, buffer, set, i, walk, kind, codes),
+            i + 1,
+        ),
     }
 }
 
-// Puts more words and whole sets, as long as they are told by their bytes at once and the row is not full.
+// Puts more words and whole sets, as long as they are told by their bytes at once and the row is not full. Answers the index of the next word besides.
 fn put_ahead(
     text: &[u8],
     starts: &[u32],
@@ -210,36 +173,26 @@ fn put_ahead(
     to: usize,
     walk: Walk,
     codes: &[u8; 256],
-) -> Step
-    ensures { AheadPut codes.now text.now starts.now to i buffer.old walk buffer.new result.walk result.next }
+) -> (Walk, usize)
+    ensures { AheadPut codes.now text.now starts.now to i buffer.old walk buffer.new result.0 result.1 }
 {
-    let opened = walk.opened;
-    match opened {
-        Open::None => {
-            let ran = put_told(text, starts, i, to, buffer, walk.row, codes);
-            let row = ran.row;
-            Step {
-                walk: Walk {
-                    row,
-                    opened: Open::None,
-                    top: walk.top,
-                },
-                next: ran.next,
-            }
-        }
-        Open::Set(_) => Step { walk, next: i },
+    if walk.opened.is_some() {
+        return (walk, i);
     }
+    let (row, j) = put_told(text, starts, i, to, buffer, walk.row, codes);
+    let next = Walk {
+        row,
+        opened: None,
+        ..walk
+    };
+    (next, j)
 }
 
 // Is a row full, with no set open?
 fn is_full(walk: Walk) -> bool
     ensures { result ≡ full walk }
 {
-    let opened = walk.opened;
-    match opened {
-        Open::None => walk.row.left == 0,
-        Open::Set(_) => false,
-    }
+    walk.opened.is_none() && walk.row.left == 0
 }
 
 // Puts the cells of a line, from the word of an index up to the next newline, behind cells of its row or not.
@@ -262,9 +215,7 @@ pub fn put_line(
         if newline(text, starts, i) {
             return walk.row.at;
         }
-        let step = put_step(text, starts, buffer, &mut set, i, to, walk, codes);
-        walk = step.walk;
-        i = step.next;
+        (walk, i) = put_step(text, starts, buffer, &mut set, i, to, walk, codes);
     }
     walk.row.at
 }
@@ -285,20 +236,17 @@ pub fn put_sequence(
     let mut set = [0u8; 96];
     let mut walk = begin_row(n, false, characters);
     let mut i = from;
+    // A turn passes as many words as a call says.
     while i < to {
         if newline(text, starts, i) {
             i += 1;
             continue;
         }
-        let step = put_step(text, starts, buffer, &mut set, i, to, walk, codes);
-        walk = step.walk;
-        i = step.next;
+        (walk, i) = put_step(text, starts, buffer, &mut set, i, to, walk, codes);
         if is_full(walk) {
             return walk.row.at;
         }
-        let ahead = put_ahead(text, starts, buffer, i, to, walk, codes);
-        walk = ahead.walk;
-        i = ahead.next;
+        (walk, i) = put_ahead(text, starts, buffer, i, to, walk, codes);
     }
     walk.row.at
 }

@@ -11,22 +11,18 @@ ghost use Rattle.record.specs.Decimal.{decimal};
 ghost use Rattle.record.specs.Spell.{escape, escaped};
 
 use emit::{further, put, put_all, put_decimal};
-use lexer::{Cursor, Item, next_byte, start_of, text_start, word_stop};
+use lexer::{Cursor, next_byte, start_of, text_start, word_stop};
 
 // Puts a byte of a name: `_` is a blank, LF is `\0`, a backslash `\1`.
 fn put_escaped(buffer: &mut [u8], n: usize, b: u8) -> usize
     ensures { Puts buffer.old n (λ behind. escape (pick (eqb b 95) 32 b) ++ behind) buffer.new result }
 {
-    if b == b'_' {
-        return put(buffer, n, b' ');
+    match b {
+        b'_' => put(buffer, n, b' '),
+        b'\n' => put_all(buffer, n, b"\\0"),
+        b'\\' => put_all(buffer, n, b"\\1"),
+        _ => put(buffer, n, b),
     }
-    if b == b'\n' {
-        return put_all(buffer, n, b"\\0");
-    }
-    if b == b'\\' {
-        return put_all(buffer, n, b"\\1");
-    }
-    put(buffer, n, b)
 }
 
 // Puts what is left of a name's text, escaped.
@@ -35,17 +31,11 @@ fn put_text(text: &[u8], c: Cursor, buffer: &mut [u8], n: usize) -> usize
 {
     let mut d = c;
     let mut m = n;
-    loop {
-        match next_byte(text, d) {
-            Item::Byte(b, e) => {
-                m = put_escaped(buffer, m, b);
-                d = e;
-            }
-            Item::End => {
-                return m;
-            }
-        }
+    while let Some((b, e)) = next_byte(text, d) {
+        m = put_escaped(buffer, m, b);
+        d = e;
     }
+    m
 }
 
 // Puts the bytes of a text from a place up to an end as those of a name, escaped.
@@ -54,10 +44,8 @@ fn put_bytes(text: &[u8], from: usize, end: usize, buffer: &mut [u8], n: usize) 
     ensures { Puts buffer.old n (λ behind. escaped (spaced (part text.now from end)) ++ behind) buffer.new result }
 {
     let mut m = n;
-    let mut i = from;
-    while i < end {
+    for i in from..end {
         m = put_escaped(buffer, m, text[i]);
-        i += 1;
     }
     m
 }

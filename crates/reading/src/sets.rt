@@ -12,17 +12,17 @@ ghost use Rattle.matrix.specs.WholeSets.{SetBytes, bracket_of};
 ghost use Rattle.reading.specs.CodedCells.{Cleared, Digits, RowPut, cells_coded, codes_of, decoded, dotted_on, letter_of, marked, marked_digits, marks, members, topped, word_coded};
 ghost use Rattle.record.specs.Spell.{spell_cell};
 
-use super::cells::{Putting, fewer, has_cells, put_blank};
+use super::cells::{Putting, has_cells, put_blank, row_behind};
 use block::Bracket;
 use emit::{put, put_decimal};
-use lexer::{Item, entry_of, next_byte, start_of, text_start};
+use lexer::{entry_of, next_byte, start_of, text_start};
 
 // Puts a state of a set, with a dot before it if others were put.
 fn put_member(buffer: &mut [u8], n: usize, i: usize, begun: bool) -> usize
     ensures { Puts buffer.old n (dotted_on begun (i ∷ [])) buffer.new result }
 {
     if begun {
-        let at = put(buffer, n, 46);
+        let at = put(buffer, n, b'.');
         return put_decimal(buffer, at, i as u64);
     }
     put_decimal(buffer, n, i as u64)
@@ -34,14 +34,12 @@ fn put_members(buffer: &mut [u8], n: usize, set: &[u8]) -> usize
 {
     let mut at = n;
     let mut begun = false;
-    let mut i = 0;
-    while i < set.len() {
-        let k = i;
-        i += 1;
-        if set[k] != 0 {
-            at = put_member(buffer, at, k, begun);
-            begun = true;
+    for (i, &mark) in set.iter().enumerate() {
+        if mark == 0 {
+            continue;
         }
+        at = put_member(buffer, at, i, begun);
+        begun = true;
     }
     at
 }
@@ -52,11 +50,11 @@ fn put_set(buffer: &mut [u8], n: usize, kind: Bracket, set: &[u8]) -> usize
 {
     match kind {
         Bracket::Brace => {
-            let braced = put(buffer, n, 117);
+            let braced = put(buffer, n, b'u');
             put_members(buffer, braced, set)
         }
         Bracket::Parenthesis => {
-            let at = put(buffer, n, 112);
+            let at = put(buffer, n, b'p');
             put_members(buffer, at, set)
         }
     }
@@ -76,21 +74,14 @@ pub fn put_set_cell(buffer: &mut [u8], row: Putting, kind: Bracket, set: &[u8]) 
 {
     let at = put_blank(buffer, row.at, row.started);
     let next = put_set(buffer, at, kind, set);
-    Putting {
-        at: next,
-        started: true,
-        left: fewer(row.left),
-    }
+    row_behind(row, next, 1)
 }
 
 // The letter of a set by its opening mark.
 fn set_letter(b: u8) -> u8
     ensures { result ≡ letter_of b }
 {
-    if b == 123 {
-        return 117;
-    }
-    112
+    if b == b'{' { b'u' } else { b'p' }
 }
 
 // Puts states below 10, from a place of a text up to an end, each behind a mark: the first behind this one, the others behind a dot.
@@ -108,13 +99,11 @@ fn put_digits(
 {
     let mut at = n;
     let mut mark = letter;
-    let mut i = from;
-    while i < end {
+    for i in from..end {
         let code = entry_of(codes, text[i]);
         let behind = put(buffer, at, mark);
-        at = put(buffer, behind, 48 + code);
-        mark = 46;
-        i += 1;
+        at = put(buffer, behind, b'0' + code);
+        mark = b'.';
     }
     at
 }
@@ -134,11 +123,7 @@ pub fn put_whole_set(
     let at = put_blank(buffer, row.at, row.started);
     let letter = set_letter(text[start]);
     let next = put_digits(text, start + 1, end, buffer, at, letter, codes);
-    Putting {
-        at: next,
-        started: true,
-        left: fewer(row.left),
-    }
+    row_behind(row, next, 1)
 }
 
 // Marks the state of a code in a set, if it is the code of a state, and answers an index above all that are marked.
@@ -151,10 +136,7 @@ fn mark_state(set: &mut [u8; 96], top: usize, code: u8) -> usize
     }
     let i = code as usize;
     set[i] = 1;
-    if i < top {
-        return top;
-    }
-    i + 1
+    top.max(i + 1)
 }
 
 // Puts the states of a token's text into a set.
@@ -170,17 +152,11 @@ fn mark_states(
 {
     let mut top = from;
     let mut c = text_start(text, start);
-    loop {
-        match next_byte(text, c) {
-            Item::Byte(b, d) => {
-                top = mark_state(set, top, entry_of(codes, b));
-                c = d;
-            }
-            Item::End => {
-                return top;
-            }
-        }
+    while let Some((b, d)) = next_byte(text, c) {
+        top = mark_state(set, top, entry_of(codes, b));
+        c = d;
     }
+    top
 }
 
 // Takes the states out of a set whose marks are looked at up to an end.
@@ -188,11 +164,7 @@ pub fn clear(set: &mut [u8; 96], top: usize)
     requires { top ≤ 96 }
     ensures { Cleared set.old top set.new }
 {
-    let mut i = 0;
-    while i < top {
-        set[i] = 0;
-        i += 1;
-    }
+    set[..top].fill(0);
 }
 
 // Puts the states of a word into a set.

@@ -7,7 +7,7 @@ ghost use Rattle.reading.specs.RowLines.{taxa_count};
 
 use super::spelling::put_record;
 use super::taxa::row_count;
-use commands::{Held, Names};
+use commands::Held;
 use emit::further;
 use parser::reading::format_of;
 
@@ -26,20 +26,7 @@ fn widest(states: usize) -> usize
 fn bare(held: Held) -> Held
     ensures { result ≡ bare held }
 {
-    let names = held.names;
-    let style = held.style;
-    let default = held.default;
-    Held {
-        names,
-        style,
-        head: held.head,
-        to: 0,
-        lines: held.lines,
-        taxa: held.taxa,
-        characters: held.characters,
-        default,
-        typed: held.typed,
-    }
+    Held { to: 0, ..held }
 }
 
 // How many taxa a matrix that is held has at most.
@@ -47,10 +34,9 @@ fn most_taxa(held: Held, interleave: bool) -> usize
     requires { (held.lines ≤ 1048576) × (held.taxa ≤ 1048576) }
     ensures { ((text front : List ℕ) → taxa_count text front held interleave ≤ result) × (result ≤ 1048576) }
 {
-    let names = held.names;
-    match names {
-        Names::None => row_count(interleave, held.lines, held.taxa),
-        Names::Words(_, _) => held.taxa,
+    match held.names {
+        None => row_count(interleave, held.lines, held.taxa),
+        Some(_) => held.taxa,
     }
 }
 
@@ -60,8 +46,7 @@ pub fn longest_record(text: &[u8], work: &[u32], count: usize, held: Held) -> us
     requires { map_fits (length work.now) count held.lines held.taxa held.characters ≡ true }
     ensures { Longest text.now work.now count held result }
 {
-    let style = held.style;
-    let format = format_of(text, &work[..count], style);
+    let format = format_of(text, &work[..count], held.style);
     let cells = most_taxa(held, format.interleave) * held.characters;
     let mut scratch = [0u8; 1];
     let size = put_record(text, work, count, bare(held), &mut scratch, 0);

@@ -9,7 +9,7 @@ ghost use Rattle.std.specs.Prelude.{length, true, ◌++◌, ◌≡◌};
 
 use super::characters::put_characters;
 use super::names::put_number;
-use super::taxa::{count_taxa, put_taxa};
+use super::taxa::{Matrix, count_taxa, put_taxa};
 use block::{CharacterNumber, DataType, Format, TaxonNumber, codes};
 use commands::Held;
 use emit::{put, put_all};
@@ -29,9 +29,7 @@ fn put_type(buffer: &mut [u8], n: usize, data_type: DataType) -> usize
 fn put_symbols(buffer: &mut [u8], n: usize, format: Format) -> usize
     ensures { Puts buffer.old n (λ behind. (meant format).symbols ++ behind) buffer.new result }
 {
-    let symbols = format.symbols;
-    let count = format.states();
-    put_all(buffer, n, &symbols[..count])
+    put_all(buffer, n, &format.symbols[..format.states()])
 }
 
 // Puts the first four lines.
@@ -44,8 +42,7 @@ fn put_head(
 ) -> usize
     ensures { Puts buffer.old n (head_piece (meant format) taxa.0 characters.0) buffer.new result }
 {
-    let data_type = format.data_type;
-    let m = put_type(buffer, n, data_type);
+    let m = put_type(buffer, n, format.data_type);
     let m = put_number(buffer, m, b"taxa=", taxa.0);
     let m = put_number(buffer, m, b"characters=", characters.0);
     let m = put_all(buffer, m, b"symbols=");
@@ -65,12 +62,16 @@ pub fn put_record(
     requires { map_fits (length work.now) count held.lines held.taxa held.characters ≡ true }
     ensures { RecordPut text.now work.now count held buffer.old n buffer.new result }
 {
-    let style = held.style;
-    let format = format_of(text, &work[..count], style);
+    let format = format_of(text, &work[..count], held.style);
     let table = codes(format);
     let interleave = format.interleave;
     let taxa = TaxonNumber(count_taxa(text, &work[..count], held, interleave));
     let m = put_head(buffer, n, format, taxa, CharacterNumber(held.characters));
-    let m = put_taxa(text, work, count, held, interleave, &table, buffer, m);
+    let matrix = Matrix {
+        count,
+        held,
+        interleave,
+    };
+    let m = put_taxa(text, work, matrix, &table, buffer, m);
     put_characters(text, work, count, held, buffer, m)
 }

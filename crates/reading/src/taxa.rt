@@ -4,7 +4,6 @@ ghost use Rattle.std.specs.Prelude.{◌+◌, ◌≤◌, length, take, false, tru
 ghost use Rattle.block.specs.NamesHeld.{name_of};
 ghost use Rattle.commands.specs.MatrixHeld.{order_held, rows_of, untyped_held};
 ghost use Rattle.commands.specs.WorkMap.{map_fits, order_place};
-ghost use Rattle.commands.specs.declared.state.Names.{Names};
 ghost use Rattle.lexer.specs.Stored.{word_of};
 ghost use Rattle.matrix.specs.OrderHeld.{cells_at};
 ghost use Rattle.reading.specs.Pieces.{spell_on};
@@ -13,11 +12,19 @@ ghost use Rattle.record.specs.Spell.{spell_taxa};
 
 use super::lines::{put_line, put_sequence};
 use super::names::put_named;
-use assumptions::assumptions::next_word;
+use assumptions::assumptions::word_ahead;
 use block::count_words;
-use commands::{Held, Names, order_place};
+use commands::{Held, order_place};
 use emit::{put, put_all};
 use lexer::start_of;
+
+// A matrix that is held behind so many tokens, and whether its rows come in pages.
+#[derive(Clone, Copy)]
+pub struct Matrix {
+    pub count: usize,
+    pub held: Held,
+    pub interleave: bool,
+}
 
 // How many rows so many lines make, with so many lines to a page.
 pub fn row_count(interleave: bool, lines: usize, taxa: usize) -> usize
@@ -53,24 +60,28 @@ fn first_line(interleave: bool, lines: usize, taxa: usize, row: usize) -> usize
 fn put_pages(
     text: &[u8],
     work: &[u32],
-    count: usize,
-    lines: usize,
-    taxa: usize,
-    to: usize,
+    matrix: Matrix,
     first: usize,
     codes: &[u8; 256],
     buffer: &mut [u8],
     n: usize,
 ) -> usize
-    requires { (1 ≤ taxa) × (taxa ≤ 1048576) × (lines ≤ 1048576) × (first ≤ 2097152) × (count + lines ≤ length work.now) }
-    ensures { PagesPut text.now work.now codes.now count lines taxa to first buffer.old n buffer.new result }
+    requires { (1 ≤ matrix.held.taxa) × (matrix.held.taxa ≤ 1048576) × (matrix.held.lines ≤ 1048576) × (first ≤ 2097152) × (matrix.count + matrix.held.lines ≤ length work.now) }
+    ensures { PagesPut text.now work.now codes.now matrix.count matrix.held.lines matrix.held.taxa matrix.held.to first buffer.old n buffer.new result }
 {
     let mut m = n;
-    let mut at = first;
-    while at < lines {
-        let from = start_of(work, count + at) + 1;
-        m = put_line(text, &work[..count], from, to, codes, buffer, m, m != n);
-        at += taxa;
+    for at in (first..matrix.held.lines).step_by(matrix.held.taxa) {
+        let from = start_of(work, matrix.count + at) + 1;
+        m = put_line(
+            text,
+            &work[..matrix.count],
+            from,
+            matrix.held.to,
+            codes,
+            buffer,
+            m,
+            m != n,
+        );
     }
     m
 }
@@ -79,34 +90,29 @@ fn put_pages(
 fn put_row(
     text: &[u8],
     work: &[u32],
-    count: usize,
-    held: Held,
-    interleave: bool,
+    matrix: Matrix,
     codes: &[u8; 256],
     buffer: &mut [u8],
     n: usize,
     row: usize,
 ) -> usize
-    requires { map_fits (length work.now) count held.lines held.taxa held.characters ≡ true }
-    ensures { ToldPuts text.now work.now codes.now count held interleave buffer.old n (spell_on false (cells_at (rows_of text.now work.now count held) row)) buffer.new result }
+    requires { map_fits (length work.now) matrix.count matrix.held.lines matrix.held.taxa matrix.held.characters ≡ true }
+    ensures { ToldPuts text.now work.now codes.now matrix.count matrix.held matrix.interleave buffer.old n (spell_on false (cells_at (rows_of text.now work.now matrix.count matrix.held) row)) buffer.new result }
 {
-    if row_count(interleave, held.lines, held.taxa) <= row {
+    if row_count(matrix.interleave, matrix.held.lines, matrix.held.taxa) <= row {
         return n;
     }
-    let to = held.to;
-    let first = first_line(interleave, held.lines, held.taxa, row);
-    if interleave {
-        return put_pages(
-            text, work, count, held.lines, held.taxa, to, first, codes, buffer, n,
-        );
+    let first = first_line(matrix.interleave, matrix.held.lines, matrix.held.taxa, row);
+    if matrix.interleave {
+        return put_pages(text, work, matrix, first, codes, buffer, n);
     }
-    let from = start_of(work, count + first) + 1;
+    let from = start_of(work, matrix.count + first) + 1;
     put_sequence(
         text,
-        &work[..count],
+        &work[..matrix.count],
         from,
-        to,
-        held.characters,
+        matrix.held.to,
+        matrix.held.characters,
         codes,
         buffer,
         n,
@@ -117,21 +123,19 @@ fn put_row(
 fn put_taxon(
     text: &[u8],
     work: &[u32],
-    count: usize,
-    held: Held,
-    interleave: bool,
+    matrix: Matrix,
     codes: &[u8; 256],
     buffer: &mut [u8],
     n: usize,
     i: usize,
     row: usize,
 ) -> usize
-    requires { map_fits (length work.now) count held.lines held.taxa held.characters ≡ true }
-    ensures { ToldPuts text.now work.now codes.now count held interleave buffer.old n (spell_taxa (record { name = name_of (word_of text.now (take count work.now) i); cells = cells_at (rows_of text.now work.now count held) row } ∷ [])) buffer.new result }
+    requires { map_fits (length work.now) matrix.count matrix.held.lines matrix.held.taxa matrix.held.characters ≡ true }
+    ensures { ToldPuts text.now work.now codes.now matrix.count matrix.held matrix.interleave buffer.old n (spell_taxa (record { name = name_of (word_of text.now (take matrix.count work.now) i); cells = cells_at (rows_of text.now work.now matrix.count matrix.held) row } ∷ [])) buffer.new result }
 {
-    let m = put_named(text, &work[..count], buffer, n, b"name=", i);
+    let m = put_named(text, &work[..matrix.count], buffer, n, b"name=", i);
     let m = put_all(buffer, m, b"cells=");
-    let m = put_row(text, work, count, held, interleave, codes, buffer, m, row);
+    let m = put_row(text, work, matrix, codes, buffer, m, row);
     put(buffer, m, b'\n')
 }
 
@@ -139,26 +143,20 @@ fn put_taxon(
 fn put_rows(
     text: &[u8],
     work: &[u32],
-    count: usize,
-    held: Held,
-    interleave: bool,
+    matrix: Matrix,
     codes: &[u8; 256],
     buffer: &mut [u8],
     n: usize,
 ) -> usize
-    requires { map_fits (length work.now) count held.lines held.taxa held.characters ≡ true }
-    ensures { ToldPuts text.now work.now codes.now count held interleave buffer.old n (spell_taxa (rows_of text.now work.now count held)) buffer.new result }
+    requires { map_fits (length work.now) matrix.count matrix.held.lines matrix.held.taxa matrix.held.characters ≡ true }
+    ensures { ToldPuts text.now work.now codes.now matrix.count matrix.held matrix.interleave buffer.old n (spell_taxa (rows_of text.now work.now matrix.count matrix.held)) buffer.new result }
 {
-    let rows = row_count(interleave, held.lines, held.taxa);
+    let rows = row_count(matrix.interleave, matrix.held.lines, matrix.held.taxa);
     let mut m = n;
-    let mut row = 0;
-    while row < rows {
-        let first = first_line(interleave, held.lines, held.taxa, row);
-        let i = start_of(work, count + first);
-        m = put_taxon(
-            text, work, count, held, interleave, codes, buffer, m, i, row,
-        );
-        row += 1;
+    for row in 0..rows {
+        let first = first_line(matrix.interleave, matrix.held.lines, matrix.held.taxa, row);
+        let i = start_of(work, matrix.count + first);
+        m = put_taxon(text, work, matrix, codes, buffer, m, i, row);
     }
     m
 }
@@ -167,33 +165,26 @@ fn put_rows(
 fn put_declared(
     text: &[u8],
     work: &[u32],
-    count: usize,
-    held: Held,
-    interleave: bool,
+    matrix: Matrix,
     codes: &[u8; 256],
     from: usize,
     to: usize,
     buffer: &mut [u8],
     n: usize,
 ) -> usize
-    requires { map_fits (length work.now) count held.lines held.taxa held.characters ≡ true }
-    ensures { ToldPuts text.now work.now codes.now count held interleave buffer.old n (spell_taxa (order_held text.now (take count work.now) work.now (order_place count held.lines held.taxa) held.taxa (Names.Words from to) (rows_of text.now work.now count held))) buffer.new result }
+    requires { map_fits (length work.now) matrix.count matrix.held.lines matrix.held.taxa matrix.held.characters ≡ true }
+    ensures { ToldPuts text.now work.now codes.now matrix.count matrix.held matrix.interleave buffer.old n (spell_taxa (order_held text.now (take matrix.count work.now) work.now (order_place matrix.count matrix.held.lines matrix.held.taxa) matrix.held.taxa (Some (from, to)) (rows_of text.now work.now matrix.count matrix.held))) buffer.new result }
 {
-    let order = order_place(count, held.lines, held.taxa);
+    let order = order_place(matrix.count, matrix.held.lines, matrix.held.taxa);
     let mut m = n;
     let mut i = from;
-    let mut k = 0;
-    while k < held.taxa {
-        let word = next_word(text, &work[..count], i, to);
-        if to <= word {
+    for k in 0..matrix.held.taxa {
+        let Some(word) = word_ahead(text, &work[..matrix.count], i, to) else {
             return m;
-        }
+        };
         let row = start_of(work, order + k);
-        m = put_taxon(
-            text, work, count, held, interleave, codes, buffer, m, word, row,
-        );
+        m = put_taxon(text, work, matrix, codes, buffer, m, word, row);
         i = word + 1;
-        k += 1;
     }
     m
 }
@@ -202,17 +193,9 @@ fn put_declared(
 pub fn count_taxa(text: &[u8], starts: &[u32], held: Held, interleave: bool) -> usize
     ensures { result ≡ taxa_count text.now starts.now held interleave }
 {
-    let names = held.names;
-    match names {
-        Names::None => row_count(interleave, held.lines, held.taxa),
-        Names::Words(from, to) => {
-            let count = count_words(text, starts, from, to);
-            let taxa = held.taxa;
-            if taxa < count {
-                return taxa;
-            }
-            count
-        }
+    match held.names {
+        None => row_count(interleave, held.lines, held.taxa),
+        Some((from, to)) => count_words(text, starts, from, to).min(held.taxa),
     }
 }
 
@@ -220,21 +203,16 @@ pub fn count_taxa(text: &[u8], starts: &[u32], held: Held, interleave: bool) -> 
 pub fn put_taxa(
     text: &[u8],
     work: &[u32],
-    count: usize,
-    held: Held,
-    interleave: bool,
+    matrix: Matrix,
     codes: &[u8; 256],
     buffer: &mut [u8],
     n: usize,
 ) -> usize
-    requires { map_fits (length work.now) count held.lines held.taxa held.characters ≡ true }
-    ensures { ToldPuts text.now work.now codes.now count held interleave buffer.old n (spell_taxa (untyped_held text.now work.now count held).taxa) buffer.new result }
+    requires { map_fits (length work.now) matrix.count matrix.held.lines matrix.held.taxa matrix.held.characters ≡ true }
+    ensures { ToldPuts text.now work.now codes.now matrix.count matrix.held matrix.interleave buffer.old n (spell_taxa (untyped_held text.now work.now matrix.count matrix.held).taxa) buffer.new result }
 {
-    let names = held.names;
-    match names {
-        Names::None => put_rows(text, work, count, held, interleave, codes, buffer, n),
-        Names::Words(from, to) => put_declared(
-            text, work, count, held, interleave, codes, from, to, buffer, n,
-        ),
+    match matrix.held.names {
+        None => put_rows(text, work, matrix, codes, buffer, n),
+        Some((from, to)) => put_declared(text, work, matrix, codes, from, to, buffer, n),
     }
 }

@@ -1,4 +1,7 @@
 -- What a call answers and leaves, by what it comes to: the result's bytes, if there is room for them, or a refusal. Assumes nothing.
+use Rattle.std.specs.Prelude.{Ok, Err}
+use Rattle.std.specs.Prelude as Std
+use Rattle.lexer.specs.declared.Fault.{Fault}
 use Prim.Native.Nat.{ℕ, ◌≤◌, ◌<◌}
 use Rattle.lexer.proofs.Basics.{by-test}
 use Rattle.lexer.specs.Base.{pick}
@@ -8,7 +11,7 @@ use Rattle.lexer.specs.declared.Place.{Place}
 use Rattle.lexer.specs.declared.refusal.Refusal.{Refusal}
 use Rattle.record.specs.Calls.{Result, bytes_of, refusal, answer, leaves}
 use Rattle.record.specs.Demands.{Left, Kept}
-use Rattle.record.specs.declared.Answer.{Answer}
+use Rattle.lexer.specs.Refusals.{fault}
 use borrow.Author.Tests.{leb-true, leb-false, le-leb, lt-leb}
 use lib.Dec.{leb}
 use lib.ListN.{length, drop, length-append, length-drop}
@@ -18,25 +21,24 @@ use mathlib.Core.Path.{◌≡◌, refl, sym, ap, ◌∙◌, subst}
 use native.Mathlib.Omega.{arith}
 
 -- Lengths and refusals differ, and a refusal has one number and one place.
-pub length-refused : {n : ℕ} {m : Refusal} {p : Place} → ¬ (Answer.Length n ≡ Answer.Refused m p)
+pub length-refused : {n : ℕ} {m : Refusal} {p : Place} → ¬ (◌≡◌ {A = Std.Result ℕ (Fault Place)} (Ok n) (Err (fault m p)))
 length-refused e = let z : ◌≡◌ {A = ℕ} 0 1 = cc in omega arith
 
-pub same_length : {m n : ℕ} → Answer.Length m ≡ Answer.Length n → m ≡ n
+pub same_length : {m n : ℕ} → ◌≡◌ {A = Std.Result ℕ (Fault Place)} (Ok m) (Ok n) → m ≡ n
 same_length e = cc
 
-pub same-refusal : {m n : Refusal} {p q : Place} → Answer.Refused m p ≡ Answer.Refused n q
+pub same-refusal : {m n : Refusal} {p q : Place} → ◌≡◌ {A = Std.Result ℕ (Fault Place)} (Err (fault m p)) (Err (fault n q))
     → (number m ≡ number n) × (p.line ≡ q.line) × (p.column ≡ q.column)
 same-refusal {m} {n} {p} {q} e =
-    let why : m ≡ n = cc in
-    let at : p ≡ q = cc in
-    (ap number why, ap (λ x. x.line) at, ap (λ x. x.column) at)
+    let same : fault m p ≡ fault n q = cc in
+    (ap (λ (f : Fault Place). number f.0) same, ap (λ (f : Fault Place). f.1.line) same, ap (λ (f : Fault Place). f.1.column) same)
 
 -- Bytes that fit, and bytes that do not
-pub fits : (b : List ℕ) (room : ℕ) → length b ≤ room → answer (bytes_of b) room ≡ Answer.Length (length b)
+pub fits : (b : List ℕ) (room : ℕ) → length b ≤ room → answer (bytes_of b) room ≡ Ok (length b)
 unfolding answer pick
 fits b room h = rw (le-leb (length b) room h)
 
-pub short : (b : List ℕ) (room : ℕ) → room < length b → answer (bytes_of b) room ≡ Answer.Refused Refusal.BufferShort nowhere
+pub short : (b : List ℕ) (room : ℕ) → room < length b → answer (bytes_of b) room ≡ Err (fault Refusal.BufferShort nowhere)
 unfolding answer pick
 short b room h = rw (lt-leb (length b) room h)
 
@@ -46,7 +48,7 @@ left b buffer h =
     rw (le-leb (length b) (length buffer) h)
     record { counted = refl; result = take_at b (drop (length b) buffer) (length b) refl; rest = drop_at b (drop (length b) buffer) (length b) refl }
 
-pub short-told : (b : List ℕ) (room : ℕ) (n : Refusal) (p : Place) → answer (bytes_of b) room ≡ Answer.Refused n p
+pub short-told : (b : List ℕ) (room : ℕ) (n : Refusal) (p : Place) → answer (bytes_of b) room ≡ Err (fault n p)
     → (number n ≡ 30) × (room < length b) × (p.line ≡ 0) × (p.column ≡ 0)
 unfolding nowhere
 short-told b room n p h =
@@ -57,7 +59,7 @@ short-told b room n p h =
     let k = same-refusal (sym (short b room less) ∙ h) in
     (sym k.0, less, sym k.1, sym k.2))
 
-pub fitting : (b : List ℕ) (room n : ℕ) → answer (bytes_of b) room ≡ Answer.Length n → (length b ≡ n) × (n ≤ room)
+pub fitting : (b : List ℕ) (room n : ℕ) → answer (bytes_of b) room ≡ Ok n → (length b ≡ n) × (n ≤ room)
 fitting b room n h =
     by-test (leb (length b) room)
     (λ t.

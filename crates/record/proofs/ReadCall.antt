@@ -1,4 +1,5 @@
 -- What read answers and leaves: 1, 2, the fault of the text, 30, or its record. Assumes nothing.
+use Rattle.std.specs.Prelude.{Ok, Err}
 use Prim.Native.Nat.{ℕ, ◌+◌, ◌*◌, ◌≤◌, ◌<◌}
 use Rattle.block.specs.Parse.{Read, reading, fault, read}
 use Rattle.block.specs.Reading.{Reading}
@@ -7,6 +8,8 @@ use Rattle.lexer.specs.Base.{pick}
 use Rattle.lexer.specs.Lexing.{longest, work_needed}
 use Rattle.lexer.specs.Places.{nowhere}
 use Rattle.lexer.specs.Refusals.{number}
+use Rattle.lexer.specs.Refusals as Refusals
+use Rattle.lexer.specs.declared.Fault.{Fault}
 use Rattle.lexer.specs.Utf8.{utf8}
 use Rattle.lexer.specs.declared.Place.{Place}
 use Rattle.lexer.specs.declared.refusal.Refusal.{Refusal}
@@ -15,7 +18,6 @@ use Rattle.record.proofs.FaultPlaces.{fault-placed, not-utf8}
 use Rattle.record.specs.Calls.{Result, bytes_of, refusal, refuse, answer, recorded, read_result, read_answer, read_leaves}
 use Rattle.record.specs.Demands.{Reads, Left, ReadGives, ReadGivesTheRecord, Taken, ReadRefusesInOrder}
 use Rattle.record.specs.Spell.{spell}
-use Rattle.record.specs.declared.Answer.{Answer}
 use borrow.Author.Tests.{leb-true, leb-false, le-leb, lt-leb}
 use lib.Dec.{leb}
 use lib.ListN.{length, take}
@@ -39,7 +41,7 @@ unfolding read_result longest work_needed pick
 read_taken text work h = rw (le-leb (length text) 1048576 h.0, le-leb (4 * length text + 64) work h.1)
 
 pub read-faulty : (text : List ℕ) (work room : ℕ) (n : Refusal) (p : Place) → Taken text work → read text ≡ fault n p
-    → read_answer text work room ≡ Answer.Refused n p
+    → read_answer text work room ≡ Err (Refusals.fault n p)
 unfolding read_answer recorded answer
 read-faulty text work room n p h e = rw (read_taken text work h, e)
 
@@ -80,7 +82,7 @@ record Says (text : List ℕ) (work room : ℕ) (n : Refusal) (p : Place) : Type
   fault_at : 1 ≤ p.line → Taken text work × (read text ≡ fault n p)
 
 case-says : (text : List ℕ) (work room : ℕ) (n : Refusal) (p : Place) (x : Result) → ReadCase text work x
-    → answer x room ≡ Answer.Refused n p → Says text work room n p
+    → answer x room ≡ Err (Refusals.fault n p) → Says text work room n p
 unfolding answer nowhere
 case-says text work room n p x (too_long h) e =
     let k = same-refusal e in
@@ -93,13 +95,14 @@ case-says text work room n p x (not_utf8 h u) e =
     record { one = λ q l. absurd (omega arith); two = λ q l. absurd (omega arith); three = λ q l. (h, u); thirty = λ q l. absurd (omega arith); fault_at = λ l. absurd (omega arith) }
 case-says text work room n p x (faulty {n = m} {p = q} h f g) e =
     let k = same-refusal e in
-    let same : fault m q ≡ fault n p = cc in
+    let met : Refusals.fault m q ≡ Refusals.fault n p = cc in
+    let same = ap (λ (f : Fault Place). fault f.0 f.1) met in
     record { one = λ o l. absurd (omega arith); two = λ o l. absurd (omega arith); three = λ o l. absurd (omega arith); thirty = λ o l. absurd (omega arith); fault_at = λ l. (h, f ∙ same) }
 case-says text work room n p x (recording {r = r} h f) e =
     let k = short-told (spell r) room n p e in
     record { one = λ q l. absurd (omega arith); two = λ q l. absurd (omega arith); three = λ q l. absurd (omega arith); thirty = λ q l. (h, (r, f, k.1)); fault_at = λ l. absurd (omega arith) }
 
-case-answers : (text : List ℕ) (work room n : ℕ) (x : Result) → ReadCase text work x → answer x room ≡ Answer.Length n
+case-answers : (text : List ℕ) (work room n : ℕ) (x : Result) → ReadCase text work x → answer x room ≡ Ok n
     → (n ≤ room) × Taken text work × ((r : Reading) × Reads text r × (length (spell r) ≡ n))
 unfolding answer
 case-answers text work room n x (too_long h) e = absurd (length-refused (sym e))
@@ -111,7 +114,7 @@ case-answers text work room n x (recording {r = r} h f) e = let k = fitting (spe
 pub read-refuses : ReadRefusesInOrder
 unfolding read_answer recorded answer nowhere
 read-refuses text work room =
-    let says : (n : Refusal) (p : Place) → read_answer text work room ≡ Answer.Refused n p → Says text work room n p =
+    let says : (n : Refusal) (p : Place) → read_answer text work room ≡ Err (Refusals.fault n p) → Says text work room n p =
     λ n p. case-says text work room n p (read_result text work) (read-case text work)
     in
     record {
@@ -121,7 +124,7 @@ read-refuses text work room =
       faulty = λ n p l. (λ h. (says n p h).fault_at l, λ h. read-faulty text work room n p h.0 h.1);
       placed = fault-placed text;
       no_room = (λ h. (says h.0 _ h.2).thirty h.1 refl, λ h. (Refusal.BufferShort, refl, rw (read_taken text work h.0, h.1.1) (short (spell h.1.0) room h.1.2)));
-      answers = λ n. (case-answers text work room n (read_result text work) (read-case text work), λ h. rw (read_taken text work h.1, h.2.1) (fits (spell h.2.0) room (omega arith) ∙ ap Answer.Length h.2.2));
+      answers = λ n. (case-answers text work room n (read_result text work) (read-case text work), λ h. rw (read_taken text work h.1, h.2.1) (fits (spell h.2.0) room (omega arith) ∙ ap Ok h.2.2));
     }
 
 -- The record that a call leaves
@@ -134,14 +137,14 @@ pub read-gives : (text : List ℕ) (r : Reading) → length text ≤ 1048576 →
 read-gives text r h e work buffer w l = read_left text r work buffer (h, w) e l
 
 -- What a call left is the record of a reading.
-read-record : (text : List ℕ) (work : ℕ) (buffer : List ℕ) (n : ℕ) → read_answer text work (length buffer) ≡ Answer.Length n
+read-record : (text : List ℕ) (work : ℕ) (buffer : List ℕ) (n : ℕ) → read_answer text work (length buffer) ≡ Ok n
     → (length text ≤ 1048576) × ((r : Reading) × Reads text r × (spell r ≡ take n (read_leaves text work buffer)))
 read-record text work buffer n h =
     let k = ((read-refuses text work (length buffer)).answers n).0 h in
     let l = read_left text k.2.0 work buffer k.1 k.2.1 (omega arith) in
     (k.1.0, (k.2.0, k.2.1, sym l.result ∙ ap (λ m. take m (read_leaves text work buffer)) k.2.2))
 
-pub read-left-given : (text : List ℕ) (work : ℕ) (buffer : List ℕ) (n : ℕ) → read_answer text work (length buffer) ≡ Answer.Length n
+pub read-left-given : (text : List ℕ) (work : ℕ) (buffer : List ℕ) (n : ℕ) → read_answer text work (length buffer) ≡ Ok n
     → ReadGives text (take n (read_leaves text work buffer))
 read-left-given text work buffer n h =
     let k = read-record text work buffer n h in

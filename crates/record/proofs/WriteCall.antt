@@ -1,4 +1,5 @@
 -- What write answers and leaves: 31, 32, 30, or the form of a record's reading. Assumes nothing.
+use Rattle.std.specs.Prelude.{Ok, Err}
 use Prim.Native.Nat.{ℕ, ◌≤◌, ◌<◌}
 use Rattle.block.specs.Reading.{Reading}
 use Rattle.lexer.proofs.Basics.{by-test}
@@ -14,7 +15,7 @@ use Rattle.record.specs.Calls.{Result, bytes_of, refusal, refuse, answer, writte
 use Rattle.record.specs.Demands.{WriteGives, WriteGivesTheForm, WriteRefusesInOrder}
 use Rattle.record.specs.Form.{form}
 use Rattle.record.specs.Unspell.{unspell}
-use Rattle.record.specs.declared.Answer.{Answer}
+use Rattle.lexer.specs.Refusals.{fault}
 use borrow.Author.Tests.{leb-true, leb-false, le-leb, lt-leb}
 use lib.Dec.{leb}
 use lib.ListN.{length, take}
@@ -61,7 +62,7 @@ record Says (b : List ℕ) (room : ℕ) (n : Refusal) : Type 0 where
   thirty_two : number n ≡ 32 → (r : Reading) × (unspell b ≡ some r) × (1048576 < length (form r))
   thirty : number n ≡ 30 → (r : Reading) × (unspell b ≡ some r) × (length (form r) ≤ 1048576) × (room < length (form r))
 
-case-says : (b : List ℕ) (room : ℕ) (n : Refusal) (p : Place) (x : Result) → WriteCase b x → answer x room ≡ Answer.Refused n p → Says b room n
+case-says : (b : List ℕ) (room : ℕ) (n : Refusal) (p : Place) (x : Result) → WriteCase b x → answer x room ≡ Err (fault n p) → Says b room n
 unfolding answer
 case-says b room n p x (not_record e) q =
     let k = (same-refusal q).0 in
@@ -73,7 +74,7 @@ case-says b room n p x (forming {r = r} e h) q =
     let k = short-told (form r) room n p q in
     record { thirty-one = λ o. absurd (omega arith); thirty_two = λ o. absurd (omega arith); thirty = λ o. (r, e, h, k.1) }
 
-case-answers : (b : List ℕ) (room n : ℕ) (x : Result) → WriteCase b x → answer x room ≡ Answer.Length n
+case-answers : (b : List ℕ) (room n : ℕ) (x : Result) → WriteCase b x → answer x room ≡ Ok n
     → (n ≤ room) × (n ≤ 1048576) × ((r : Reading) × (unspell b ≡ some r) × (length (form r) ≡ n))
 unfolding answer
 case-answers b room n x (not_record e) q = absurd (length-refused (sym q))
@@ -82,7 +83,7 @@ case-answers b room n x (forming {r = r} e h) q =
     let k = fitting (form r) room n q in
     (k.1, omega (arith, k.0), (r, e, k.0))
 
-case-nowhere : (b : List ℕ) (room : ℕ) (n : Refusal) (p : Place) (x : Result) → WriteCase b x → answer x room ≡ Answer.Refused n p
+case-nowhere : (b : List ℕ) (room : ℕ) (n : Refusal) (p : Place) (x : Result) → WriteCase b x → answer x room ≡ Err (fault n p)
     → (p.line ≡ 0) × (p.column ≡ 0)
 unfolding answer nowhere
 case-nowhere b room n p x (not_record e) q = let k = same-refusal q in (sym k.1, sym k.2)
@@ -92,12 +93,12 @@ case-nowhere b room n p x (forming {r = r} e h) q = let k = short-told (form r) 
 pub write-refuses : WriteRefusesInOrder
 unfolding write_answer answer nowhere
 write-refuses b room =
-    let says : (n : Refusal) (p : Place) → write_answer b room ≡ Answer.Refused n p → Says b room n = λ n p. case-says b room n p (write_result b) (write-case b) in
+    let says : (n : Refusal) (p : Place) → write_answer b room ≡ Err (fault n p) → Says b room n = λ n p. case-says b room n p (write_result b) (write-case b) in
     record {
       not_record = (λ h. (no-reading b).0 ((says h.0 _ h.2).thirty-one h.1), λ h. (Refusal.NotRecord, refl, rw (write-none b ((no-reading b).1 h))));
       form_long = (λ h. (says h.0 _ h.2).thirty_two h.1, λ h. (Refusal.FormTooLong, refl, rw (write-long b h.0 h.1 h.2)));
       no_room = (λ h. (says h.0 _ h.2).thirty h.1, λ h. (Refusal.BufferShort, refl, rw (write-form b h.0 h.1 h.2) (short (form h.0) room h.3)));
-      answers = λ n. (case-answers b room n (write_result b) (write-case b), λ h. rw (write-form b h.2.0 h.2.1 (omega arith)) (fits (form h.2.0) room (omega arith) ∙ ap Answer.Length h.2.2));
+      answers = λ n. (case-answers b room n (write_result b) (write-case b), λ h. rw (write-form b h.2.0 h.2.1 (omega arith)) (fits (form h.2.0) room (omega arith) ∙ ap Ok h.2.2));
       nowhere = λ n p. case-nowhere b room n p (write_result b) (write-case b);
     }
 
@@ -107,7 +108,7 @@ unfolding write_answer write_leaves
 write-gives b r e h buffer l = rw (write-form b r e h) (left (form r) buffer l)
 
 -- What a call left is the form of a record's reading.
-write-left : (b buffer : List ℕ) (n : ℕ) → write_answer b (length buffer) ≡ Answer.Length n
+write-left : (b buffer : List ℕ) (n : ℕ) → write_answer b (length buffer) ≡ Ok n
     → (length (take n (write_leaves b buffer)) ≤ 1048576) × ((r : Reading) × (unspell b ≡ some r) × (form r ≡ take n (write_leaves b buffer)))
 write-left b buffer n h =
     let k = ((write-refuses b (length buffer)).answers n).0 h in
@@ -119,7 +120,7 @@ write-left b buffer n h =
 write-given : (b f : List ℕ) → (length f ≤ 1048576) × ((r : Reading) × (unspell b ≡ some r) × (form r ≡ f)) → WriteGives b f
 write-given b f h = subst (WriteGives b) h.1.2 (write-gives b h.1.0 h.1.1 (omega (arith, ap length h.1.2)))
 
-pub write-left-given : (b buffer : List ℕ) (n : ℕ) → write_answer b (length buffer) ≡ Answer.Length n → WriteGives b (take n (write_leaves b buffer))
+pub write-left-given : (b buffer : List ℕ) (n : ℕ) → write_answer b (length buffer) ≡ Ok n → WriteGives b (take n (write_leaves b buffer))
 write-left-given b buffer n h = write-given b (take n (write_leaves b buffer)) (write-left b buffer n h)
 
 pub write-gives-the-form : WriteGivesTheForm

@@ -1,10 +1,12 @@
 -- The three calls: what each answers, and what it leaves in the lent buffer.
-use Rattle.std.specs.Prelude.{ℕ, leb, length, take, drop, List, [], ◌++◌}
+use Rattle.std.specs.Prelude.{ℕ, leb, length, take, drop, List, [], ◌++◌, Ok, Err}
+use Rattle.std.specs.Prelude as Std
 use Rattle.std.proofs.Math.Option.{Option, none, some}
 use Rattle.lexer.specs.Base.{pick}
 use Rattle.lexer.specs.Lexing.{longest, work_needed}
 use Rattle.lexer.specs.Places.{nowhere}
 use Rattle.lexer.specs.Refusals.{number}
+use Rattle.lexer.specs.Refusals as Refusals
 use Rattle.lexer.specs.declared.Place.{Place}
 use Rattle.lexer.specs.declared.refusal.Refusal.{Refusal}
 use Rattle.block.specs.Parse.{Read, reading, fault, read}
@@ -14,7 +16,7 @@ use Rattle.record.specs.Form.{form}
 use Rattle.record.specs.Lookup.{Stretch, lookup}
 use Rattle.record.specs.Spell.{line, spell}
 use Rattle.record.specs.Unspell.{unspell}
-use Rattle.record.specs.declared.Answer.{Answer}
+use Rattle.lexer.specs.declared.Fault.{Fault}
 
 -- What a call comes to before the room is looked at: the bytes to write, or a refusal and its place.
 pub data Result : Type 0 where
@@ -25,9 +27,9 @@ unfoldable pub refuse : Refusal → Result
 refuse n = refusal n nowhere
 
 -- Too little room (30) is refused last, and a refusal leaves the buffer as it was. Of a buffer only the result's bytes are touched.
-unfoldable pub answer : Result → ℕ → Answer
-answer (bytes_of b) room = pick (leb (length b) room) (Answer.Length (length b)) (Answer.Refused Refusal.BufferShort nowhere)
-answer (refusal n p) room = Answer.Refused n p
+unfoldable pub answer : Result → ℕ → Std.Result ℕ (Fault Place)
+answer (bytes_of b) room = pick (leb (length b) room) (Ok (length b)) (Err (Refusals.fault Refusal.BufferShort nowhere))
+answer (refusal n p) room = Err (Refusals.fault n p)
 
 unfoldable pub leaves : Result → List ℕ → List ℕ
 leaves (bytes_of b) buffer = let written = b ++ drop (length b) buffer in pick (leb (length b) (length buffer)) written buffer
@@ -44,7 +46,7 @@ read_result text work =
     let judged = pick (leb (work_needed (length text)) work) result (refuse Refusal.WorkMemoryShort) in
     pick (leb (length text) longest) judged (refuse Refusal.TextTooLong)
 
-unfoldable pub read_answer : List ℕ → ℕ → ℕ → Answer
+unfoldable pub read_answer : List ℕ → ℕ → ℕ → Std.Result ℕ (Fault Place)
 read_answer text work room = answer (read_result text work) room
 
 unfoldable pub read_leaves : List ℕ → ℕ → List ℕ → List ℕ
@@ -61,7 +63,7 @@ written (some r) =
 unfoldable pub write_result : List ℕ → Result
 write_result record_bytes = written (unspell record_bytes)
 
-unfoldable pub write_answer : List ℕ → ℕ → Answer
+unfoldable pub write_answer : List ℕ → ℕ → Std.Result ℕ (Fault Place)
 write_answer record_bytes room = answer (write_result record_bytes) room
 
 unfoldable pub write_leaves : List ℕ → List ℕ → List ℕ
@@ -88,7 +90,7 @@ unfoldable pub lookup_answer : List ℕ → List ℕ → Found
 lookup_answer name record_bytes = looked_up name (unspell record_bytes)
 
 -- What the program prints: the record that the call left in the buffer, or the refusal's number and place.
-unfoldable pub printed : Answer → List ℕ → List ℕ
-printed (Answer.Length n) buffer = take n buffer
-printed (Answer.Refused n p) buffer =
-    line "refused=" (decimal (number n)) (line "line=" (decimal p.line) (line "column=" (decimal p.column) []))
+unfoldable pub printed : Std.Result ℕ (Fault Place) → List ℕ → List ℕ
+printed (Ok n) buffer = take n buffer
+printed (Err f) buffer =
+    line "refused=" (decimal (number f.0)) (line "line=" (decimal f.1.line) (line "column=" (decimal f.1.column) []))

@@ -1,8 +1,9 @@
 -- What the definitions promise, statement by statement. proofs/Demands.antt names the proof of each.
-use Rattle.std.specs.Prelude.{ℕ, ◌+◌, ◌*◌, ◌≤◌, ◌<◌, length, take, drop, true, false, List, [], ◌∷◌, ◌++◌, map, ◌↔◌, ◌≡◌}
+use Rattle.std.specs.Prelude.{ℕ, ◌+◌, ◌*◌, ◌≤◌, ◌<◌, length, take, drop, true, false, List, [], ◌∷◌, ◌++◌, map, ◌↔◌, ◌≡◌, Ok, Err, Result}
 use Rattle.std.proofs.Math.Option.{some}
 use Rattle.lexer.specs.Base.{bytes, byte}
 use Rattle.lexer.specs.Refusals.{number}
+use Rattle.lexer.specs.Refusals as Refusals
 use Rattle.lexer.specs.Tokens.{tokens}
 use Rattle.lexer.specs.Utf8.{utf8}
 use Rattle.lexer.specs.Words.{numbered}
@@ -22,7 +23,7 @@ use Rattle.record.specs.Lookup.{Stretch}
 use Rattle.record.specs.Program.{program_prints}
 use Rattle.record.specs.Spell.{line, escaped, spell_cells, spell_taxa, spell_characters, spell_head, spell}
 use Rattle.record.specs.Unspell.{unspell}
-use Rattle.record.specs.declared.Answer.{Answer}
+use Rattle.lexer.specs.declared.Fault.{Fault}
 
 -- A text, of any length, has a reading.
 abbrev pub Reads : List ℕ → Reading → Type 0
@@ -161,8 +162,8 @@ LookupRefusesOtherNames =
 
 -- A call that is lent this buffer leaves these bytes: it answers their length, the buffer then begins with them, and behind them it is as it
 -- was.
-pub record Left (bs buffer : List ℕ) (a : Answer) (after : List ℕ) : Type 0 where
-  pub counted : a ≡ Answer.Length (length bs)
+pub record Left (bs buffer : List ℕ) (a : Result ℕ (Fault Place)) (after : List ℕ) : Type 0 where
+  pub counted : a ≡ Ok (length bs)
   pub result : take (length bs) after ≡ bs
   pub rest : drop (length bs) after ≡ drop (length bs) buffer
 
@@ -190,9 +191,9 @@ WriteGivesTheForm =
 -- Demand 3, of the calls. What one call left, any call with memory long enough gives.
 abbrev pub WhatIsLeftIsGiven : Type 0
 WhatIsLeftIsGiven =
-    ((text : List ℕ) (work : ℕ) (buffer : List ℕ) (n : ℕ) → read_answer text work (length buffer) ≡ Answer.Length n
+    ((text : List ℕ) (work : ℕ) (buffer : List ℕ) (n : ℕ) → read_answer text work (length buffer) ≡ Ok n
     → ReadGives text (take n (read_leaves text work buffer)))
-    × ((b buffer : List ℕ) (n : ℕ) → write_answer b (length buffer) ≡ Answer.Length n → WriteGives b (take n (write_leaves b buffer)))
+    × ((b buffer : List ℕ) (n : ℕ) → write_answer b (length buffer) ≡ Ok n → WriteGives b (take n (write_leaves b buffer)))
 
 -- Demand 3, of the calls. A text is read, its record written, and what was written is read again: that gives back the record byte for byte.
 abbrev pub CallsGiveBackRecordsOfTexts : Type 0
@@ -212,8 +213,8 @@ CallsTellTextsApart =
     → (f ≡ g) ↔ Agree r s
 
 -- An answer is a refusal with this number, at this line and column.
-abbrev pub Refuses : Answer → ℕ → ℕ → ℕ → Type 0
-Refuses a n l c = (why : Refusal) × (number why ≡ n) × (a ≡ Answer.Refused why (record { line = l; column = c }))
+abbrev pub Refuses : Result ℕ (Fault Place) → ℕ → ℕ → ℕ → Type 0
+Refuses a n l c = (why : Refusal) × (number why ≡ n) × (a ≡ Err (Refusals.fault why (record { line = l; column = c })))
 
 -- The text is of at most 1,048,576 bytes, and work memory is long enough.
 abbrev pub Taken : List ℕ → ℕ → Type 0
@@ -228,12 +229,12 @@ pub record ReadRefuses (text : List ℕ) (work room : ℕ) : Type 0 where
   -- 3: neither, and the text is not UTF-8
   pub not_utf8 : Refuses (read_answer text work room) 3 0 0 ↔ Taken text work × (utf8 text ≡ false)
   -- 4 to 29: nothing of these, and the text itself is refused, at the place of its fault, which has a line
-  pub faulty : (n : Refusal) (p : Place) → 1 ≤ p.line → (read_answer text work room ≡ Answer.Refused n p) ↔ Taken text work × (read text ≡ fault n p)
+  pub faulty : (n : Refusal) (p : Place) → 1 ≤ p.line → (read_answer text work room ≡ Err (Refusals.fault n p)) ↔ Taken text work × (read text ≡ fault n p)
   pub placed : (n : Refusal) (p : Place) → utf8 text ≡ true → read text ≡ fault n p → 1 ≤ p.line
   -- 30: nothing of these, and the record is longer than the buffer
   pub no_room : Refuses (read_answer text work room) 30 0 0 ↔ Taken text work × ((r : Reading) × Reads text r × (room < length (spell r)))
   -- else the answer is the record's length
-  pub answers : (n : ℕ) → (read_answer text work room ≡ Answer.Length n) ↔ (n ≤ room) × Taken text work × ((r : Reading) × Reads text r × (length (spell r) ≡ n))
+  pub answers : (n : ℕ) → (read_answer text work room ≡ Ok n) ↔ (n ≤ room) × Taken text work × ((r : Reading) × Reads text r × (length (spell r) ≡ n))
 
 abbrev pub ReadRefusesInOrder : Type 0
 ReadRefusesInOrder = (text : List ℕ) (work room : ℕ) → ReadRefuses text work room
@@ -247,16 +248,16 @@ pub record WriteRefuses (b : List ℕ) (room : ℕ) : Type 0 where
   -- 30: neither, and the form is longer than the buffer
   pub no_room : Refuses (write_answer b room) 30 0 0 ↔ ((r : Reading) × (unspell b ≡ some r) × (length (form r) ≤ 1048576) × (room < length (form r)))
   -- else the answer is the form's length
-  pub answers : (n : ℕ) → (write_answer b room ≡ Answer.Length n) ↔ (n ≤ room) × (n ≤ 1048576) × ((r : Reading) × (unspell b ≡ some r) × (length (form r) ≡ n))
-  pub nowhere : (n : Refusal) (p : Place) → write_answer b room ≡ Answer.Refused n p → (p.line ≡ 0) × (p.column ≡ 0)
+  pub answers : (n : ℕ) → (write_answer b room ≡ Ok n) ↔ (n ≤ room) × (n ≤ 1048576) × ((r : Reading) × (unspell b ≡ some r) × (length (form r) ≡ n))
+  pub nowhere : (n : Refusal) (p : Place) → write_answer b room ≡ Err (Refusals.fault n p) → (p.line ≡ 0) × (p.column ≡ 0)
 
 abbrev pub WriteRefusesInOrder : Type 0
 WriteRefusesInOrder = (b : List ℕ) (room : ℕ) → WriteRefuses b room
 
 -- A refusal leaves the buffer as it was; success touches only the result's bytes, and they lie in the buffer.
-pub record Kept (buffer : List ℕ) (a : Answer) (after : List ℕ) : Type 0 where
-  pub refused : (n : Refusal) (p : Place) → a ≡ Answer.Refused n p → after ≡ buffer
-  pub answered : (n : ℕ) → a ≡ Answer.Length n → (n ≤ length buffer) × (drop n after ≡ drop n buffer)
+pub record Kept (buffer : List ℕ) (a : Result ℕ (Fault Place)) (after : List ℕ) : Type 0 where
+  pub refused : (n : Refusal) (p : Place) → a ≡ Err (Refusals.fault n p) → after ≡ buffer
+  pub answered : (n : ℕ) → a ≡ Ok n → (n ≤ length buffer) × (drop n after ≡ drop n buffer)
   pub room : length after ≡ length buffer
 
 -- Demand 1, of the calls. Buffers are kept.

@@ -1,12 +1,12 @@
 -- The program: it reads standard input, at most 1,024 bytes (more is 1), into a record buffer of 65,536 bytes, and prints the record, or the
 -- refusal's number and place.
-use Rattle.std.specs.Prelude.{ℕ, leb, length, replicate, List, []}
+use Rattle.std.specs.Prelude.{ℕ, leb, length, replicate, List, [], Err}
 use Rattle.lexer.specs.Base.{pick}
 use Rattle.lexer.specs.Lexing.{work_needed}
 use Rattle.lexer.specs.Places.{nowhere}
 use Rattle.lexer.specs.declared.refusal.Refusal.{Refusal}
 use Rattle.record.specs.Calls.{read_answer, read_leaves, printed}
-use Rattle.record.specs.declared.Answer.{Answer}
+use Rattle.lexer.specs.Refusals.{fault}
 
 -- The most bytes of standard input that are read.
 unfoldable pub most_input : ℕ
@@ -23,5 +23,5 @@ program_buffer = replicate 65536 0
 unfoldable pub program_prints : List ℕ → List ℕ
 program_prints input =
     let result = printed (read_answer input program_work (length program_buffer)) (read_leaves input program_work program_buffer) in
-    let refused = printed (Answer.Refused Refusal.TextTooLong nowhere) [] in
+    let refused = printed (Err (fault Refusal.TextTooLong nowhere)) [] in
     pick (leb (length input) most_input) result refused

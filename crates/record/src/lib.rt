@@ -2,11 +2,7 @@
 
 #![tactic(auto)]
 
-use lexer::{Place, Refusal};
+use lexer::{Fault, Place};
 
-// What a call that writes into a lent buffer answers: how many bytes it wrote, or why none.
-#[derive(Clone, Copy)]
-pub enum Answer {
-    Length(usize),
-    Refused(Refusal, Place),
-}
+// What a call that writes into a lent buffer answers: how many bytes it wrote, or why none and where.
+pub type Answer = Result<usize, Fault<Place>>;

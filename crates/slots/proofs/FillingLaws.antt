@@ -42,14 +42,25 @@ module _ (work : List ℕ) (from end p v : ℕ) (free : Free work from end p) wh
               };
         }
 
-  pub filled_none : end ≤ p → Filled work work from end v
-  filled_none h =
-      record {
-        size = refl;
-        front = refl;
-        new = record { place = p; ahead = free.ahead; taken = free.taken; holds = λ l. absurd (omega arith) };
-        old = λ a w s k. k;
-      }
+-- Where no slot is free up to the end, the first free one from there on is the end or behind it.
+pub free_none : (work : List ℕ) (from end : ℕ) → Taken work from end → (p : ℕ) × Free work from end p × (end ≤ p)
+free_none work from end taken = by-test (ltb from end) (λ t. ahead (ltb-true from end t)) (λ f. past (ltb-false from end f))
+  where
+    ahead : from < end → (p : ℕ) × Free work from end p × (end ≤ p)
+    ahead h = (end, record { ahead = omega arith; within = λ l. omega arith; taken = taken; stop = λ l. absurd (omega arith) }, omega arith)
+
+    past : end ≤ from → (p : ℕ) × Free work from end p × (end ≤ p)
+    past h = (from, record { ahead = omega arith; within = λ l. absurd (omega arith); taken = λ q l m. absurd (omega arith); stop = λ l. absurd (omega arith) }, h)
+
+pub filled_none : (work : List ℕ) (from end v : ℕ) → Taken work from end → Filled work work from end v
+filled_none work from end v taken =
+    let none = free_none work from end taken in
+    record {
+      size = refl;
+      front = refl;
+      new = record { place = none.0; ahead = none.1.ahead; taken = none.1.taken; holds = λ l. absurd (omega (arith, none.2)) };
+      old = λ a w s k. k;
+    }
 
 -- What is kept from a slot on that is taken by another number is kept from the next on.
 pub kept_next : (work : List ℕ) (p end v : ℕ) → p < end → (get_or work p 0 ≡ v → ⊥) → Kept work p end v → Kept work (p + 1) end v

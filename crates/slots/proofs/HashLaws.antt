@@ -1,17 +1,16 @@
 -- Names that are alike have one number, which has 32 bits. Assumes nothing.
-use Prim.Native.Nat.{ℕ, suc, ◌+◌, ◌*◌, ◌-◌, ◌≤◌, ◌<◌}
+use Prim.Native.Nat.{ℕ, ◌+◌, ◌*◌, ◌≤◌, ◌<◌}
 use Rattle.lexer.proofs.Basics.{and_left, and_right}
 use Rattle.lexer.proofs.ListLaws.{drop-next}
 use Rattle.lexer.proofs.Yielded.{YieldsByte}
 use Rattle.lexer.specs.Base.{pick, alike, lower}
 use Rattle.lexer.specs.Bytes.{left}
-use Rattle.lexer.specs.PlainWords.{part}
 use Rattle.lexer.specs.Words.{spaced}
 use Rattle.lexer.specs.declared.Cursor.{Cursor}
 use Rattle.slots.specs.Hashes.{mixed, hash_from, hash}
 use borrow.Author.Tests.{eqb-true}
 use lib.Dec.{eqb}
-use lib.ListN.{length, get_or}
+use lib.ListN.{length, get_or, drop, drop_of_length-le}
 use mathlib.Core.Bool.{true, false≢true}
 use mathlib.Core.List.{List, [], ◌∷◌}
 use mathlib.Core.Path.{◌≡◌, refl, sym, ◌∙◌}
@@ -59,22 +58,16 @@ module _ (text : List ℕ) (c d : Cursor) (h : ℕ) (k : Hashing text c d h) whe
   unfolding spaced hash_from
   hashing-end e = sym (rw e) ∙ k.rest
 
--- The same of a run of bytes: the number of those from a place on, behind that of those in front of it, is the number of all.
-pub record HashingRun (text : List ℕ) (from end i h : ℕ) : Type 0 where
+-- The same of a run of bytes: the number of those from an index on, behind that of those in front of it, is the number of all.
+pub record HashingRun (run : List ℕ) (i h : ℕ) : Type 0 where
   pub small : h < 4294967296
-  pub ahead : i ≤ end
-  pub rest : hash_from h (spaced (part text i end)) ≡ hash (spaced (part text from end))
+  pub rest : hash_from h (spaced (drop i run)) ≡ hash (spaced run)
 
-module _ (text : List ℕ) (from end i h : ℕ) (k : HashingRun text from end i h) where
-  pub run-turn : i < end → end ≤ length text → (g : ℕ) → (g ≡ mixed h (pick (eqb (get_or text i 0) 95) 32 (get_or text i 0))) × (g < 4294967296) → HashingRun text from end (i + 1) g
+module _ (run : List ℕ) (i h : ℕ) (k : HashingRun run i h) where
+  pub run-turn : i < length run → (g : ℕ) → (g ≡ mixed h (pick (eqb (get_or run i 0) 95) 32 (get_or run i 0))) × (g < 4294967296) → HashingRun run (i + 1) g
   unfolding spaced hash_from
-  run-turn lt le g m =
-      let one : end - i ≡ suc (end - (i + 1)) = omega arith in
-      let first : part text i end ≡ get_or text i 0 ∷ part text (i + 1) end = rw (one, drop-next text i (omega arith)) refl in
-      record { small = m.1; ahead = omega arith; rest = rw m.0 (sym (rw first) ∙ k.rest) }
+  run-turn lt g m = record { small = m.1; rest = rw m.0 (sym (rw (drop-next run i lt)) ∙ k.rest) }
 
-  pub run-end : end ≤ i → h ≡ hash (spaced (part text from end))
+  pub run-end : length run ≤ i → h ≡ hash (spaced run)
   unfolding spaced hash_from
-  run-end le =
-      let none : end - i ≡ 0 = omega arith in
-      sym (rw none) ∙ k.rest
+  run-end le = sym (rw (drop_of_length-le run le)) ∙ k.rest

@@ -1,6 +1,6 @@
 -- The slots of a table. A number is kept from a slot on where it stands at the first slot from there on that is free, or before it; or where none is
 -- free up to the end of the table.
-use Rattle.std.specs.Prelude.{ℕ, ◌+◌, ◌*◌, ◌/◌, ◌^◌, ◌≤◌, ◌<◌, length, get_or, take, List, ◌≡◌}
+use Rattle.std.specs.Prelude.{ℕ, ◌+◌, ◌*◌, ◌/◌, ◌^◌, ◌≤◌, ◌<◌, length, get_or, take, List, ◌≡◌, Some, None, Option}
 use Rattle.slots.specs.declared.Table.{Table}
 
 -- The slot at which the search for a name begins, by its number, which has 32 bits: it stands among the slots as the number does among all of 32 bits.
@@ -29,6 +29,11 @@ pub record Free (work : List ℕ) (from end p : ℕ) : Type 0 where
   pub within : from < p → p ≤ end
   pub taken : Taken work from p
   pub stop : p < end → get_or work p 0 ≡ 0
+
+-- The first free slot from one on, if there is one in front of the end of the table.
+abbrev pub FreeFound : List ℕ → ℕ → ℕ → Option ℕ → Type 0
+FreeFound work from end (Some p) = Free work from end p × (p < end)
+FreeFound work from end None = Taken work from end
 
 -- A number is kept from a slot on.
 pub record Kept (work : List ℕ) (from end v : ℕ) : Type 0 where

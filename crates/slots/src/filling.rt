@@ -4,7 +4,7 @@ ghost use Rattle.std.specs.Prelude.{◌^◌, ◌≤◌, ◌<◌, min, length, �
 ghost use Rattle.lexer.specs.Stored.{word_of};
 ghost use Rattle.lexer.specs.Words.{spaced};
 ghost use Rattle.slots.specs.Entering.{NameEntered, window_end};
-ghost use Rattle.slots.specs.Filling.{Cleared, Filled, Free, TableFits, TableSound, slot_of};
+ghost use Rattle.slots.specs.Filling.{Cleared, Filled, FreeFound, TableFits, TableSound, slot_of};
 ghost use Rattle.slots.specs.Hashes.{hash};
 
 use super::Table;
@@ -18,15 +18,8 @@ fn table_for(base: usize, count: usize, memory: usize) -> Table
     ensures { TableFits base memory result }
 {
     let size = count * 4 + 1;
-    let end = base + size + 64;
-    if end <= memory {
-        return Table { base, size, end };
-    }
-    Table {
-        base,
-        size,
-        end: memory,
-    }
+    let end = memory.min(base + size + 64);
+    Table { base, size, end }
 }
 
 // The slot at which the search for a name begins, by its number.
@@ -34,9 +27,7 @@ pub fn slot_of(table: Table, h: u64) -> usize
     requires { TableSound table × (h < 4294967296) }
     ensures { result ≡ slot_of table h }
 {
-    let size = table.size as u64;
-    let base = table.base;
-    base + (h * size / 4294967296) as usize
+    table.base + (h * table.size as u64 / 4294967296) as usize
 }
 
 // The slot at which the search for the name of a word begins.
@@ -47,40 +38,26 @@ pub fn name_slot(text: &[u8], work: &[u32], i: usize, table: Table) -> usize
     slot_of(table, hash_at(text, start_of(work, i)))
 }
 
-// All slots are free.
-fn clear_slots(work: &mut [u32], base: usize, end: usize)
-    requires { end ≤ length work.old }
-    ensures { Cleared work.old work.new base }
-{
-    let mut p = base;
-    while p < end {
-        work[p] = 0;
-        p += 1;
-    }
-}
-
 // A table for so many names, from an index of work memory on, with all slots free.
 pub fn free_table(work: &mut [u32], base: usize, count: usize) -> Table
     requires { (base ≤ length work.old) × (count ≤ 1048576) }
     ensures { Cleared work.old work.new base × TableFits base (length work.old) result }
 {
     let table = table_for(base, count, work.len());
-    clear_slots(work, base, table.end);
+    work[base..table.end].fill(0);
     table
 }
 
-// The first free slot from one on.
-fn free_slot(work: &[u32], from: usize, end: usize) -> usize
-    ensures { Free work.now from end result }
+// The first free slot from one on, if there is one in front of an end.
+fn free_slot(work: &[u32], from: usize, end: usize) -> Option<usize>
+    ensures { FreeFound work.now from end result }
 {
-    let mut p = from;
-    while p < end {
+    for p in from..end {
         if start_of(work, p) == 0 {
-            return p;
+            return Some(p);
         }
-        p += 1;
     }
-    p
+    None
 }
 
 // A number is put at the first free slot from one on, if there is one.
@@ -88,33 +65,16 @@ pub fn fill_slot(work: &mut [u32], from: usize, end: usize, value: u32)
     requires { (end ≤ length work.old) × (0 < value) }
     ensures { Filled work.old work.new from end value }
 {
-    let p = free_slot(work, from, end);
-    if p < end {
+    if let Some(p) = free_slot(work, from, end) {
         work[p] = value;
     }
-}
-
-// The lesser of two numbers.
-fn lesser(a: usize, b: usize) -> usize
-    ensures { result ≡ min a b }
-{
-    if a < b {
-        return a;
-    }
-    b
 }
 
 // Begins a trie at this head, without names, if there is room for it.
 fn begin_trie(work: &mut [u32], head: usize)
     ensures { Cleared work.old work.new head }
 {
-    if work.len() <= head {
-        return;
-    }
-    if work.len() - head < 2 {
-        return;
-    }
-    if head < 4294967294 {
+    if head < 4294967294 && head + 1 < work.len() {
         work[head] = (head + 2) as u32;
         work[head + 1] = 0;
     }
@@ -127,7 +87,7 @@ pub fn name_table(work: &mut [u32], base: usize, count: usize) -> Table
     ensures { Cleared work.old work.new base × TableFits base (length work.old) result }
 {
     let room = (work.len() - base) / 16;
-    let table = free_table(work, base, lesser(count, room));
+    let table = free_table(work, base, count.min(room));
     begin_trie(work, table.end);
     table
 }
@@ -136,12 +96,8 @@ pub fn name_table(work: &mut [u32], base: usize, count: usize) -> Table
 pub fn window_end(table: Table, from: usize) -> usize
     ensures { result ≡ window_end table.end from }
 {
-    let end = table.end;
-    if end <= from {
-        return end;
-    }
-    if end - from <= 16 {
-        return end;
+    if table.end.saturating_sub(from) <= 16 {
+        return table.end;
     }
     from + 16
 }
@@ -151,9 +107,7 @@ pub fn enter_at(text: &[u8], work: &mut [u32], i: usize, value: u32, table: Tabl
     requires { (from ≡ slot_of table (hash (spaced (word_of text.now work.old i).token.text))) × (table.base ≤ table.end) × (table.end ≤ length work.old) × (0 < value) }
     ensures { NameEntered work.old work.new table (spaced (word_of text.now work.old i).token.text) value }
 {
-    let stop = window_end(table, from);
-    let p = free_slot(work, from, stop);
-    if p < stop {
+    if let Some(p) = free_slot(work, from, window_end(table, from)) {
         work[p] = value;
         return;
     }

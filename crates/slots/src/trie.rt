@@ -9,8 +9,10 @@ ghost use Rattle.lexer.specs.Words.{spaced};
 ghost use Rattle.slots.specs.Trie.{Branched, LetterTold, LettersPut, LettersRoom, PathPut, Reached, Told, entry_of, letters, letters_left, node_room, with_node};
 
 use super::Entry;
-use super::hashes::blank_for;
-use lexer::{Cursor, Item, lower, next_byte, start_of, text_start};
+use lexer::{Cursor, folded, next_byte, start_of, text_start};
+
+// The letter behind the last one of a name.
+const END: usize = 257;
 
 // A letter of a name and the cursor behind it.
 #[derive(Clone, Copy)]
@@ -19,7 +21,8 @@ pub struct Letter {
     pub next: Cursor,
 }
 
-// Where a letter leads: to the link behind its node; or, where no node has it, to the last link, at which one would be put.
+// Where a letter leads: to the link behind its node; or, where no node has it, to the last link, at which one would be put. Neither
+// is a fault, and the names say which link it is, so this is no `Result`.
 #[derive(Clone, Copy)]
 pub enum Branch {
     Behind(usize),
@@ -27,6 +30,7 @@ pub enum Branch {
 }
 
 // Where a name leads: to the link behind all its letters, or to a link where the rest of them, behind a cursor, would be entered.
+// Neither is a fault, so this is no `Result`.
 #[derive(Clone, Copy)]
 pub enum Reach {
     Whole(usize),
@@ -37,8 +41,7 @@ pub enum Reach {
 fn letter_of(b: u8) -> usize
     ensures { (result ≡ lower (pick (eqb b 95) 32 b) + 1) × (result ≤ 256) }
 {
-    let c = lower(blank_for(b));
-    c as usize + 1
+    usize::from(folded(b)) + 1
 }
 
 // The next letter of a name, or 257 at its end.
@@ -46,11 +49,11 @@ fn letter_at(text: &[u8], c: Cursor) -> Letter
     ensures { LetterTold text.now c result }
 {
     match next_byte(text, c) {
-        Item::Byte(b, d) => Letter {
+        Some((b, d)) => Letter {
             code: letter_of(b),
             next: d,
         },
-        Item::End => Letter { code: 257, next: c },
+        None => Letter { code: END, next: c },
     }
 }
 
@@ -58,13 +61,7 @@ fn letter_at(text: &[u8], c: Cursor) -> Letter
 fn leads_on(link: usize, node: usize, top: usize) -> bool
     ensures { result ≡ (ltb link node && ltb 2 (top - node)) }
 {
-    if node <= link {
-        return false;
-    }
-    if top <= node {
-        return false;
-    }
-    2 < top - node
+    link < node && 2 < top.saturating_sub(node)
 }
 
 // Looks for the node of a letter among those that a link leads to, one after the other: the link behind it, or the last link where there is none.
@@ -100,7 +97,7 @@ fn name_reach(text: &[u8], start: usize, work: &[u32], head: usize, top: usize) 
         let l = letter_at(text, c);
         match branch_of(work, link, l.code, top) {
             Branch::Behind(n) => {
-                if l.code == 257 {
+                if l.code == END {
                     return Reach::Whole(n);
                 }
                 link = n;
@@ -117,10 +114,7 @@ fn name_reach(text: &[u8], start: usize, work: &[u32], head: usize, top: usize) 
 fn given_up(head: usize, top: usize) -> bool
     ensures { result ≡ leb top (head + 1) }
 {
-    if top <= head {
-        return true;
-    }
-    top - head <= 1
+    top.saturating_sub(head) <= 1
 }
 
 // The value behind all the letters of a name.
@@ -152,10 +146,7 @@ pub fn name_entry(text: &[u8], work: &[u32], i: usize, head: usize) -> Entry
 fn node_room(memory: usize, top: usize) -> bool
     ensures { result ≡ node_room memory top }
 {
-    if 4294967292 < top {
-        return false;
-    }
-    top + 3 <= memory
+    top <= 4294967292 && top + 3 <= memory
 }
 
 // A node of a letter is put where a link leads to now.
@@ -185,22 +176,19 @@ fn put_letters(
     let mut c = from;
     let mut link = first;
     let mut top = next;
-    loop {
-        if !node_room(work.len(), top) {
-            work[head] = 0;
-            return;
-        }
+    while node_room(work.len(), top) {
         let l = letter_at(text, c);
         put_node(work, link, top, l.code);
         link = top + 1;
         top += 3;
-        if l.code == 257 {
+        if l.code == END {
             work[link] = value;
             work[head] = top as u32;
             return;
         }
         c = l.next;
     }
+    work[head] = 0;
 }
 
 // A value is put for the name of the token at `start` into the trie with this head. Where the trie has one already, it is given up.
@@ -213,15 +201,11 @@ pub fn put_path(text: &[u8], start: usize, work: &mut [u32], head: usize, value:
         return;
     }
     match name_reach(text, start, work, head, top) {
-        Reach::Whole(_) => {
-            work[head] = 0;
+        Reach::Part(n, c) if start_of(work, n) == 0 => {
+            put_letters(text, c, work, n, head, top, value);
         }
-        Reach::Part(n, c) => {
-            if start_of(work, n) == 0 {
-                put_letters(text, c, work, n, head, top, value);
-            } else {
-                work[head] = 0;
-            }
+        _ => {
+            work[head] = 0;
         }
     }
 }

@@ -4,8 +4,8 @@
 
 ghost use Rattle.write.specs.Call.{FormDelivered, WriteCall};
 
-use judging::{Judged, Shape, judge};
-use lexer::{Place, Refusal};
+use judging::{Shape, judge};
+use lexer::{Fault, Place, Refusal};
 use record::Answer;
 use writing::put_form;
 
@@ -16,21 +16,21 @@ fn deliver(source: &[u8], shape: Shape, buffer: &mut [u8]) -> Answer
     let mut scratch = [0u8; 1];
     let size = put_form(source, shape, &mut scratch, 0);
     if 1048576 < size {
-        return Answer::Refused(Refusal::FormTooLong, Place { line: 0, column: 0 });
+        return Err(Fault(Refusal::FormTooLong, Place { line: 0, column: 0 }));
     }
     if buffer.len() < size {
-        return Answer::Refused(Refusal::BufferShort, Place { line: 0, column: 0 });
+        return Err(Fault(Refusal::BufferShort, Place { line: 0, column: 0 }));
     }
     put_form(source, shape, buffer, 0);
-    Answer::Length(size)
+    Ok(size)
 }
 
 // The written form of a record, put into the buffer, and its length; or the refusal, and then the buffer stays as it was.
 pub fn write(source: &[u8], buffer: &mut [u8]) -> Answer
     ensures { WriteCall source.now buffer.old buffer.new result }
 {
-    match judge(source) {
-        Judged::Record(shape) => deliver(source, shape, buffer),
-        Judged::Wrong => Answer::Refused(Refusal::NotRecord, Place { line: 0, column: 0 }),
-    }
+    let Some(shape) = judge(source) else {
+        return Err(Fault(Refusal::NotRecord, Place { line: 0, column: 0 }));
+    };
+    deliver(source, shape, buffer)
 }

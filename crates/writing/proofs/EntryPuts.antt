@@ -10,7 +10,7 @@ use Rattle.lexer.specs.Base.{bytes, is_empty, pick}
 use Rattle.record.specs.Decimal.{decimal}
 use Rattle.record.specs.Form.{any_label, comma, form_assumptions, form_each, form_entries, form_entry, form_label, form_labels, form_states, form_types}
 use Rattle.record.specs.Spell.{escaped, order_word, spell_characters, spell_states}
-use Rattle.writing.proofs.LinePlaces.{byte-here, characters-begin, label-tested, line-rest, no-state-past, skip-over, states-none, states-some}
+use Rattle.writing.proofs.LinePlaces.{byte-here, characters-begin, label-tested, line-rest, skip-over, states-none, states-some}
 use Rattle.writing.proofs.PutWalks.{Going, going_start}
 use Rattle.writing.specs.CharacterLines.{AssumptionsPut, EntriesPut, EntryPut, LabelFound, LabelPut, LabelsPut, LabelsTold, NextFound, NoState, OrderFound, PutOn, Stands, StatesFound, StatesPut, TypePut, TypesPut, label_on, order_on}
 use Rattle.writing.specs.FormPut.{QuotedPut}
@@ -63,9 +63,6 @@ module _ (b : List ℕ) (i : ℕ) where
             let none = states-none b i behind other differs states e in
             rw none (record { next = rw none at e; put = puts_none });
       }
-
-  pub each-past : length b ≤ i → {buffer : List ℕ} {n : ℕ} → StatesPut form_each b i buffer n buffer (record { at = i; n = n })
-  each-past h = each_none (no-state-past b i h)
 
   pub each_turn : get_or b i 0 ≡ 115 → {buffer middle later : List ℕ} {n m j : ℕ} {q : Putting} → Puts buffer n (λ behind. 32 ∷ behind) middle m
       → j ≡ min (i + 6) (length b) → QuotedPut b j middle m later q → (after : List ℕ) (r : Putting)

@@ -13,11 +13,11 @@ use Rattle.record.specs.Form.{any_label}
 use Rattle.record.specs.Spell.{escaped, line, order_word, spell_character, spell_characters, spell_states}
 use Rattle.writing.proofs.QuotedBytes.{line-ended}
 use Rattle.writing.specs.CharacterLines.{LabelFound, LabelsTold, LineBehind, NextFound, NoState, OrderFound, StatesFound, count_on, label_on, order_on}
-use borrow.Author.Tests.{eqb-false, leb-true, leb-false, ne_eqb}
+use borrow.Author.Tests.{eq-eqb, eqb-false, leb-true, leb-false, ne_eqb}
 use lib.Dec.{eqb, leb}
-use lib.ListN.{length, get_or, drop, drop_of_length-le, length-append, get_or-eq_default}
+use lib.ListN.{length, get_or, drop, drop_of_length-le, length-append}
 use lib.Seq.{append_snoc, get_or-drop}
-use mathlib.Core.Bool.{false, not, ◌||◌}
+use mathlib.Core.Bool.{true, false, not}
 use mathlib.Core.List.{List, [], ◌∷◌, ◌++◌}
 use mathlib.Core.Path.{◌≡◌, refl, sym, ap, ◌∙◌}
 use native.Mathlib.Nat.{add-zero}
@@ -131,19 +131,25 @@ label-tested b at (x ∷ m) rest e =
     let first = byte-here b at _ (e ∙ line-ended (x ∷ m) rest) in
     rw first (escaped-cases (λ l. eqb (get_or l 0 0) 10 ≡ false) x m rest (λ y t meant some. refl) (λ p q. p))
 
--- Both tests tell whether a character has a label or state labels.
-pub labelled-tested : (b : List ℕ) (label states : ℕ) (u v : ℕ) → u ≡ get_or b label 0 → v ≡ get_or b states 0
-    → LabelsTold b label states (not (eqb u 10) || eqb v 115)
-unfolding any_label label_on
-labelled-tested b label states u v p q =
-    record {
-      told = λ c behind s.
-          rw (p, q, label-tested b label c.label _ s.label_here, states-tested b states behind s.no_more c.states s.states_here);
-    }
+-- A label that does not begin with an LF tells that a character has one; of one with the empty label, an `s` tells whether it has state labels.
+module _ (b : List ℕ) (label states u : ℕ) (here : u ≡ get_or b label 0) where
+  pub label-tells : (u ≡ 10 → ⊥) → LabelsTold b label states (not (eqb u 10))
+  unfolding any_label label_on
+  label-tells other =
+      record {
+        told = λ c behind s.
+            let some : is_empty c.label ≡ false = sym (label-tested b label c.label _ s.label_here) ∙ ap (λ y. eqb y 10) (sym here) ∙ ne_eqb u 10 other in
+            rw (ne_eqb u 10 other, some);
+      }
 
--- Behind the end of the bytes no state label begins.
-pub no-state-past : (b : List ℕ) (i : ℕ) → length b ≤ i → get_or b i 0 ≡ 115 → ⊥
-no-state-past b i h e = omega (arith, get_or-eq_default b 0 h)
+  pub states-tell : u ≡ 10 → {v : ℕ} → v ≡ get_or b states 0 → LabelsTold b label states (eqb v 115)
+  unfolding any_label label_on
+  states-tell e {v} q =
+      record {
+        told = λ c behind s.
+            let none : is_empty c.label ≡ true = sym (label-tested b label c.label _ s.label_here) ∙ ap (λ y. eqb y 10) (sym here) ∙ eq-eqb u 10 e in
+            rw (q, none, states-tested b states behind s.no_more c.states s.states_here);
+      }
 
 -- The next character: behind the line of a state label what stands behind the next, and here if there is none.
 module _ (b : List ℕ) (i : ℕ) where
@@ -151,9 +157,6 @@ module _ (b : List ℕ) (i : ℕ) where
   unfolding spell_states
   next_here differs =
       record { found = λ states behind other e. e ∙ ap (λ l. spell_states l behind) (states-none b i behind other differs states e) }
-
-  pub next_past : length b ≤ i → NextFound b i i
-  next_past h = next_here (λ e. no-state-past b i h e)
 
   pub next-on : i < length b → get_or b i 0 ≡ 115 → (j : ℕ) → LineBehind b (i + 1) j → (r : ℕ) → NextFound b j r → NextFound b i r
   unfolding bytes among

@@ -5,7 +5,7 @@ use Rattle.block.specs.declared.model.CharacterOrdering.{CharacterOrdering}
 use Rattle.emit.proofs.PutLaws.{puts-as, puts_then}
 use Rattle.emit.specs.Puts.{Puts}
 use Rattle.naming.proofs.RowLaws.{drop-behind}
-use Rattle.lexer.proofs.Basics.{and_left, and_right, not-both, or_left, or_right}
+use Rattle.lexer.proofs.Basics.{not-both, or_left, or_right}
 use Rattle.lexer.specs.Base.{among, bytes, is_empty, pick}
 use Rattle.lexer.specs.Words.{digits}
 use Rattle.record.proofs.DecimalLaws.{digits_decimal}
@@ -15,11 +15,11 @@ use Rattle.record.specs.Form.{any_label, form_entries, form_types}
 use Rattle.record.specs.Spell.{escaped, order_word, spell_characters, spell_states}
 use Rattle.writing.proofs.LinePlaces.{label-tested}
 use Rattle.writing.specs.CharacterLines.{EntriesPut, LabelFound, PlainAt, TypesPut, count_on, first_letter, label_on, order_on, plain_size}
-use borrow.Author.Tests.{eqb-true, eqb-false, eq-eqb, not-false}
+use borrow.Author.Tests.{eqb-false, eq-eqb}
 use lib.Dec.{eqb}
 use lib.ListN.{length, get_or, drop}
 use lib.Seq.{get_or-drop}
-use mathlib.Core.Bool.{Bool, true, false, not, ◌&&◌, ◌||◌}
+use mathlib.Core.Bool.{Bool, false}
 use mathlib.Core.List.{List, [], ◌∷◌, ◌++◌}
 use mathlib.Core.Path.{◌≡◌, refl, sym, ap, ◌∙◌}
 use native.Mathlib.Numerals.{add-one}
@@ -65,11 +65,11 @@ module _ (b : List ℕ) (at : ℕ) (behind : List ℕ) where
   told CharacterOrdering.Ordered t [] CharacterOrdering.Ordered [] e = (refl, refl, refl, drop-behind b at (bytes "\norder=ORD\nstates=0\n") behind e)
 
 -- They tell that the character is such.
-pub plain_at : (b : List ℕ) (at : ℕ) (o : CharacterOrdering) → at + plain_size o ≤ length b → not (eqb (get_or b at 0) 10) || not (eqb (get_or b (at + 7) 0) (first_letter o)) ≡ false
-    → eqb (get_or b (at + plain_size o - 2) 0) 48 && eqb (get_or b (at + plain_size o - 1) 0) 10 ≡ true → PlainAt b at o
+pub plain_at : (b : List ℕ) (at : ℕ) (o : CharacterOrdering) → at + plain_size o ≤ length b → get_or b at 0 ≡ 10 → get_or b (at + 7) 0 ≡ first_letter o
+    → get_or b (at + plain_size o - 2) 0 ≡ 48 → get_or b (at + plain_size o - 1) 0 ≡ 10 → PlainAt b at o
 unfolding label_on order_on count_on any_label is_empty
-plain_at b at o inside p q =
-    let bytes-of = four o inside p q in
+plain_at b at o inside line order zero end =
+    let bytes-of : Told b at o = record { line = line; order = order; zero = rw (back o 2 (omega arith)) at zero; end = rw (back o 1 (omega arith)) at end } in
     record {
       inside = inside;
       bare = λ c behind e. let t = told b at behind o bytes-of c.label c.ordering c.states e in rw (t.0, t.2);
@@ -80,16 +80,6 @@ plain_at b at o inside p q =
     back : (o : CharacterOrdering) (k : ℕ) → k ≤ 2 → at + plain_size o - k ≡ at + (plain_size o - k)
     back CharacterOrdering.Unordered k h = omega arith
     back CharacterOrdering.Ordered k h = omega arith
-
-    four : (o : CharacterOrdering) → at + plain_size o ≤ length b → not (eqb (get_or b at 0) 10) || not (eqb (get_or b (at + 7) 0) (first_letter o)) ≡ false
-        → eqb (get_or b (at + plain_size o - 2) 0) 48 && eqb (get_or b (at + plain_size o - 1) 0) 10 ≡ true → Told b at o
-    four o inside p q =
-        record {
-          line = eqb-true _ 10 (not-false _ (or_left _ (not (eqb (get_or b (at + 7) 0) (first_letter o))) p));
-          order = eqb-true _ (first_letter o) (not-false _ (or_right (not (eqb (get_or b at 0) 10)) _ p));
-          zero = rw (back o 2 (omega arith)) at (eqb-true (get_or b (at + plain_size o - 2) 0) 48 (and_left _ (eqb (get_or b (at + plain_size o - 1) 0) 10) q));
-          end = rw (back o 1 (omega arith)) at (eqb-true (get_or b (at + plain_size o - 1) 0) 10 (and_right (eqb (get_or b (at + plain_size o - 2) 0) 48) _ q));
-        }
 
 -- Such a character has no entry, and its type is put at once.
 module _ (b : List ℕ) (i k total : ℕ) (more : k < total) (label : ℕ) (l : LabelFound b i label) (o : CharacterOrdering) (p : PlainAt b label o) where

@@ -13,7 +13,7 @@ use Rattle.record.specs.Spell.{escape, escaped}
 use Rattle.writing.specs.FormPut.{QuotedPut}
 use Rattle.writing.specs.QuotedNames.{RestQuoted, Run, all_plain, special}
 use Rattle.writing.specs.declared.Putting.{Putting}
-use borrow.Author.Tests.{ne_eqb, not-true}
+use borrow.Author.Tests.{eq-eqb, eqb-false, ne_eqb, not-true}
 use lib.Dec.{eqb}
 use lib.ListN.{length, get_or, drop, take, drop_of_length-le, length-append, length-drop, get_or-eq_default}
 use lib.Seq.{append_snoc, get_or-drop, take-append_seam}
@@ -46,6 +46,19 @@ escaped-append : (l r : List ℕ) → escaped (l ++ r) ≡ escaped l ++ escaped 
 unfolding escaped
 escaped-append [] r = refl
 escaped-append (b ∷ l) r = rw (escaped-append l r) (sym (append_assoc (escape b) (escaped l) (escaped r)))
+
+-- A byte that is one of the four, and one that is none of them.
+pub is-special : (b : ℕ) → ((b ≡ 10 → ⊥) → (b ≡ 92 → ⊥) → (b ≡ 39 → ⊥) → b ≡ 32) → special b ≡ true
+unfolding special
+is-special b one =
+    by-test (eqb b 10) (λ t. rw t)
+    (λ f. by-test (eqb b 92) (λ t. rw (f, t))
+    (λ g. by-test (eqb b 39) (λ t. rw (f, g, t))
+    (λ h. rw (f, g, h, eq-eqb b 32 (one (eqb-false b 10 f) (eqb-false b 92 g) (eqb-false b 39 h))))))
+
+pub not-special : (b : ℕ) → (b ≡ 10 → ⊥) → (b ≡ 92 → ⊥) → (b ≡ 39 → ⊥) → (b ≡ 32 → ⊥) → special b ≡ false
+unfolding special
+not-special b line slash quote blank = rw (ne_eqb b 10 line, ne_eqb b 92 slash, ne_eqb b 39 quote, ne_eqb b 32 blank)
 
 -- Bytes that stand as they are, in the record and in quotes.
 plain_byte : (b : ℕ) → special b ≡ false → (eqb b 10 ≡ false) × (eqb b 92 ≡ false) × (eqb b 39 ≡ false) × (eqb b 32 ≡ false)

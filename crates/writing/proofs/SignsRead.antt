@@ -3,18 +3,19 @@ use Prim.Native.Nat.{ℕ, ◌+◌, ◌*◌, ◌-◌, ◌/◌, ◌%◌, ◌<◌, 
 use Rattle.block.specs.declared.data.DataType.{DataType}
 use Rattle.emit.proofs.DecimalMade.{decimal-last, decimal-one}
 use Rattle.naming.proofs.RowLaws.{drop-behind}
-use Rattle.lexer.proofs.Basics.{all-four, and_assoc, and_both, by-test}
+use Rattle.lexer.proofs.Basics.{and-false, and_both, by-test}
 use Rattle.lexer.specs.Base.{pick}
 use Rattle.record.specs.Decimal.{decimal, digit}
 use Rattle.record.specs.Form.{gap_sign, missing_sign, sign}
 use Rattle.writing.specs.CellsPut.{SignRead, sign_here, size_here, two_digits}
 use Rattle.writing.specs.Signs.{Signed, sign_by, sign_of}
 use Rattle.writing.specs.declared.cells.Sign.{Sign}
-use borrow.Author.Tests.{le-leb, leb-true, lt-leb, ltb-false, ltb-true, ne_eqb}
-use lib.Dec.{leb, ltb}
+use Rattle.std.specs.Char.{is_ascii_digit}
+use borrow.Author.Tests.{le-leb, lt-leb, ltb-false, ltb-true, ne_eqb}
+use lib.Dec.{ltb}
 use lib.ListN.{length, drop, get_or}
 use lib.Seq.{get_or-drop}
-use mathlib.Core.Bool.{true, false, ◌&&◌}
+use mathlib.Core.Bool.{Bool, true, false, ◌&&◌}
 use mathlib.Core.List.{List, [], ◌∷◌, ◌++◌}
 use mathlib.Core.Path.{◌≡◌, refl, sym, ap, ◌∙◌}
 use native.Mathlib.Nat.{add-zero}
@@ -30,19 +31,20 @@ front_rest b i y r e = drop-behind b i (y ∷ []) r e
 pub second-byte : (b : List ℕ) (i y z : ℕ) (r : List ℕ) → drop i b ≡ y ∷ z ∷ r → get_or b (i + 1) 0 ≡ z
 second-byte b i y z r e = front-byte b (i + 1) z r (front_rest b i y (z ∷ r) e)
 
--- Two bytes that are digits, and a second byte that is none.
-pub two-bounds : (y z : ℕ) → two_digits y z ≡ true → (48 ≤ y) × (y ≤ 57) × (48 ≤ z) × (z ≤ 57)
-unfolding two_digits
-two-bounds y z h =
-    let each = all-four (leb 48 y) (leb y 57) (leb 48 z) (leb z 57) (sym (and_assoc (leb 48 y && leb y 57) (leb 48 z) (leb z 57)) ∙ h) in
-    (leb-true 48 y each.0, leb-true y 57 each.1, leb-true 48 z each.2, leb-true z 57 each.3)
+-- Two bytes that are digits, and two of which the second is none.
+module _ (y z : ℕ) where
+  two-digits : 48 ≤ y → y ≤ 57 → 48 ≤ z → z ≤ 57 → two_digits y z ≡ true
+  unfolding two_digits
+  two-digits a b c d = and_both (and_both (le-leb 48 y a) (le-leb y 57 b)) (and_both (le-leb 48 z c) (le-leb z 57 d))
 
-two-digits : (y z : ℕ) → 48 ≤ y → y ≤ 57 → 48 ≤ z → z ≤ 57 → two_digits y z ≡ true
-unfolding two_digits
-two-digits y z a b c d = and_both (and_both (le-leb 48 y a) (le-leb y 57 b)) (and_both (le-leb 48 z c) (le-leb z 57 d))
+  not-two : z < 48 → two_digits y z ≡ false
+  unfolding two_digits
+  not-two h = rw (lt-leb 48 z h) (and-false _)
 
-not-two : (y z : ℕ) → z < 48 → two_digits y z ≡ false
-not-two y z h = by-test (two_digits y z) (λ t. absurd (omega (arith, (two-bounds y z t).2))) (λ f. f)
+  -- Both tests tell whether they are.
+  pub digits-told : {u v : Bool} → u ≡ is_ascii_digit y → v ≡ is_ascii_digit z → two_digits y z ≡ u && v
+  unfolding two_digits
+  digits-told p q = rw (p, q)
 
 -- A number below 74 that is not one digit is two.
 pub pair-digits : (n : ℕ) → 10 ≤ n → n < 74 → decimal n ≡ (48 + n / 10) ∷ (48 + n % 10) ∷ []

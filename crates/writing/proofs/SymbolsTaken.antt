@@ -1,50 +1,42 @@
 -- The symbols of a record among its bytes, and the first byte that is none of them. Assumes nothing.
-use Prim.Native.Nat.{ℕ, zero, suc, ◌+◌, ◌-◌, ◌<◌, ◌≤◌}
+use Prim.Native.Nat.{ℕ, ◌+◌, ◌-◌, ◌<◌, ◌≤◌}
 use Rattle.block.specs.Format.{valid_symbols}
 use Rattle.block.specs.declared.data.DataType.{DataType}
 use Rattle.judging.specs.declared.Shape.{Shape}
-use Rattle.lexer.proofs.Basics.{eqb-sym, or_left, or_right, or-first}
+use Rattle.lexer.proofs.Basics.{by-test, eqb-sym, or-first, or-second, or_left, or_right}
 use Rattle.lexer.proofs.ListLaws.{drop-next}
 use Rattle.lexer.proofs.TableLaws.{Filled}
 use Rattle.lexer.specs.Base.{among, bytes, pick}
 use Rattle.record.specs.Form.{first_free, gap_sign, missing_sign, sign}
 use Rattle.writing.specs.Signs.{Signed, SignsMade, sign_by, sign_of, symbols_at}
-use borrow.Author.Tests.{eq-eqb, ne_eqb}
-use lib.Dec.{eqb}
-use lib.ListN.{length, drop, drop_of_length-le, get_or, length-drop, length-take, take, get_or-eq_default}
-use lib.Seq.{get_or-drop, get_or-take, take-nil}
-use mathlib.Core.Bool.{Bool, true, false, ◌||◌}
+use Rattle.std.specs.List.{list_any}
+use borrow.Author.Tests.{eq-eqb, ne_eqb, le-leb, lt-leb, leb-true}
+use lib.Dec.{eqb, leb}
+use lib.ListN.{length, drop, drop_of_length-le, get_or}
+use mathlib.Core.Bool.{true, false}
 use mathlib.Core.List.{List, [], ◌∷◌}
 use mathlib.Core.Path.{◌≡◌, refl, sym, ap, ◌∙◌}
 use native.Mathlib.Omega.{arith}
 
--- Of some bytes from a place on, the first and the others.
-module _ (b : List ℕ) (x : ℕ) where
-  among-turn : (left at : ℕ) → at < length b → (left ≡ 0 → ⊥) → among x (take left (drop at b)) ≡ eqb x (get_or b at 0) || among x (take (left - 1) (drop (at + 1) b))
-  unfolding among
-  among-turn zero at h some = absurd (some refl)
-  among-turn (suc k) at h some = let less : suc k - 1 ≡ k = omega arith in rw (drop-next b at h, less)
-
-  -- A byte is found, or looked for among the others.
-  pub among-found : (left at : ℕ) → at < length b → (left ≡ 0 → ⊥) → get_or b at 0 ≡ x → among x (take left (drop at b)) ≡ true
-  among-found left at h some e = among-turn left at h some ∙ or-first (eqb x (get_or b at 0)) (among x (take (left - 1) (drop (at + 1) b))) (eq-eqb x (get_or b at 0) (sym e))
-
-  pub among_next : (left at : ℕ) → at < length b → (left ≡ 0 → ⊥) → (get_or b at 0 ≡ x → ⊥) → among x (take (left - 1) (drop (at + 1) b)) ≡ among x (take left (drop at b))
-  among_next left at h some ne = sym (among-turn left at h some ∙ rw (ne_eqb x (get_or b at 0) (λ e. ne (sym e))))
-
-  -- None is found among none.
-  pub among_none : (left at : ℕ) → left ≡ 0 → among x (take left (drop at b)) ≡ false
-  unfolding among
-  among_none left at e = rw e
-
-  pub among-past : (left at : ℕ) → length b ≤ at → among x (take left (drop at b)) ≡ false
-  unfolding among
-  among-past left at h = rw (drop_of_length-le b h, take-nil left)
-
--- A byte is taken that is another one, or found among the symbols.
-pub taken-by : (x other : ℕ) (l : List ℕ) (found t : Bool) → found ≡ among x l → eqb x other || found ≡ t → among x (other ∷ l) ≡ t
+-- A slice's `contains` looks for a byte among its bytes.
+pub among-contained : (x : ℕ) (l : List ℕ) → list_any (λ y. eqb y x) l ≡ among x l
 unfolding among
-taken-by x other l found t e h = rw e at h
+among-contained x [] = refl
+among-contained x (y ∷ l) = rw (eqb-sym y x, among-contained x l)
+
+-- A byte is taken that is another one, or is contained in the symbols.
+module _ (x other : ℕ) (l : List ℕ) where
+  pub taken-other : x ≡ other → among x (other ∷ l) ≡ true
+  unfolding among
+  taken-other e = or-first _ (among x l) (eq-eqb x other e)
+
+  pub taken-symbol : list_any (λ y. eqb y x) l ≡ true → among x (other ∷ l) ≡ true
+  unfolding among
+  taken-symbol t = or-second (eqb x other) _ (sym (among-contained x l) ∙ t)
+
+  pub taken-none : (x ≡ other → ⊥) → list_any (λ y. eqb y x) l ≡ false → among x (other ∷ l) ≡ false
+  unfolding among
+  taken-none ne f = rw (ne_eqb x other ne) (sym (among-contained x l) ∙ f)
 
 -- The first free byte is this one, or that of the others; none is free among none.
 module _ (taken l : List ℕ) (i : ℕ) (h : i < length l) where
@@ -95,16 +87,20 @@ pub table-signed : (b : List ℕ) (s : Shape) (table : List ℕ) (missing gap i 
 unfolding sign_of
 table-signed b s table missing gap i f h made few = record { few = few; each = λ k low. rw (made.of_missing, made.of_gap) at (f.entry k (omega arith)) }
 
--- The symbol of an index, and that there is none.
-module _ (b : List ℕ) (at count i : ℕ) where
-  pub symbol-here : i < count → sign (take count (drop at b)) i ≡ get_or b (at + i) 0
-  unfolding sign
-  symbol-here h = get_or-take count (drop at b) i 0 h ∙ get_or-drop at b i 0
+-- The sign of a digit, of an index, and of a byte that is no cell.
+module _ (missing gap : ℕ) (symbols : List ℕ) (b : ℕ) where
+  pub digit-signed : 48 ≤ b → b ≤ 57 → sign symbols (b - 48) ≡ sign_by missing gap symbols b
+  unfolding sign_by pick
+  digit-signed low high = rw (le-leb 48 b low, le-leb b 57 high)
 
-  pub symbol-none : count ≤ i → sign (take count (drop at b)) i ≡ 0
-  unfolding sign
-  symbol-none h = get_or-eq_default (take count (drop at b)) 0 (simp length-take (omega arith))
+  pub index-signed : 128 ≤ b → sign symbols (b - 128) ≡ sign_by missing gap symbols b
+  unfolding sign_by pick
+  index-signed h =
+      rw (le-leb 48 b (omega arith), lt-leb b 57 (omega arith), ne_eqb b 109 (λ e. omega arith), ne_eqb b 103 (λ e. omega arith), le-leb 128 b h)
 
-  pub symbol-past : length b ≤ at + i → sign (take count (drop at b)) i ≡ 0
-  unfolding sign
-  symbol-past h = get_or-eq_default (take count (drop at b)) 0 (simp (length-take, length-drop) (omega arith))
+  pub none-signed : (48 ≤ b → 57 < b) → (b ≡ 109 → ⊥) → (b ≡ 103 → ⊥) → b < 128 → 0 ≡ sign_by missing gap symbols b
+  unfolding sign_by pick
+  none-signed over m g h =
+      by-test (leb 48 b)
+      (λ t. rw (t, lt-leb b 57 (over (leb-true 48 b t)), ne_eqb b 109 m, ne_eqb b 103 g, lt-leb 128 b h))
+      (λ f. rw (f, ne_eqb b 109 m, ne_eqb b 103 g, lt-leb 128 b h))

@@ -1,6 +1,6 @@
 // The cells of a row, put by the signs of the written form.
 
-ghost use Rattle.std.specs.Prelude.{◌+◌, ◌<◌, ◌≤◌, length, ◌≡◌};
+ghost use Rattle.std.specs.Prelude.{ℕ, ◌+◌, ◌<◌, ◌≤◌, length, Some, ◌≡◌};
 ghost use Rattle.record.specs.Form.{form_set};
 ghost use Rattle.writing.specs.CellsPut.{CellPut, CellsPut, RunPut, SetPut, ShortRead, SignRead, form_within};
 
@@ -22,7 +22,8 @@ fn sign_at(source: &[u8], at: usize, signs: &[u8; 256]) -> Sign
 {
     let y = source[at];
     let z = byte_or_zero(source, at + 1);
-    if (b'0' <= y) & (y <= b'9') & ((b'0' <= z) & (z <= b'9')) {
+    // `&`, not `&&`, which costs a twentieth more instructions of a call where most cells are sets.
+    if y.is_ascii_digit() & z.is_ascii_digit() {
         let i = (y - b'0') * 10 + (z - b'0');
         return Sign {
             sign: entry_of(signs, 128 + i),
@@ -47,6 +48,7 @@ fn put_members(
 {
     let mut at = from;
     let mut m = n;
+    // A turn passes a state, or the dot behind one.
     while at < source.len() {
         let s = sign_at(source, at, signs);
         m = put(buffer, m, s.sign);
@@ -85,32 +87,26 @@ fn put_cell(source: &[u8], at: usize, signs: &[u8; 256], buffer: &mut [u8], n: u
     if source.len() <= at {
         return Putting { at, n };
     }
-    let b = source[at];
-    if b == b'u' {
-        return put_set(source, at, signs, buffer, n, b'{', b'}');
+    match source[at] {
+        b'u' => put_set(source, at, signs, buffer, n, b'{', b'}'),
+        b'p' => put_set(source, at, signs, buffer, n, b'(', b')'),
+        _ => {
+            let s = sign_at(source, at, signs);
+            let end = put(buffer, n, s.sign);
+            Putting { at: s.at, n: end }
+        }
     }
-    if b == b'p' {
-        return put_set(source, at, signs, buffer, n, b'(', b')');
-    }
-    let s = sign_at(source, at, signs);
-    let end = put(buffer, n, s.sign);
-    Putting { at: s.at, n: end }
 }
 
-// The sign of the cell of one byte that stands at a place with a blank behind it; 0 for no such cell.
-fn short_sign(source: &[u8], at: usize, signs: &[u8; 256]) -> u8
-    ensures { (result ≡ 0 → ⊥) → ShortRead source.now signs.now at result }
+// The sign of the cell of one byte that stands at a place with a blank behind it, if there is such a cell.
+fn short_sign(source: &[u8], at: usize, signs: &[u8; 256]) -> Option<u8>
+    ensures { (s : ℕ) → result ≡ Some s → (s ≡ 0 → ⊥) × ShortRead source.now signs.now at s }
 {
-    if source.len() < 2 {
-        return 0;
+    if source.len() < 2 || source.len() - 2 < at || source[at + 1] != b' ' {
+        return None;
     }
-    if source.len() - 2 < at {
-        return 0;
-    }
-    if source[at + 1] != b' ' {
-        return 0;
-    }
-    entry_of(signs, source[at])
+    let s = entry_of(signs, source[at]);
+    if s == 0 { None } else { Some(s) }
 }
 
 // Puts cells of one byte each from a place on, as long as a blank stands behind each.
@@ -119,14 +115,11 @@ fn put_run(source: &[u8], from: usize, signs: &[u8; 256], buffer: &mut [u8], n: 
 {
     let mut at = from;
     let mut m = n;
-    loop {
-        let s = short_sign(source, at, signs);
-        if s == 0 {
-            return Putting { at, n: m };
-        }
+    while let Some(s) = short_sign(source, at, signs) {
         m = put(buffer, m, s);
         at += 2;
     }
+    Putting { at, n: m }
 }
 
 // Puts the cells of the row that stands at a place: cells of one byte each, then any cell, and so on up to the LF.

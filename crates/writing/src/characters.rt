@@ -1,6 +1,6 @@
 // The characters of a record where their lines stand: their labels and types put as the written form has them. Places may be behind the end of the bytes.
 
-ghost use Rattle.std.specs.Prelude.{◌+◌, ◌≤◌, min, length, true, ◌≡◌};
+ghost use Rattle.std.specs.Prelude.{ℕ, ◌+◌, ◌≤◌, min, length, true, Some, ◌≡◌};
 ghost use Rattle.emit.specs.Puts.{Puts};
 ghost use Rattle.record.specs.Form.{comma, form_each, form_states};
 ghost use Rattle.writing.specs.CharacterLines.{AssumptionsPut, EntriesPut, EntryPut, LabelFound, LabelPut, LabelsPut, LabelsTold, LineBehind, NextFound, OrderFound, PlainAt, first_letter, plain_size, StatesFound, StatesPut, TypePut, TypesPut};
@@ -16,13 +16,7 @@ use lexer::byte_or_zero;
 fn skip(source: &[u8], at: usize, count: usize) -> usize
     ensures { result ≡ min (at + count) (length source.now) }
 {
-    if source.len() <= at {
-        return source.len();
-    }
-    if source.len() - at <= count {
-        return source.len();
-    }
-    at + count
+    at.saturating_add(count).min(source.len())
 }
 
 // The place behind the next LF.
@@ -30,14 +24,12 @@ fn behind_line(source: &[u8], at: usize) -> usize
     ensures ahead { at ≤ result }
     ensures found { LineBehind source.now at result }
 {
-    let mut i = at;
-    while i < source.len() {
+    for i in at..source.len() {
         if source[i] == b'\n' {
             return i + 1;
         }
-        i += 1;
     }
-    i
+    at.max(source.len())
 }
 
 // Where the label begins of the character that begins at a place: behind its number and a key.
@@ -68,10 +60,7 @@ fn next_at(source: &[u8], at: usize) -> usize
     ensures { NextFound source.now at result }
 {
     let mut i = at;
-    while i < source.len() {
-        if source[i] != b's' {
-            return i;
-        }
+    while byte_or_zero(source, i) == b's' {
         i = behind_line(source, i + 1);
     }
     i
@@ -81,7 +70,7 @@ fn next_at(source: &[u8], at: usize) -> usize
 fn is_labelled(source: &[u8], label: usize, states: usize) -> bool
     ensures { LabelsTold source.now label states result }
 {
-    (byte_or_zero(source, label) != b'\n') | (byte_or_zero(source, states) == b's')
+    byte_or_zero(source, label) != b'\n' || byte_or_zero(source, states) == b's'
 }
 
 // How many bytes a character of a type that has neither a label nor state labels has from the place of its label on.
@@ -104,22 +93,24 @@ fn first_letter(ordering: CharacterOrdering) -> u8
     }
 }
 
-// Do bytes tell that the character whose label begins at a place has neither a label nor state labels, and is of this type? Most characters are such.
-fn is_plain(source: &[u8], label: usize, ordering: CharacterOrdering) -> bool
-    ensures { result ≡ true → PlainAt source.now label ordering }
+// Where the lines of the character end whose label begins at a place, if bytes tell that it has neither a label nor state labels, and is of this type.
+// Most characters are such.
+fn plain_end(source: &[u8], label: usize, ordering: CharacterOrdering) -> Option<usize>
+    ensures { (next : ℕ) → result ≡ Some next → (next ≡ label + plain_size ordering) × PlainAt source.now label ordering }
 {
     let size = plain_size(ordering);
-    if source.len() <= label {
-        return false;
-    }
-    if source.len() - label < size {
-        return false;
-    }
-    if (source[label] != b'\n') | (source[label + 7] != first_letter(ordering)) {
-        return false;
+    if source.len() <= label || source.len() - label < size {
+        return None;
     }
     let end = label + size;
-    (source[end - 2] == b'0') & (source[end - 1] == b'\n')
+    if source[label] != b'\n'
+        || source[label + 7] != first_letter(ordering)
+        || source[end - 2] != b'0'
+        || source[end - 1] != b'\n'
+    {
+        return None;
+    }
+    Some(end)
 }
 
 // Puts the label that begins at a place, with a blank before it, if it is not empty.
@@ -140,10 +131,7 @@ fn put_each(source: &[u8], at: usize, buffer: &mut [u8], n: usize) -> Putting
 {
     let mut i = at;
     let mut m = n;
-    while i < source.len() {
-        if source[i] != b's' {
-            return Putting { at: i, n: m };
-        }
+    while byte_or_zero(source, i) == b's' {
         m = put(buffer, m, b' ');
         let quoted = put_quoted(source, skip(source, i, 6), buffer, m);
         i = quoted.at;
@@ -204,24 +192,23 @@ fn put_entries(
 {
     let mut i = at;
     let mut m = n;
-    let mut k: usize = 0;
     let mut first = true;
-    while k < characters.0 {
+    for k in 0..characters.0 {
         let label = label_at(source, i);
-        k += 1;
-        if is_plain(source, label, CharacterOrdering::Unordered) {
-            i = label + 22;
+        if let Some(next) = plain_end(source, label, CharacterOrdering::Unordered) {
+            i = next;
             continue;
         }
         let states = states_at(source, order_at(source, label));
-        if is_labelled(source, label, states) {
-            let entry = put_entry(source, label, states, first, CharacterNumber(k), buffer, m);
-            i = entry.at;
-            m = entry.n;
-            first = false;
-        } else {
+        if !is_labelled(source, label, states) {
             i = states;
+            continue;
         }
+        let number = CharacterNumber(k + 1);
+        let entry = put_entry(source, label, states, first, number, buffer, m);
+        i = entry.at;
+        m = entry.n;
+        first = false;
     }
     m
 }
@@ -248,18 +235,16 @@ fn put_types(
 {
     let mut i = at;
     let mut m = n;
-    let mut k: usize = 0;
-    while k < characters.0 {
+    for _ in 0..characters.0 {
         let label = label_at(source, i);
-        k += 1;
-        if is_plain(source, label, CharacterOrdering::Unordered) {
+        if let Some(next) = plain_end(source, label, CharacterOrdering::Unordered) {
             m = put_all(buffer, m, b" UNORD");
-            i = label + 22;
+            i = next;
             continue;
         }
-        if is_plain(source, label, CharacterOrdering::Ordered) {
+        if let Some(next) = plain_end(source, label, CharacterOrdering::Ordered) {
             m = put_all(buffer, m, b" ORD");
-            i = label + 20;
+            i = next;
             continue;
         }
         let order = order_at(source, label);

@@ -6,6 +6,7 @@ ghost use Rattle.writing.specs.RowsPut.{form_counts, form_standard};
 ghost use Rattle.writing.specs.Signs.{SignsMade, symbols_at};
 ghost use Rattle.std.specs.Prelude.{drop, take, ◌++◌};
 
+use super::signs::{Marks, symbols_at};
 use block::{CharacterNumber, DataType, TaxonNumber};
 use emit::{put, put_all, put_decimal};
 use judging::Shape;
@@ -26,64 +27,35 @@ pub fn put_dimensions(
     put_all(buffer, columns, b";\n")
 }
 
-// Puts so many bytes from a place on, as far as there are so many.
-fn put_symbols(source: &[u8], at: usize, count: usize, buffer: &mut [u8], n: usize) -> usize
-    ensures { Puts buffer.old n (λ behind. take count (drop at source.now) ++ behind) buffer.new result }
-{
-    if source.len() <= at {
-        return n;
-    }
-    if source.len() - at < count {
-        return put_all(buffer, n, &source[at..]);
-    }
-    let end = at + count;
-    put_all(buffer, n, &source[at..end])
-}
-
-// Puts the option GAP, if there are gaps.
+// Puts the option GAP, if there are gaps. The sign and whether there are any stay apart, as `gap_option` has them.
 fn put_gap(buffer: &mut [u8], n: usize, sign: u8, gaps: bool) -> usize
     ensures { Puts buffer.old n (gap_option sign gaps) buffer.new result }
 {
-    if gaps {
-        let at = put_all(buffer, n, b" GAP=");
-        return put(buffer, at, sign);
+    if !gaps {
+        return n;
     }
-    n
+    let at = put_all(buffer, n, b" GAP=");
+    put(buffer, at, sign)
 }
 
 // Puts FORMAT of a record with its own symbols.
-fn put_standard(
-    source: &[u8],
-    shape: Shape,
-    missing: u8,
-    gap: u8,
-    buffer: &mut [u8],
-    n: usize,
-) -> usize
-    ensures { Puts buffer.old n (form_standard missing gap (symbols_at source.now shape) shape.gaps) buffer.new result }
+fn put_standard(source: &[u8], shape: Shape, marks: Marks, buffer: &mut [u8], n: usize) -> usize
+    ensures { Puts buffer.old n (form_standard marks.missing marks.gap (symbols_at source.now shape) shape.gaps) buffer.new result }
 {
     let command = put_all(buffer, n, b"FORMAT DATATYPE=STANDARD RESPECTCASE MISSING=");
-    let sign = put(buffer, command, missing);
-    let option = put_gap(buffer, sign, gap, shape.gaps);
+    let sign = put(buffer, command, marks.missing);
+    let option = put_gap(buffer, sign, marks.gap, shape.gaps);
     let list = put_all(buffer, option, b" SYMBOLS=\"");
-    let end = put_symbols(source, shape.symbols, shape.states, buffer, list);
+    let end = put_all(buffer, list, symbols_at(source, shape));
     put_all(buffer, end, b"\";\n")
 }
 
 // Puts FORMAT, by the signs of a missing cell and of a gap.
-pub fn put_format(
-    source: &[u8],
-    shape: Shape,
-    missing: u8,
-    gap: u8,
-    buffer: &mut [u8],
-    n: usize,
-) -> usize
-    ensures { SignsMade source.now shape missing gap → Puts buffer.old n (form_format shape.data_type (symbols_at source.now shape) shape.gaps) buffer.new result }
+pub fn put_format(source: &[u8], shape: Shape, marks: Marks, buffer: &mut [u8], n: usize) -> usize
+    ensures { SignsMade source.now shape marks.missing marks.gap → Puts buffer.old n (form_format shape.data_type (symbols_at source.now shape) shape.gaps) buffer.new result }
 {
-    let data_type = shape.data_type;
-    match data_type {
-        DataType::Standard => put_standard(source, shape, missing, gap, buffer, n),
+    match shape.data_type {
+        DataType::Standard => put_standard(source, shape, marks, buffer, n),
         DataType::Dna => put_all(buffer, n, b"FORMAT DATATYPE=DNA MISSING=? GAP=-;\n"),
     }
 }

@@ -1,11 +1,11 @@
 // Names of a record put in single quotes, as the written form has them.
 
-ghost use Rattle.std.specs.Prelude.{◌≤◌, eqb, ◌++◌, ◌≡◌};
+ghost use Rattle.std.specs.Prelude.{◌≤◌, eqb, length, ◌++◌, ◌≡◌};
 ghost use Rattle.emit.specs.Puts.{Puts};
 ghost use Rattle.lexer.specs.Base.{pick};
 ghost use Rattle.record.specs.Form.{quote};
 ghost use Rattle.writing.specs.FormPut.{QuotedPut};
-ghost use Rattle.writing.specs.QuotedNames.{Run};
+ghost use Rattle.writing.specs.QuotedNames.{Run, special};
 
 use super::Putting;
 use emit::{put, put_all};
@@ -14,47 +14,48 @@ use emit::{put, put_all};
 fn put_byte(buffer: &mut [u8], n: usize, b: u8) -> usize
     ensures { Puts buffer.old n (λ behind. quote b ++ behind) buffer.new result }
 {
-    if b == b'\'' {
-        return put_all(buffer, n, b"''");
+    match b {
+        b'\'' => put_all(buffer, n, b"''"),
+        b' ' => put(buffer, n, b'_'),
+        _ => put(buffer, n, b),
     }
-    if b == b' ' {
-        return put(buffer, n, b'_');
-    }
-    put(buffer, n, b)
 }
 
 // The byte that a backslash before this byte means in a name that was judged: LF before `0`, else a backslash.
 fn meant(b: u8) -> u8
     ensures { result ≡ pick (eqb b 48) 10 92 }
 {
-    if b == b'0' {
-        return b'\n';
-    }
-    b'\\'
+    if b == b'0' { b'\n' } else { b'\\' }
+}
+
+// Is a byte of a name written neither in the record nor in quotes as itself?
+fn special(b: u8) -> bool
+    ensures { result ≡ special b }
+{
+    matches!(b, b'\n' | b'\\' | b'\'' | b' ')
 }
 
 // Behind the bytes from `from` on that stand in quotes as they are: neither LF, backslash, quote nor blank.
 fn plain_run(source: &[u8], from: usize) -> usize
+    requires { from ≤ length source.now }
     ensures { Run source.now from result }
 {
-    let mut at = from;
-    while at < source.len() {
-        let b = source[at];
-        if (b == b'\n') | (b == b'\\') | ((b == b'\'') | (b == b' ')) {
+    for at in from..source.len() {
+        if special(source[at]) {
             return at;
         }
-        at += 1;
     }
-    at
+    source.len()
 }
 
-// Puts in quotes the name that stands at a place; it ends at an LF. Whatever stands there, the next place is not in front of it.
+// Puts in quotes the name that stands at a place, up to its LF. Whatever stands there, the next place is not in front of it.
 pub fn put_quoted(source: &[u8], at: usize, buffer: &mut [u8], n: usize) -> Putting
     ensures ahead { at ≤ result.at }
     ensures put { QuotedPut source.now at buffer.old n buffer.new result }
 {
     let mut m = put(buffer, n, b'\'');
     let mut i = at;
+    // A turn passes a run, a byte, or a backslash and a byte.
     while i < source.len() {
         let b = source[i];
         if b == b'\n' {

@@ -35,12 +35,10 @@ pub fn put_rows(
 {
     let mut at = from;
     let mut m = n;
-    let mut i = 0;
-    while i < taxa.0 {
+    for _ in 0..taxa.0 {
         let row = put_row(source, at, signs, buffer, m);
         at = row.at;
         m = row.n;
-        i += 1;
     }
     m
 }

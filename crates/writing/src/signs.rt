@@ -1,128 +1,91 @@
 // The signs of the written form: those of missing and of a gap, and a table of all by the bytes of a record's cells.
 
-ghost use Rattle.std.specs.Prelude.{◌≤◌, drop, length, take, ◌∷◌, ◌≡◌};
+ghost use Rattle.std.specs.Prelude.{◌≤◌, length, ◌∷◌, ◌≡◌};
 ghost use Rattle.block.specs.Format.{valid_symbols};
-ghost use Rattle.lexer.specs.Base.{among};
-ghost use Rattle.record.specs.Form.{first_free, missing_sign, sign};
+ghost use Rattle.record.specs.Form.{first_free};
 ghost use Rattle.writing.specs.Signs.{Signed, SignsMade, sign_by, symbols_at};
 
 use block::DataType;
 use judging::Shape;
+use lexer::byte_or_zero;
 
-// Is a byte among so many bytes from a place on?
-fn is_symbol(source: &[u8], from: usize, count: usize, b: u8) -> bool
-    ensures { result ≡ among b (take count (drop from source.now)) }
-{
-    let mut at = from;
-    let mut left = count;
-    while at < source.len() {
-        if left == 0 {
-            return false;
-        }
-        if source[at] == b {
-            return true;
-        }
-        at += 1;
-        left -= 1;
-    }
-    false
+// The signs of a missing cell and of a gap.
+#[derive(Clone, Copy)]
+pub struct Marks {
+    pub missing: u8,
+    pub gap: u8,
 }
 
-// The first of some bytes that is not among so many bytes from a place on, nor another byte; 0 for none.
-fn first_free(source: &[u8], from: usize, count: usize, other: u8, bytes: &[u8]) -> u8
-    ensures { result ≡ first_free (other ∷ take count (drop from source.now)) bytes.now }
+// The symbols of a record that has a shape, as they stand in it.
+pub fn symbols_at<'a>(source: &'a [u8], shape: Shape) -> &'a [u8]
+    ensures { result.now ≡ symbols_at source.now shape }
 {
-    let mut i = 0;
-    while i < bytes.len() {
-        let b = bytes[i];
-        let taken = (b == other) | is_symbol(source, from, count, b);
-        if !taken {
+    let behind = source.get(shape.symbols..).unwrap_or(&[]);
+    &behind[..behind.len().min(shape.states)]
+}
+
+// The first of some bytes that is no symbol, nor another byte; 0 for none, and no `Option`, as `first_free` of record/specs/Form.antt has it.
+fn first_free(symbols: &[u8], other: u8, bytes: &[u8]) -> u8
+    ensures { result ≡ first_free (other ∷ symbols.now) bytes.now }
+{
+    for &b in bytes {
+        if b != other && !symbols.contains(&b) {
             return b;
         }
-        i += 1;
     }
     0
 }
 
 // The lowest valid symbol that is not among a record's symbols, nor another byte.
-fn free_sign(source: &[u8], shape: Shape, other: u8) -> u8
-    ensures { result ≡ first_free (other ∷ symbols_at source.now shape) valid_symbols }
+fn free_sign(symbols: &[u8], other: u8) -> u8
+    ensures { result ≡ first_free (other ∷ symbols.now) valid_symbols }
 {
     first_free(
-        source,
-        shape.symbols,
-        shape.states,
+        symbols,
         other,
         b"!#$%&+-.0123456789?@ABCDEFGHIJKLMNOPQRSTUVWXYZ_abcdefghijklmnopqrstuvwxyz|",
     )
 }
 
-// The sign of a missing cell.
-pub fn missing_sign(source: &[u8], shape: Shape) -> u8
-    ensures { result ≡ missing_sign shape.data_type (symbols_at source.now shape) }
+// The signs of a missing cell and of a gap, of a record that has a shape.
+pub fn marks_of(source: &[u8], shape: Shape) -> Marks
+    ensures { SignsMade source.now shape result.missing result.gap }
 {
-    let data_type = shape.data_type;
-    match data_type {
-        DataType::Standard => free_sign(source, shape, 0),
-        DataType::Dna => b'?',
+    match shape.data_type {
+        DataType::Standard => {
+            let symbols = symbols_at(source, shape);
+            let missing = free_sign(symbols, 0);
+            let gap = free_sign(symbols, missing);
+            Marks { missing, gap }
+        }
+        DataType::Dna => Marks {
+            missing: b'?',
+            gap: b'-',
+        },
     }
 }
 
-// The sign of a gap, by that of a missing cell.
-pub fn gap_sign(source: &[u8], shape: Shape, missing: u8) -> u8
-    ensures { missing ≡ missing_sign shape.data_type (symbols_at source.now shape) → SignsMade source.now shape missing result }
+// The sign of a cell that is one byte, and from 128 on of an index; 0 for none, and no `Option`, since the table holds it as one byte.
+fn byte_sign(symbols: &[u8], marks: Marks, b: u8) -> u8
+    ensures { result ≡ sign_by marks.missing marks.gap symbols.now b }
 {
-    let data_type = shape.data_type;
-    match data_type {
-        DataType::Standard => free_sign(source, shape, missing),
-        DataType::Dna => b'-',
+    match b {
+        b'0'..=b'9' => byte_or_zero(symbols, (b - b'0') as usize),
+        b'm' => marks.missing,
+        b'g' => marks.gap,
+        128.. => byte_or_zero(symbols, (b - 128) as usize),
+        _ => 0,
     }
 }
 
-// The symbol of an index, of so many from a place on; 0 for none.
-fn symbol_at(source: &[u8], at: usize, count: usize, i: usize) -> u8
-    ensures { result ≡ sign (take count (drop at source.now)) i }
+// The signs of a record's cells, by those of missing and of a gap.
+pub fn sign_table(source: &[u8], shape: Shape, marks: Marks) -> [u8; 256]
+    ensures { SignsMade source.now shape marks.missing marks.gap → length (symbols_at source.now shape) ≤ 74 → Signed shape.data_type (symbols_at source.now shape) result }
 {
-    if count <= i {
-        return 0;
-    }
-    if source.len() <= at {
-        return 0;
-    }
-    if source.len() - at <= i {
-        return 0;
-    }
-    source[at + i]
-}
-
-// The sign of a cell that is one byte, and from 128 on of an index; 0 for none.
-fn byte_sign(source: &[u8], at: usize, count: usize, missing: u8, gap: u8, b: u8) -> u8
-    ensures { result ≡ sign_by missing gap (take count (drop at source.now)) b }
-{
-    if (b'0' <= b) & (b <= b'9') {
-        return symbol_at(source, at, count, (b - b'0') as usize);
-    }
-    if b == b'm' {
-        return missing;
-    }
-    if b == b'g' {
-        return gap;
-    }
-    if 128 <= b {
-        return symbol_at(source, at, count, (b - 128) as usize);
-    }
-    0
-}
-
-// The signs of a record's cells, by those of a missing cell and of a gap.
-pub fn sign_table(source: &[u8], shape: Shape, missing: u8, gap: u8) -> [u8; 256]
-    ensures { SignsMade source.now shape missing gap → length (symbols_at source.now shape) ≤ 74 → Signed shape.data_type (symbols_at source.now shape) result }
-{
+    let symbols = symbols_at(source, shape);
     let mut table = [0u8; 256];
-    let mut i = 0;
-    while i < 256 {
-        table[i] = byte_sign(source, shape.symbols, shape.states, missing, gap, i as u8);
-        i += 1;
+    for i in 0..256 {
+        table[i] = byte_sign(symbols, marks, i as u8);
     }
     table
 }

@@ -43,7 +43,7 @@ fn is_part(c: char) -> bool {
 }
 
 /// Words in front of what a line defines: some that say what it is, and others.
-const KINDS: [&str; 6] = ["fn ", "struct ", "enum ", "const ", "record ", "data "];
+const KINDS: [&str; 7] = ["type ", "fn ", "struct ", "enum ", "const ", "record ", "data "];
 const MODIFIERS: [&str; 4] = ["pub ", "abbrev ", "unfoldable ", "extern \"C\" "];
 
 /// Whether a line defines a name: with its kind, or as `name :`, which is how `.antt` begins a definition, a field and a constructor.
@@ -77,6 +77,7 @@ fn what_is_only_met_is_not_defined() {
         "pub extern \"C\" fn a(",
         "    pub const a: usize = 1;",
         "pub enum a {",
+        "pub type a = b<c>;",
         "pub record a (r : Reading) : Type 0 where",
         "  pub a : List ℕ",
         "  a : ℕ → b",

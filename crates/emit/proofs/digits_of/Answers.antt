@@ -1,17 +1,15 @@
 -- The function `digits_of` meets its contract: between two powers of ten the count is known. Assumes nothing.
-use Rattle.emit.proofs.DigitsStored.{digits_between}
+use Prim.Native.Nat.{◌+◌, ◌^◌, ◌<◌}
+use Rattle.emit.proofs.DigitsStored.{digits-one, digits_between}
 use mathlib.Core.Path.{sym}
+use Rattle.std.proofs.lemmas.Grind.{pow_more}
 use native.Mathlib.Omega.{arith}
 use Rattle.emit.proofs.digits_of.Goals as goal
 
-pub returns-then-value-lt10000 : goal.returns-then-value-lt10000
-returns-then-value-lt10000 c = sym (digits_between 3 _ (omega arith) (omega arith))
+pub returns-then-value-eq0 : goal.returns-then-value-eq0
+returns-then-value-eq0 c = sym (digits-one _ (omega arith))
 
-pub returns-then-value-lt100000 : goal.returns-then-value-lt100000
-returns-then-value-lt100000 c = sym (digits_between 4 _ (omega arith) (omega arith))
-
-pub returns-then-value-lt1000000 : goal.returns-then-value-lt1000000
-returns-then-value-lt1000000 c = sym (digits_between 5 _ (omega arith) (omega arith))
-
-pub returns-then-value-lt10000000 : goal.returns-then-value-lt10000000
-returns-then-value-lt10000000 c = sym (digits_between 6 _ (omega arith) (omega arith))
+pub returns : goal.returns
+returns c =
+    let high : c.args.value < 10 ^ (c.ilog10.result + 1) = rw (pow_more 10 c.ilog10.result) (omega (arith, c.ilog10.ensures.next_power_gt)) in
+    sym (digits_between c.ilog10.result _ c.ilog10.ensures.power_le high)

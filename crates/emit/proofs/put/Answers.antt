@@ -1,13 +1,9 @@
--- The function `put` meets its contract: a byte that has room, one that has none, and one behind the last place. Assumes nothing.
-use Rattle.emit.proofs.PutLaws.{byte_last, byte_past, byte-written}
-use native.Mathlib.Omega.{arith}
+-- The function `put` meets its contract: a byte that has room, and one that has none. Assumes nothing.
+use Rattle.emit.proofs.PutLaws.{byte_past, byte-written}
 use Rattle.emit.proofs.put.Goals as goal
 
 pub returns-then-n-buffer : goal.returns-then-n-buffer
 returns-then-n-buffer c = byte-written _ _ _
 
-pub returns-then-n-lt18446744073709551615 : goal.returns-then-n-lt18446744073709551615
-returns-then-n-lt18446744073709551615 c = byte_past _ _ _ (omega arith)
-
 pub returns : goal.returns
-returns c = byte_last _ _ _ (omega arith) (omega arith)
+returns c = rw c.saturating_add.ensures (byte_past _ _ _ c.if-n-buffer.false c.ranges.n.fits)

@@ -3,10 +3,6 @@ use mathlib.Core.Path.{◌∙◌}
 use native.Mathlib.Omega.{arith}
 use Rattle.emit.proofs.put_digits.Goals as goal
 
--- the parts of a fact as the clauses of the contract
-both : {A B : Type 0} → A × B → record { puts : A; upper_bound : B }
-both p = record { puts = p.0; upper_bound = p.1 }
-
 pub overflow_add-end : goal.overflow_add-end
 overflow_add-end c = omega (arith, c.digits_of.ensures, digits-most 19 c.args.value (omega arith), c.requires)
 
@@ -29,10 +25,7 @@ bounds-buffer-n c =
 
 pub returns-then-rest-lt10 : goal.returns-then-rest-lt10
 returns-then-rest-lt10 c =
-    both (rw c.last_digit.ensures (digits-put _ _ _ _ _ (omega arith) (storing-end _ _ _ _ _ _ c.loop-rest.invariant c.if-rest-lt10.true) c.digits_of.ensures))
-
-pub shape_of-buffer-then-rest-lt10 : goal.shape_of-buffer-then-rest-lt10
-shape_of-buffer-then-rest-lt10 c = (returns-then-rest-lt10 c).puts.kept
+    rw c.last_digit.ensures (digits-put _ _ _ _ _ (omega arith) (storing-end _ _ _ _ _ _ c.loop-rest.invariant c.if-rest-lt10.true) c.digits_of.ensures)
 
 pub store_pair-requires-2 : goal.store_pair-requires-2
 store_pair-requires-2 c =
@@ -40,7 +33,4 @@ store_pair-requires-2 c =
 
 pub returns : goal.returns
 returns c =
-    both (digits-put _ _ _ _ _ (omega arith) (c.store_pair-2.ensures ∙ storing-last _ _ _ _ _ _ c.loop-rest.invariant c.if-rest-lt10.false (omega arith)) c.digits_of.ensures)
-
-pub shape_of-buffer : goal.shape_of-buffer
-shape_of-buffer c = (returns c).puts.kept
+    digits-put _ _ _ _ _ (omega arith) (c.store_pair-2.ensures ∙ storing-last _ _ _ _ _ _ c.loop-rest.invariant c.if-rest-lt10.false (omega arith)) c.digits_of.ensures

@@ -1,17 +1,9 @@
 -- The function `look_at` meets its contract: a record's rows stand where its shape says. Assumes nothing.
-use Rattle.lookup.proofs.LookLaws.{record-sought, at-ordered, at-looked, none-looked, wrong-looked}
+use Rattle.lookup.proofs.LookLaws.{record-sought, sought-looked, wrong-looked}
 use Rattle.lookup.proofs.look_at.Goals as goal
 
-pub overflow_sub-result : goal.overflow_sub-result
-overflow_sub-result c = at-ordered (record-sought c.judge.ensures _ c.in-Record.is c.find_cells.ensures) c.in-At.is
+pub returns : goal.returns
+returns c = rw c.ok_or.ensures.value (sought-looked _ (record-sought c.judge.ensures _ c.in-Some.is c.find_cells.ensures))
 
-pub returns-in-At : goal.returns-in-At
-returns-in-At c =
-    at-looked (record-sought c.judge.ensures _ c.in-Record.is c.find_cells.ensures) c.in-At.is
-
-pub returns-in-None : goal.returns-in-None
-returns-in-None c =
-    none-looked (record-sought c.judge.ensures _ c.in-Record.is c.find_cells.ensures) c.in-None.is c.refused.ensures
-
-pub returns-in-Wrong : goal.returns-in-Wrong
-returns-in-Wrong c = wrong-looked c.judge.ensures c.in-Wrong.is c.refused-in-Wrong.ensures
+pub returns-in_default : goal.returns-in_default
+returns-in_default c = wrong-looked c.judge.ensures c.in_default.is

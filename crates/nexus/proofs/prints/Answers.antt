@@ -7,10 +7,10 @@ pub returns-then-input-gt1024 : goal.returns-then-input-gt1024
 returns-then-input-gt1024 c =
     long-prints _ c.if-input-gt1024.true _ _ c.put_refusal.ensures
 
-pub returns-in-Length : goal.returns-in-Length
-returns-in-Length c =
-    length-prints _ c.if-input-gt1024.false _ _ _ _ (search rules) c.requires _ c.read.ensures _ c.in-Length.is
+pub returns-in-Ok : goal.returns-in-Ok
+returns-in-Ok c =
+    length-prints _ c.if-input-gt1024.false _ _ _ _ (search rules) c.requires _ c.read.ensures _ c.in-Ok.is
 
-pub returns-in-Refused : goal.returns-in-Refused
-returns-in-Refused c =
-    refusal-prints _ c.if-input-gt1024.false _ _ _ _ (search rules) c.requires _ c.read.ensures _ _ c.in-Refused.is _ c.refusal_number.ensures _ _ c.put_refusal-in-Refused.ensures
+pub returns-in-Err : goal.returns-in-Err
+returns-in-Err c =
+    refusal-prints _ c.if-input-gt1024.false _ _ _ _ (search rules) c.requires _ c.read.ensures _ _ c.in-Err.is _ c.refusal_number.ensures _ _ c.put_refusal-in-Err.ensures

@@ -1,9 +1,21 @@
 -- The function nexus_lookup meets its contract: the answer of the lookup, number by number. Assumes nothing.
-use mathlib.Core.Path.{ap}
-use Rattle.lookup.specs.declared.Looked.{Looked}
-use Rattle.lookup.specs.Finding.{looked_as}
+use Rattle.lookup.specs.Finding.{found_as}
+use Rattle.record.specs.Calls.{Found, not_found}
+use mathlib.Core.Path.{ap, ◌∙◌}
 use Rattle.nexus_c.proofs.nexus_lookup.Goals as goal
 
-pub returns : goal.returns
-unfolding looked_as
-returns c = let e = c.look_at-looked.ensures.told in record { number = ap (λ (l : Looked). l.number) e; start = ap (λ (l : Looked). l.start) e; result = ap (λ (l : Looked). l.size) e }
+pub returns-in-Ok : goal.returns-in-Ok
+unfolding found_as
+returns-in-Ok c =
+    let e = c.in-Ok.ensures.told in
+    record { number = ap (λ (f : Found). f.refused) e; start = ap (λ (f : Found). f.stretch.start) e; result = ap (λ (f : Found). f.stretch.size) e }
+
+pub returns-in-Err : goal.returns-in-Err
+unfolding found_as not_found
+returns-in-Err c =
+    let e = c.in-Err.ensures.told in
+    record {
+      number = c.refusal_number.ensures ∙ ap (λ (f : Found). f.refused) e;
+      start = ap (λ (f : Found). f.stretch.start) e;
+      result = ap (λ (f : Found). f.stretch.size) e;
+    }

@@ -2,12 +2,12 @@
 use Rattle.nexus_c.proofs.AnswerNumbers.{length-numbers, refusal-numbers}
 use Rattle.nexus_c.proofs.nexus_read.Goals as goal
 
-pub returns-in-Length : goal.returns-in-Length
-returns-in-Length c =
+pub returns-in-Ok : goal.returns-in-Ok
+returns-in-Ok c =
     let e = c.read.ensures in
-    record { answer = length-numbers _ _ e.answer _ c.in-Length.is; left = e.left; size = e.size }
+    record { answer = length-numbers _ _ e.answer _ c.in-Ok.is; left = e.left; size = e.size }
 
-pub returns-in-Refused : goal.returns-in-Refused
-returns-in-Refused c =
+pub returns-in-Err : goal.returns-in-Err
+returns-in-Err c =
     let e = c.read.ensures in
-    record { answer = refusal-numbers _ _ e.answer _ _ _ c.in-Refused.is c.refusal_number.ensures; left = e.left; size = e.size }
+    record { answer = refusal-numbers _ _ e.answer _ _ _ c.in-Err.is c.refusal_number.ensures; left = e.left; size = e.size }

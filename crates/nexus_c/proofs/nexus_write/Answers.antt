@@ -2,8 +2,8 @@
 use Rattle.nexus_c.proofs.AnswerNumbers.{length-numbers, refusal-numbers}
 use Rattle.nexus_c.proofs.nexus_write.Goals as goal
 
-pub returns-in-Length : goal.returns-in-Length
-returns-in-Length c = let e = c.write.ensures in let a = length-numbers _ _ e.answer _ c.in-Length.is in record { result = a.result; number = a.number; left = e.left }
+pub returns-in-Ok : goal.returns-in-Ok
+returns-in-Ok c = let e = c.write.ensures in let a = length-numbers _ _ e.answer _ c.in-Ok.is in record { result = a.result; number = a.number; left = e.left }
 
-pub returns-in-Refused : goal.returns-in-Refused
-returns-in-Refused c = let e = c.write.ensures in let a = refusal-numbers _ _ e.answer _ _ _ c.in-Refused.is c.refusal_number.ensures in record { result = a.result; number = a.number; left = e.left }
+pub returns-in-Err : goal.returns-in-Err
+returns-in-Err c = let e = c.write.ensures in let a = refusal-numbers _ _ e.answer _ _ _ c.in-Err.is c.refusal_number.ensures in record { result = a.result; number = a.number; left = e.left }

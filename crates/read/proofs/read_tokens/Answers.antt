@@ -8,24 +8,24 @@ use Rattle.read.proofs.read_tokens.Goals as goal
 
 pub deliver-requires : goal.deliver-requires
 deliver-requires c =
-    c.parse.ensures.fits _ c.in-Held.is
+    c.parse.ensures.fits _ c.in-Ok.is
 
 pub slice_bounds-refused_at-end : goal.slice_bounds-refused_at-end
 slice_bounds-refused_at-end c =
     stored-room _ _ _ (still-stored _ _ _ _ c.requires _ c.parse.ensures)
 
-pub slice_bounds-refused_at-end-in-Refused : goal.slice_bounds-refused_at-end-in-Refused
-slice_bounds-refused_at-end-in-Refused c =
+pub slice_bounds-refused_at-end-in-Err : goal.slice_bounds-refused_at-end-in-Err
+slice_bounds-refused_at-end-in-Err c =
     sym (length-take-le _ _ (stored-room _ _ _ (still-stored _ _ _ _ c.requires _ c.parse.ensures)))
 
 pub refused_at-requires : goal.refused_at-requires
 refused_at-requires c =
     (tokens-lexed _ _ _ c.requires.told).short
 
-pub returns-in-Held : goal.returns-in-Held
-returns-in-Held c =
-    record { given = held-delivered _ _ _ _ c.requires _ c.parse.ensures _ c.in-Held.is _ _ _ c.deliver.ensures; size = c.parse.ensures.size }
+pub returns-in-Ok : goal.returns-in-Ok
+returns-in-Ok c =
+    record { given = held-delivered _ _ _ _ c.requires _ c.parse.ensures _ c.in-Ok.is _ _ _ c.deliver.ensures; size = c.parse.ensures.size }
 
-pub returns-in-Refused : goal.returns-in-Refused
-returns-in-Refused c =
-    record { given = refused-delivered _ _ _ _ c.requires _ c.parse.ensures _ _ c.in-Refused.is _ _ c.refused_at.ensures; size = c.parse.ensures.size }
+pub returns-in-Err : goal.returns-in-Err
+returns-in-Err c =
+    record { given = refused-delivered _ _ _ _ c.requires _ c.parse.ensures _ _ c.in-Err.is _ _ c.refused_at.ensures; size = c.parse.ensures.size }

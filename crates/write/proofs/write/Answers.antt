@@ -3,9 +3,9 @@ use Rattle.lexer.specs.Places.{nowhere}
 use Rattle.write.proofs.FormDelivered.{nothing_written, record-written}
 use Rattle.write.proofs.write.Goals as goal
 
-pub returns-in-Record : goal.returns-in-Record
-returns-in-Record c = record-written _ _ _ c.judge.ensures _ c.in-Record.is _ _ c.deliver.ensures
+pub returns : goal.returns
+returns c = record-written _ _ _ c.judge.ensures _ c.in-Some.is _ _ c.deliver.ensures
 
-pub returns-in-Wrong : goal.returns-in-Wrong
+pub returns-in_default : goal.returns-in_default
 unfolding nowhere
-returns-in-Wrong c = nothing_written _ _ _ c.judge.ensures c.in-Wrong.is
+returns-in_default c = nothing_written _ _ _ c.judge.ensures c.in_default.is

@@ -1,18 +1,10 @@
 -- The function `any_type` meets its contract. Assumes nothing.
-use Rattle.assumptions.specs.TypesHeld.{type_word}
+use Rattle.std.proofs.Common.{rules, of_calls}
 use Rattle.block.specs.Typeset.{ordering}
-use Rattle.lexer.specs.Base.{pick, bytes}
-use mathlib.Core.Path.{sym, ◌∙◌}
+use Rattle.lexer.specs.Words.{is}
+use Rattle.lexer.specs.Stored.{word_of}
 use Rattle.assumptions.proofs.assumptions.any_type.Goals as goal
 
-pub returns-then-is : goal.returns-then-is
-unfolding ordering type_word pick bytes
-returns-then-is c = rw (sym c.is.ensures ∙ c.if-is.true)
-
-pub returns-then-is-2 : goal.returns-then-is-2
-unfolding ordering type_word pick bytes
-returns-then-is-2 c = rw (sym c.is.ensures ∙ c.if-is.false, sym c.is-2.ensures ∙ c.if-is-2.true)
-
 pub returns : goal.returns
-unfolding ordering type_word pick bytes
-returns c = rw (sym c.is.ensures ∙ c.if-is.false, sym c.is-2.ensures ∙ c.if-is-2.false)
+unfolding ordering
+returns c = c.type_by.ensures (λ k. is k (word_of c.args.text.now c.args.work.now c.args.i)) (λ k r p. search (rules, of_calls, p))

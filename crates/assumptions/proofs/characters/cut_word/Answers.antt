@@ -1,7 +1,9 @@
+-- The function `cut_word` meets its contract. Assumes nothing.
+use Rattle.std.proofs.lemmas.Result.{err_from_is_err_and}
+use Rattle.std.specs.Prelude.{Option}
 use Prim.Native.Nat.{ℕ}
 use Rattle.assumptions.proofs.WordCut.{cutting-start, cutting-turn, cutting-over, cutting-end}
 use Rattle.assumptions.specs.ListParts.{Parted}
-use Rattle.assumptions.specs.declared.parts.NextPart.{NextPart}
 use Rattle.lexer.proofs.NextBytes.{front-left}
 use Rattle.lexer.specs.Base.{bytes}
 use Rattle.lexer.specs.Stored.{word_of}
@@ -9,12 +11,13 @@ use Rattle.lexer.specs.Words.{Numbered, is, is_word}
 use Rattle.lexer.specs.declared.Cursor.{Cursor}
 use mathlib.Core.Bool.{Bool, true}
 use mathlib.Core.List.{List}
-use mathlib.Core.Path.{◌≡◌, refl, sym, ◌∙◌}
+use mathlib.Core.Path.{◌≡◌, refl, sym}
 use native.Mathlib.Omega.{arith}
 use Rattle.assumptions.proofs.characters.cut_word.Goals as goal
+use Rattle.assumptions.specs.declared.parts.Part.{Part}
 
 -- the next part, or none
-parted : (text work : List ℕ) (i : ℕ) {count : ℕ} {all : Bool} {c : Cursor} {r : NextPart} → ((w : Numbered) → w.index ≡ i → is_word w.token.kind ≡ true → is (bytes "ALL") w ≡ all → Parted text count w c r) → is_word (word_of text work i).token.kind ≡ true → all ≡ is (bytes "ALL") (word_of text work i) → Parted text count (word_of text work i) c r
+parted : (text work : List ℕ) (i : ℕ) {count : ℕ} {all : Bool} {c : Cursor} {r : Option (Part × Cursor)} → ((w : Numbered) → w.index ≡ i → is_word w.token.kind ≡ true → is (bytes "ALL") w ≡ all → Parted text count w c r) → is_word (word_of text work i).token.kind ≡ true → all ≡ is (bytes "ALL") (word_of text work i) → Parted text count (word_of text work i) c r
 unfolding word_of
 parted text work i next word all = next (word_of text work i) refl word (sym all)
 
@@ -22,26 +25,27 @@ pub loop-part-init : goal.loop-part-init
 unfolding word_of
 loop-part-init c = cutting-start _ _ _ _ _ _ _ _ _ c.requires.i_value (rw c.start_of.ensures at (front-left _ _ _ c.text_start-c.ensures))
 
-pub returns-in_default : goal.returns-in_default
+pub returns-clause-answer : goal.returns-clause-answer
 unfolding bytes
-returns-in_default c =
+returns-clause-answer c =
     let part = parted c.args.text.now c.args.work.now c.args.i c.word_part.ensures c.requires.i_value c.is-all.ensures in
-    record { front = c.loop-part.invariant.front; answer = cutting-end _ _ _ _ _ _ _ _ _ _ _ _ c.loop-part.invariant (part.end c.in_default.is) }
+    cutting-end _ _ _ _ _ _ _ _ _ _ _ _ c.loop-part.invariant (part.end c.in_default.is)
 
 pub loop-part-smaller : goal.loop-part-smaller
 unfolding bytes
 loop-part-smaller c =
     let part = parted c.args.text.now c.args.work.now c.args.i c.word_part.ensures c.requires.i_value c.is-all.ensures in
-    let y = part.more _ _ c.in-Part.is in omega (arith, y.ahead, y.within)
+    let y = part.more _ _ c.in-Some.is in omega (arith, y.ahead, y.within)
 
 pub loop-part-preserved : goal.loop-part-preserved
 unfolding bytes
 loop-part-preserved c =
     let part = parted c.args.text.now c.args.work.now c.args.i c.word_part.ensures c.requires.i_value c.is-all.ensures in
-    cutting-turn _ _ _ _ _ _ _ _ _ _ _ _ c.loop-part.invariant _ _ (part.more _ _ c.in-Part.is) _ _ c.part_turn.ensures.answer c.part_turn.auto.work c.part_turn.ensures.front _ _ c.in-On.is
+    cutting-turn _ _ _ _ _ _ _ _ _ _ _ _ c.loop-part.invariant _ _ (part.more _ _ c.in-Some.is) _ _ c.in_ok-list.ensures.answer c.part_turn.auto.work c.in_ok-list.ensures.front _ refl
 
-pub returns-in-Refused : goal.returns-in-Refused
+pub returns-in_err-list-clause-answer : goal.returns-in_err-list-clause-answer
 unfolding bytes
-returns-in-Refused c =
+returns-in_err-list-clause-answer c =
     let part = parted c.args.text.now c.args.work.now c.args.i c.word_part.ensures c.requires.i_value c.is-all.ensures in
-    record { front = c.part_turn.ensures.front ∙ c.loop-part.invariant.front; answer = cutting-over _ _ _ _ _ _ _ _ _ _ _ _ c.loop-part.invariant _ _ (part.more _ _ c.in-Part.is) _ _ c.part_turn.ensures.answer _ _ c.in-Refused.is }
+    let r = err_from_is_err_and c.from_residual.result c.from_residual.ensures.1 in
+    rw (r.1, r.2) (cutting-over _ _ _ _ _ _ _ _ _ _ _ _ c.loop-part.invariant _ _ (part.more _ _ c.in-Some.is) _ _ c.in_err-list.ensures.answer _ _ refl)

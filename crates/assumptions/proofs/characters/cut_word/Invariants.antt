@@ -6,7 +6,7 @@ use lib.ListN.{length}
 use Rattle.assumptions.proofs.characters.cut_word.Given as goal
 
 abbrev pub invariant-loop-part : goal.invariant-loop-part
-invariant-loop-part l = Cutting l.text (word_of l.text l.initial.work l.i) l.at l.count l.ordering l.initial.work l.initial.item l.initial.twice l.work l.c l.item l.twice
+invariant-loop-part l = Cutting l.text (word_of l.text l.initial.work l.i) l.held.at l.held.count l.ordering l.initial.work l.initial.list.item l.initial.list.twice l.work l.c l.list.item l.list.twice
 
 abbrev pub decreases-loop-part : goal.decreases-loop-part
 decreases-loop-part l = length l.text - l.c.at

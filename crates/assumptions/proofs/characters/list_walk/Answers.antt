@@ -1,34 +1,46 @@
-use Prim.Native.Nat.{ℕ}
-use Rattle.assumptions.proofs.ListWalks.{listing_start, listing-turn, listing-over, listing-comma, listing-end}
+-- The function `list_walk` meets its contract. Assumes nothing.
+use Rattle.std.specs.Prelude.{Ok, Err, []}
+use Rattle.std.proofs.lemmas.Result.{err_from_is_err_and}
+use Rattle.assumptions.proofs.ListWalks.{listing_start, listing-newline, listing-turn, listing-over, listing-comma, listing-end}
 use Rattle.assumptions.specs.ListCode.{list_then}
 use Rattle.block.specs.Judged.{judged}
-use mathlib.Core.Path.{◌≡◌, sym, ◌∙◌}
-use native.Mathlib.Omega.{arith}
+use Rattle.block.specs.Outcome.{then}
+use mathlib.Core.Path.{refl, sym, ◌∙◌}
 use Rattle.assumptions.proofs.characters.list_walk.Goals as goal
 
-pub loop-work-init : goal.loop-work-init
-loop-work-init c = listing_start _ _ _ _ _ _ _ _
+pub loop-j-init : goal.loop-j-init
+loop-j-init c = listing_start _ _ _ _ _ _ _ _
 
-pub returns-then-to-j : goal.returns-then-to-j
-unfolding list_then
-returns-then-to-j c =
-    let end = c.list_end-end.ensures in
-    record { front = end.front ∙ c.loop-work.invariant.front; onward = λ j e. let z : ◌≡◌ {A = ℕ} 0 1 = cc in absurd (omega arith); answer = listing-end _ _ _ _ _ _ _ _ c.requires.0 _ _ _ _ _ c.loop-work.invariant c.next_word-j.ensures c.if-to-j.true _ _ (end.answer _ _ c.loop-work.invariant.gives) }
+pub loop-j-preserved-then-newline : goal.loop-j-preserved-then-newline
+loop-j-preserved-then-newline c = listing-newline _ _ _ _ _ _ _ _ c.requires.0 _ _ _ _ c.loop-j.invariant c.loop-j-test.true (sym c.newline.ensures ∙ c.if-newline.true)
 
-pub returns-then-punct : goal.returns-then-punct
-returns-then-punct c =
-    let end = c.list_end-end-then-punct.ensures in
-    let next = c.next_word-j.ensures in record { front = end.front ∙ c.loop-work.invariant.front; onward = λ j e. let k = c.end_at_comma.ensures.place j e in omega (arith, k, next.onward, c.loop-work.invariant.onward, c.if-to-j.false); answer = λ h. c.end_at_comma.ensures.answer _ _ ∙ listing-comma _ _ _ _ _ _ _ _ c.requires.0 _ _ _ _ _ c.loop-work.invariant next c.if-to-j.false (sym c.punct.ensures ∙ c.if-punct.true) _ _ (end.answer _ _ c.loop-work.invariant.gives) h }
+pub returns-then-punct-clause-answer : goal.returns-then-punct-clause-answer
+unfolding list_then judged then
+returns-then-punct-clause-answer c = listing-comma _ _ _ _ _ _ _ _ c.requires.0 _ _ _ _ c.loop-j.invariant c.loop-j-test.true (sym c.newline.ensures ∙ c.if-newline.false) (sym c.punct.ensures ∙ c.if-punct.true) _ (Ok tt) (c.in_ok-list_end.ensures.answer _ _ c.loop-j.invariant.gives)
 
-pub loop-work-smaller : goal.loop-work-smaller
-loop-work-smaller c = omega (arith, c.next_word-j.ensures.onward, c.if-to-j.false)
+pub returns-in_err-list_end-clause-answer : goal.returns-in_err-list_end-clause-answer
+unfolding list_then judged then
+returns-in_err-list_end-clause-answer c =
+    let r = err_from_is_err_and c.from_residual.result c.from_residual.ensures.1 in
+    rw (r.1, r.2) (listing-comma _ _ _ _ _ _ _ _ c.requires.0 _ _ _ _ c.loop-j.invariant c.loop-j-test.true (sym c.newline.ensures ∙ c.if-newline.false) (sym c.punct.ensures ∙ c.if-punct.true) [] (Err _) (c.in_err-list_end.ensures.answer _ _ c.loop-j.invariant.gives))
 
-pub loop-work-preserved : goal.loop-work-preserved
-loop-work-preserved c =
-    let word = c.list_word in
-    listing-turn _ _ _ _ _ _ _ _ c.requires.0 _ _ _ _ _ c.loop-work.invariant c.next_word-j.ensures c.if-to-j.false (sym c.punct.ensures ∙ c.if-punct.false) _ _ (word.ensures.answer _ _ c.loop-work.invariant.gives) word.auto.work word.ensures.front _ _ c.in-On.is
+pub loop-j-preserved : goal.loop-j-preserved
+loop-j-preserved c =
+    let word = c.in_ok-list.ensures in
+    listing-turn _ _ _ _ _ _ _ _ c.requires.0 _ _ _ _ c.loop-j.invariant c.loop-j-test.true (sym c.newline.ensures ∙ c.if-newline.false) (sym c.punct.ensures ∙ c.if-punct.false) _ _ (word.answer _ _ c.loop-j.invariant.gives) c.list_word.auto.work word.front _ refl
 
-pub returns-in-Refused : goal.returns-in-Refused
+pub returns-in_err-list-clause-answer : goal.returns-in_err-list-clause-answer
 unfolding list_then judged
-returns-in-Refused c =
-    let word = c.list_word in record { front = word.ensures.front ∙ c.loop-work.invariant.front; onward = λ j e. let z : ◌≡◌ {A = ℕ} 0 1 = cc in absurd (omega arith); answer = listing-over _ _ _ _ _ _ _ _ c.requires.0 _ _ _ _ _ c.loop-work.invariant c.next_word-j.ensures c.if-to-j.false (sym c.punct.ensures ∙ c.if-punct.false) _ _ (word.ensures.answer _ _ c.loop-work.invariant.gives) _ _ c.in-Refused.is }
+returns-in_err-list-clause-answer c =
+    let r = err_from_is_err_and c.from_residual-in_err-list.result c.from_residual-in_err-list.ensures.1 in
+    rw (r.1, r.2) (listing-over _ _ _ _ _ _ _ _ c.requires.0 _ _ _ _ c.loop-j.invariant c.loop-j-test.true (sym c.newline.ensures ∙ c.if-newline.false) (sym c.punct.ensures ∙ c.if-punct.false) _ _ (c.in_err-list.ensures.answer _ _ c.loop-j.invariant.gives) _ _ refl)
+
+pub returns-in_err-list_end-2-clause-answer : goal.returns-in_err-list_end-2-clause-answer
+unfolding list_then judged
+returns-in_err-list_end-2-clause-answer c =
+    let r = err_from_is_err_and c.from_residual-in_err-list_end-2.result c.from_residual-in_err-list_end-2.ensures.1 in
+    rw (r.1, r.2) (listing-end _ _ _ _ _ _ _ _ c.requires.0 _ _ _ _ c.loop-j.invariant c.loop-j-test.false [] (Err _) (c.in_err-list_end-2.ensures.answer _ _ c.loop-j.invariant.gives))
+
+pub returns-clause-answer : goal.returns-clause-answer
+unfolding list_then judged
+returns-clause-answer c = listing-end _ _ _ _ _ _ _ _ c.requires.0 _ _ _ _ c.loop-j.invariant c.loop-j-test.false _ (Ok tt) (c.in_ok-list_end-2.ensures.answer _ _ c.loop-j.invariant.gives)

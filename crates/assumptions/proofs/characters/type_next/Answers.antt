@@ -2,13 +2,12 @@
 use Rattle.assumptions.specs.TypesHeld.{unless_twice}
 use Rattle.block.specs.Typeset.{on_types}
 use Rattle.lexer.specs.Base.{pick}
-use mathlib.Core.Path.{refl}
 use Rattle.assumptions.proofs.characters.type_next.Goals as goal
 
-pub returns-then-twice : goal.returns-then-twice
+pub returns-then-twice-clause-typed : goal.returns-then-twice-clause-typed
 unfolding unless_twice on_types pick
-returns-then-twice c = record { front = refl; typed = rw c.if-twice.true }
+returns-then-twice-clause-typed c = rw c.if-twice.true
 
-pub returns : goal.returns
+pub returns-else-twice-clause-typed : goal.returns-else-twice-clause-typed
 unfolding unless_twice on_types pick
-returns c = record { front = c.type_range.ensures.front; typed = rw c.if-twice.false c.type_range.ensures.typed }
+returns-else-twice-clause-typed c = rw c.if-twice.false c.type_range.ensures.typed

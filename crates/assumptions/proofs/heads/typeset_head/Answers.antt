@@ -1,16 +1,30 @@
 -- The function `typeset_head` meets its contract. Assumes nothing.
-use Rattle.assumptions.specs.TypesetWalk.{placed_then, form_then}
-use mathlib.Core.Path.{◌∙◌}
+use Rattle.std.proofs.lemmas.Result.{err_from_is_err_and}
+use Rattle.assumptions.proofs.TypesetWalks.{equals-turn}
+use Rattle.assumptions.specs.TypesetWalk.{form_then, set_of, after_equals}
+use Rattle.block.specs.Typeset.{equals, typeset_end}
+use mathlib.Core.Path.{refl, ◌∙◌}
+use Rattle.block.specs.Outcome.{outcome, then}
 use Rattle.assumptions.proofs.heads.typeset_head.Goals as goal
 
-pub returns-in-Form : goal.returns-in-Form
-unfolding placed_then form_then
-returns-in-Form c = λ n. c.equals_from.ensures n ∙ rw c.in-Form.is at (c.form_or_standard.ensures n) ∙ rw c.in-At.is at (c.star_name.ensures n)
+pub returns-in_err-i : goal.returns-in_err-i
+unfolding then outcome form_then
+returns-in_err-i c = λ n.
+    let r = err_from_is_err_and c.from_residual.result c.from_residual.ensures.1 in
+    rw (r.1, r.2) (c.in_err-i.ensures n)
 
-pub returns-in-Refused-form_or_standard : goal.returns-in-Refused-form_or_standard
-unfolding placed_then form_then
-returns-in-Refused-form_or_standard c = λ n. rw c.in-Refused-form_or_standard.is at (c.form_or_standard.ensures n) ∙ rw c.in-At.is at (c.star_name.ensures n)
+pub returns-in_err-f : goal.returns-in_err-f
+unfolding then outcome form_then
+returns-in_err-f c = λ n.
+    let r = err_from_is_err_and c.from_residual-in_err-f.result c.from_residual-in_err-f.ensures.1 in
+    rw (r.1, r.2) (c.in_err-f.ensures n) ∙ c.in_ok-i.ensures n
 
-pub returns-in-Refused : goal.returns-in-Refused
-unfolding placed_then form_then
-returns-in-Refused c = λ n. rw c.in-Refused.is at (c.star_name.ensures n)
+pub returns-in_err-mark_from : goal.returns-in_err-mark_from
+unfolding then outcome form_then typeset_end set_of
+returns-in_err-mark_from c = λ n.
+    let r = err_from_is_err_and c.from_residual-in_err-mark_from.result c.from_residual-in_err-mark_from.ensures.1 in
+    rw (r.1, r.2) (c.in_err-mark_from.ensures.answer (set_of n _) (equals _) (after_equals n _) refl (equals-turn n _ _)) ∙ c.in_ok-f.ensures n ∙ c.in_ok-i.ensures n
+
+pub returns : goal.returns
+unfolding then outcome form_then typeset_end set_of
+returns c = λ n. c.in_ok-mark_from.ensures.answer (set_of n _) (equals _) (after_equals n _) refl (equals-turn n _ _) ∙ c.in_ok-f.ensures n ∙ c.in_ok-i.ensures n

@@ -1,13 +1,15 @@
 -- The function `next_item` meets its contract. Assumes nothing.
-use Rattle.assumptions.specs.ListCode.{first_answer, item_answer}
+use Rattle.std.proofs.lemmas.Result.{err_from_is_err_and}
+use Rattle.block.specs.Outcome.{outcome, then}
 use Rattle.block.specs.CharacterList.{next_item}
-use Rattle.block.specs.Outcome.{then}
 use Rattle.assumptions.proofs.items.next_item.Goals as goal
 
-pub returns-in-Item : goal.returns-in-Item
-unfolding next_item item_answer first_answer then
-returns-in-Item c = λ p e. rw (← c.first_item.ensures p e, c.in-Item.is)
+pub returns-in_err-first_item : goal.returns-in_err-first_item
+unfolding next_item outcome then
+returns-in_err-first_item c = λ p e.
+    let r = err_from_is_err_and c.from_residual.result c.from_residual.ensures.1 in
+    rw (r.1, r.2, ← c.in_err-first_item.ensures p e)
 
-pub returns-in-Refused : goal.returns-in-Refused
-unfolding next_item item_answer first_answer then
-returns-in-Refused c = λ p e. rw (← c.first_item.ensures p e, c.in-Refused.is)
+pub returns : goal.returns
+unfolding next_item outcome then
+returns c = λ p e. rw (← c.in_ok-first_item.ensures p e)

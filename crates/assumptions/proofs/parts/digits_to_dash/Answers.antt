@@ -17,34 +17,19 @@ pub loop-b-init : goal.loop-b-init
 loop-b-init c = valuing-start _ _
 
 pub returns-then-b-eq45 : goal.returns-then-b-eq45
-returns-then-b-eq45 c = valuing-dash _ _ _ _ c.loop-b.invariant _ _ ((yielded _ _ _ c.next_byte.ensures).byte _ _ c.in-Byte.is) c.if-b-eq45.true
+returns-then-b-eq45 c = valuing-dash _ _ _ _ c.loop-b.invariant _ _ ((yielded _ _ _ c.next_byte.ensures).byte _ _ c.in-Some.is) c.if-b-eq45.true
 
 pub returns-then-not-digit : goal.returns-then-not-digit
-returns-then-not-digit c = valuing-other _ _ _ _ c.loop-b.invariant _ _ ((yielded _ _ _ c.next_byte.ensures).byte _ _ c.in-Byte.is) c.if-b-eq45.false c.if-not-digit.true
-
-pub overflow_sub-v : goal.overflow_sub-v
-overflow_sub-v c = let h = digit c.in-Byte.b c.if-not-digit.false in omega arith
-
-pub overflow_cast-v : goal.overflow_cast-v
-overflow_cast-v c = let h = digit c.in-Byte.b c.if-not-digit.false in omega arith
-
-pub overflow_sub-v-in-Byte : goal.overflow_sub-v-in-Byte
-overflow_sub-v-in-Byte c = let h = digit c.in-Byte.b c.if-not-digit.false in omega arith
+returns-then-not-digit c = valuing-other _ _ _ _ c.loop-b.invariant _ _ ((yielded _ _ _ c.next_byte.ensures).byte _ _ c.in-Some.is) c.if-b-eq45.false c.if-not-digit.true
 
 pub returns-then-v-n : goal.returns-then-v-n
-returns-then-v-n c = let h = digit c.in-Byte.b c.if-not-digit.false in valuing-large _ _ _ _ c.loop-b.invariant _ _ ((yielded _ _ _ c.next_byte.ensures).byte _ _ c.in-Byte.is) c.if-b-eq45.false c.if-not-digit.false (omega arith)
-
-pub overflow_mul-n : goal.overflow_mul-n
-overflow_mul-n c = let h = digit c.in-Byte.b c.if-not-digit.false in omega arith
-
-pub overflow_add-n : goal.overflow_add-n
-overflow_add-n c = let h = digit c.in-Byte.b c.if-not-digit.false in omega arith
+returns-then-v-n c = let h = digit c.in-Some.b c.if-not-digit.false in valuing-large _ _ _ _ c.loop-b.invariant _ _ ((yielded _ _ _ c.next_byte.ensures).byte _ _ c.in-Some.is) c.if-b-eq45.false c.if-not-digit.false (omega arith)
 
 pub loop-b-smaller : goal.loop-b-smaller
-loop-b-smaller c = let y = (yielded _ _ _ c.next_byte.ensures).byte _ _ c.in-Byte.is in omega arith
+loop-b-smaller c = let y = (yielded _ _ _ c.next_byte.ensures).byte _ _ c.in-Some.is in omega arith
 
 pub loop-b-preserved : goal.loop-b-preserved
-loop-b-preserved c = let h = digit c.in-Byte.b c.if-not-digit.false in valuing-turn _ _ _ _ c.loop-b.invariant _ _ ((yielded _ _ _ c.next_byte.ensures).byte _ _ c.in-Byte.is) c.if-b-eq45.false c.if-not-digit.false (omega arith)
+loop-b-preserved c = let h = digit c.in-Some.b c.if-not-digit.false in valuing-turn _ _ _ _ c.loop-b.invariant _ _ ((yielded _ _ _ c.next_byte.ensures).byte _ _ c.in-Some.is) c.if-b-eq45.false c.if-not-digit.false (omega arith)
 
-pub returns-in-End : goal.returns-in-End
-returns-in-End c = valuing-end _ _ _ _ c.loop-b.invariant ((yielded _ _ _ c.next_byte.ensures).end c.in-End.is)
+pub returns : goal.returns
+returns c = valuing-end _ _ _ _ c.loop-b.invariant ((yielded _ _ _ c.next_byte.ensures).end c.in_default.is)

@@ -10,5 +10,5 @@ unfolding word_of
 returns c =
     λ h.
     let text = front-left _ _ _ c.text_start-c.ensures in
-    rw (c.punct.ensures, c.text_is_byte-2.ensures, c.character-k.ensures, c.text_is_byte.ensures, c.quoted_at-quoted.ensures, c.number-n.ensures, text, c.start_of-start.ensures)
+    rw (c.punct.ensures, c.text_is_byte.ensures, c.character.ensures, c.text_is_byte-dot.ensures, c.quoted_at-quoted.ensures, c.number-n.ensures, text, c.start_of-start.ensures)
     (sym (whole-told _ _ h))

@@ -1,41 +1,31 @@
 use Prim.Native.Nat.{◌+◌}
 use Rattle.assumptions.proofs.KeyWords.{keyword-end, keyword-off, keyword-on, keyword-short}
-use lib.ListN.{drop, length-drop}
-use mathlib.Core.Path.{◌≡◌, refl, sym, ◌∙◌}
+use lib.ListN.{length, drop, length-drop}
+use mathlib.Core.Path.{◌≡◌, sym, ◌∙◌}
 use native.Mathlib.Omega.{arith}
 use Rattle.assumptions.proofs.told.key_told.Goals as goal
 
-pub returns-then-text-start : goal.returns-then-text-start
-returns-then-text-start c =
+pub returns-then-saturating_sub-keyword : goal.returns-then-saturating_sub-keyword
+returns-then-saturating_sub-keyword c =
     let s = c.args in
-    sym (keyword-short s.keyword.now (drop s.start s.text.now) (omega (arith, length-drop s.start s.text.now, c.if-text-start.true)))
+    sym (keyword-short s.keyword.now (drop s.start s.text.now) (omega (arith, length-drop s.start s.text.now, c.saturating_sub.ensures, c.if-saturating_sub-keyword.true)))
 
-pub returns-then-text-start-2 : goal.returns-then-text-start-2
-returns-then-text-start-2 c =
-    let s = c.args in
-    sym (keyword-short s.keyword.now (drop s.start s.text.now) (omega (arith, length-drop s.start s.text.now, c.if-text-start-2.true)))
-
-pub loop-k-init : goal.loop-k-init
-loop-k-init c =
-    let s = c.args in
-    let here : s.start + 0 ≡ s.start = omega arith in
-    (omega arith, rw here refl)
-
-pub returns-then-not-small-capital : goal.returns-then-not-small-capital
-returns-then-not-small-capital c =
+pub returns-then-not-is_ascii_alphabetic-lower : goal.returns-then-not-is_ascii_alphabetic-lower
+returns-then-not-is_ascii_alphabetic-lower c =
     let s = c.args in
     let k = c.loop-k.k in
-    sym (keyword-off s.text.now s.keyword.now (s.start + k) k (omega arith) c.loop-k-test.true _ _ c.lower.ensures c.lower-in-loop-k.ensures c.if-not-small-capital.true) ∙ c.loop-k.invariant.1
+    sym (keyword-off s.text.now s.keyword.now (s.start + k) k (omega arith) c.loop-k-test.true _ _ c.lower.ensures c.lower-in-loop-k.ensures _ (sym c.is_ascii_alphabetic.ensures.value) c.if-not-is_ascii_alphabetic-lower.true) ∙ c.loop-k.invariant.1
 
 pub loop-k-preserved : goal.loop-k-preserved
 loop-k-preserved c =
     let s = c.args in
     let k = c.loop-k.k in
     let there : s.start + k + 1 ≡ s.start + (k + 1) = omega arith in
-    let next = keyword-on s.text.now s.keyword.now (s.start + k) k (omega arith) c.loop-k-test.true _ _ c.lower.ensures c.lower-in-loop-k.ensures c.if-not-small-capital.false in
+    let next = keyword-on s.text.now s.keyword.now (s.start + k) k (omega arith) c.loop-k-test.true _ _ c.lower.ensures c.lower-in-loop-k.ensures _ (sym c.is_ascii_alphabetic.ensures.value) c.if-not-is_ascii_alphabetic-lower.false in
     (omega arith, sym (rw there at next) ∙ c.loop-k.invariant.1)
 
 pub returns : goal.returns
 returns c =
     let s = c.args in
-    c.ends_word.ensures ∙ sym (keyword-end s.text.now s.keyword.now (s.start + c.loop-k.k) c.loop-k.k (omega arith) c.loop-k-test.false) ∙ c.loop-k.invariant.1
+    let all : c.loop-k.k ≡ length s.keyword.now = omega (arith, c.loop-k.invariant.0) in
+    c.ends_word.ensures ∙ sym (keyword-end s.text.now s.keyword.now (s.start + length s.keyword.now) (length s.keyword.now) (omega arith) (omega arith)) ∙ rw all at c.loop-k.invariant.1

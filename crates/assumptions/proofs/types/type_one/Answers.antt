@@ -1,22 +1,22 @@
 -- The function `type_one` meets its contract. Assumes nothing.
 use Prim.Native.Nat.{◌<◌}
 use Rattle.lexer.specs.Base.{pick}
-use borrow.Author.Tests.{eq-eqb, ne_eqb, lt-ltb}
+use borrow.Author.Tests.{lt-ltb}
 use native.Mathlib.Omega.{arith}
 use Rattle.assumptions.proofs.types.type_one.Goals as goal
 
-pub returns-then-k-eq0 : goal.returns-then-k-eq0
+pub returns-then-k-eq0-clause-stored : goal.returns-then-k-eq0-clause-stored
 unfolding pick
-returns-then-k-eq0 c = record { free = rw c.if-k-eq0.true; stored = rw c.if-k-eq0.true }
+returns-then-k-eq0-clause-stored c = rw c.if-k-eq0.true
 
-pub returns-then-work-i-eq0 : goal.returns-then-work-i-eq0
+pub returns-then-work-i-eq0-clause-stored : goal.returns-then-work-i-eq0-clause-stored
 unfolding pick
-returns-then-work-i-eq0 c =
+returns-then-work-i-eq0-clause-stored c =
     let some : 0 < c.args.k.0 = omega (arith, c.if-k-eq0.false) in
-    record { free = rw (ne_eqb c.args.k.0 0 c.if-k-eq0.false, eq-eqb _ _ c.if-work-i-eq0.true); stored = rw (lt-ltb 0 c.args.k.0 some) }
+    rw (lt-ltb 0 c.args.k.0 some)
 
-pub returns : goal.returns
+pub returns-clause-stored : goal.returns-clause-stored
 unfolding pick
-returns c =
+returns-clause-stored c =
     let some : 0 < c.args.k.0 = omega (arith, c.if-k-eq0.false) in
-    record { free = rw (ne_eqb c.args.k.0 0 c.if-k-eq0.false, ne_eqb _ _ c.if-work-i-eq0.false); stored = rw (lt-ltb 0 c.args.k.0 some) }
+    rw (lt-ltb 0 c.args.k.0 some)

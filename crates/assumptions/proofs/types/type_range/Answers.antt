@@ -26,37 +26,27 @@ reach stride k last l f =
     let far = ltb-false (last - k) stride (or_right zero less f) in
     (eqb-false stride 0 (or_left zero less f), omega (arith, far, l))
 
--- the parts of a fact as the clauses of the contract
-both : {A B : Type 0} → A × B → record { front : A; typed : B }
-both p = record { front = p.0; typed = p.1 }
-
 pub loop-k-init : goal.loop-k-init
 loop-k-init c = (refl, λ o r v l s f. rw f (striding-start o r _ _ _))
 
 pub returns-then-not-type_one : goal.returns-then-not-type_one
 unfolding unless_twice pick
 returns-then-not-type_one c =
-    let walk = c.loop-k.invariant.1 _ _ c.type_number-value.ensures c.least-last.ensures refl refl in
-    both (striding-twice _ _ _ _ _ c.requires _ _ _ _ walk (rw c.least-last.ensures at c.loop-k-test.true) c.type_one.ensures.free (rw c.type_number-value.ensures at c.type_one.ensures.stored) c.if-not-type_one.true)
+    let walk = c.loop-k.invariant.1 _ _ c.type_number-value.ensures c.min-last.ensures refl refl in
+    striding-twice _ _ _ _ _ c.requires _ _ _ _ walk (rw c.min-last.ensures at c.loop-k-test.true) c.type_one.ensures.free (rw c.type_number-value.ensures at c.type_one.ensures.stored) c.if-not-type_one.true
 
 pub returns-then-stride-last : goal.returns-then-stride-last
 unfolding unless_twice pick
 returns-then-stride-last c =
-    let walk = c.loop-k.invariant.1 _ _ c.type_number-value.ensures c.least-last.ensures refl refl in
-    let d = done-any _ _ _ _ _ c.requires _ _ _ _ _ _ walk c.type_number-value.ensures c.least-last.ensures c.loop-k-test.true c.type_one.ensures.free c.type_one.ensures.stored c.if-not-type_one.false in
-    record { front = d.front; typed = striding-last _ _ _ _ _ _ _ walk.from walk.on (rw c.least-last.ensures at c.loop-k-test.true) d (rw c.least-last.ensures at c.if-stride-last.true) }
-
-pub overflow_add-k : goal.overflow_add-k
-overflow_add-k c = let h = reach _ _ _ c.loop-k-test.true c.if-stride-last.false in omega (arith, h.1, c.least-last.type_inv)
-
-pub loop-k-smaller : goal.loop-k-smaller
-loop-k-smaller c = let h = reach _ _ _ c.loop-k-test.true c.if-stride-last.false in omega (arith, h.0, h.1)
+    let walk = c.loop-k.invariant.1 _ _ c.type_number-value.ensures c.min-last.ensures refl refl in
+    let d = done-any _ _ _ _ _ c.requires _ _ _ _ _ _ walk c.type_number-value.ensures c.min-last.ensures c.loop-k-test.true c.type_one.ensures.free c.type_one.ensures.stored c.if-not-type_one.false in
+    record { front = d.front; typed = striding-last _ _ _ _ _ _ _ walk.from walk.on (rw c.min-last.ensures at c.loop-k-test.true) d (rw c.min-last.ensures at c.if-stride-last.true) }
 
 pub loop-k-preserved : goal.loop-k-preserved
 loop-k-preserved c =
-    let walk = c.loop-k.invariant.1 _ _ c.type_number-value.ensures c.least-last.ensures refl refl in
+    let walk = c.loop-k.invariant.1 _ _ c.type_number-value.ensures c.min-last.ensures refl refl in
     let h = reach _ _ _ c.loop-k-test.true c.if-stride-last.false in
-    let d = done-any _ _ _ _ _ c.requires _ _ _ _ _ _ walk c.type_number-value.ensures c.least-last.ensures c.loop-k-test.true c.type_one.ensures.free c.type_one.ensures.stored c.if-not-type_one.false in (
+    let d = done-any _ _ _ _ _ c.requires _ _ _ _ _ _ walk c.type_number-value.ensures c.min-last.ensures c.loop-k-test.true c.type_one.ensures.free c.type_one.ensures.stored c.if-not-type_one.false in (
       d.size,
       λ o r v m s f.
           let w = c.loop-k.invariant.1 o r v m s f in
@@ -66,5 +56,5 @@ loop-k-preserved c =
 pub returns : goal.returns
 unfolding unless_twice pick
 returns c =
-    let w = c.loop-k.invariant.1 _ _ c.type_number-value.ensures c.least-last.ensures refl refl in
-    record { front = w.done.front; typed = striding-past _ _ _ _ _ _ _ w (rw c.least-last.ensures at c.loop-k-test.false) }
+    let w = c.loop-k.invariant.1 _ _ c.type_number-value.ensures c.min-last.ensures refl refl in
+    record { front = w.done.front; typed = striding-past _ _ _ _ _ _ _ w (rw c.min-last.ensures at c.loop-k-test.false) }

@@ -11,7 +11,7 @@ use Rattle.assumptions.proofs.types.type_range.Given as goal
 
 abbrev pub invariant-loop-k : goal.invariant-loop-k
 invariant-loop-k l = (length l.work ≡ length l.initial.work)
-    × ((o : CharacterOrdering) (r : Range) → l.value ≡ type_number o → l.last ≡ min r.last l.count → l.stride ≡ r.stride → l.initial.k ≡ r.first → Striding o r l.at l.count l.initial.work l.work l.k)
+    × ((o : CharacterOrdering) (r : Range) → l.value ≡ type_number o → l.last ≡ min r.last l.held.count → l.stride ≡ r.stride → l.initial.k ≡ r.first → Striding o r l.held.at l.held.count l.initial.work l.work l.k)
 
 abbrev pub decreases-loop-k : goal.decreases-loop-k
 decreases-loop-k l = l.last + 1 - l.k

@@ -4,7 +4,7 @@ use Rattle.assumptions.proofs.TypesetLists.{Lists}
 use Rattle.assumptions.proofs.typeset.lists.Given as goal
 
 abbrev pub invariant-loop-j : goal.invariant-loop-j
-invariant-loop-j l = Lists l.text l.characters l.head l.from l.to l.at l.initial.work l.work l.i
+invariant-loop-j l = Lists l.text l.held.count l.head l.from l.to l.held.at l.initial.work l.work l.i
 
 abbrev pub decreases-loop-j : goal.decreases-loop-j
 decreases-loop-j l = l.to - l.i

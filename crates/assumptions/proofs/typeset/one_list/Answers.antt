@@ -1,23 +1,22 @@
 -- The function `one_list` meets its contract. Assumes nothing.
-use Prim.Native.Nat.{ℕ}
+use Rattle.std.proofs.lemmas.Result.{err_from_is_err_and}
+use Rattle.assumptions.proofs.NextWordLaws.{missed}
 use Rattle.assumptions.proofs.TypesetLists.{type-past, type-none, type-some}
 use Rattle.assumptions.specs.ListCode.{list_then}
-use Rattle.assumptions.specs.TypesHeld.{type_word}
-use Rattle.block.specs.Judged.{judged}
-use mathlib.Core.Path.{◌≡◌, refl, sym, ◌∙◌}
-use native.Mathlib.Omega.{arith}
+use Rattle.block.specs.Outcome.{outcome}
+use mathlib.Core.Path.{◌∙◌}
 use Rattle.assumptions.proofs.typeset.one_list.Goals as goal
 
-pub returns-then-to-word : goal.returns-then-to-word
-unfolding judged list_then
-returns-then-to-word c = record { front = refl; onward = λ j e. let z : ◌≡◌ {A = ℕ} 0 1 = cc in absurd (omega arith); answer = type-past _ _ _ _ _ _ _ _ c.next_word-word.ensures c.if-to-word.true }
+pub returns-in_err-word-clause-answer : goal.returns-in_err-word-clause-answer
+unfolding list_then
+returns-in_err-word-clause-answer c = let p = missed c.word_ahead.ensures _ c.from_residual.ensures.1 c.in_err-word.ensures.value c.in_err-word.ensures.ok_part in rw p.0 (type-past _ _ _ _ _ _ _ p.1)
 
-pub returns-in-Type : goal.returns-in-Type
-unfolding type_word
-returns-in-Type c =
-    let from = c.list_from.ensures in
-    let next = c.next_word-word.ensures in record { front = from.front; onward = λ j e. let k = from.onward j e in omega (arith, k.0, k.1, next.onward); answer = from.answer _ ∙ type-some _ _ _ _ _ _ _ _ next _ c.if-to-word.false (sym (rw c.in-Type.is at c.ordering.ensures)) }
+pub returns-in_err-o-clause-answer : goal.returns-in_err-o-clause-answer
+unfolding list_then outcome
+returns-in_err-o-clause-answer c =
+    let r = err_from_is_err_and c.from_residual-in_err-o.result c.from_residual-in_err-o.ensures.1 in
+    rw (r.1, r.2) (type-none _ _ _ _ _ _ _ _ (c.word_ahead.ensures.some _ c.in_ok-word.ensures.ok_part) _ c.in_err-o.ensures)
 
-pub returns-in-None : goal.returns-in-None
-unfolding judged list_then type_word
-returns-in-None c = record { front = refl; onward = λ j e. let z : ◌≡◌ {A = ℕ} 0 1 = cc in absurd (omega arith); answer = type-none _ _ _ _ _ _ _ _ c.next_word-word.ensures c.if-to-word.false (sym (rw c.in-None.is at c.ordering.ensures)) }
+pub returns-clause-answer : goal.returns-clause-answer
+unfolding outcome
+returns-clause-answer c = c.list_from.ensures.answer _ ∙ type-some _ _ _ _ _ _ _ _ (c.word_ahead.ensures.some _ c.in_ok-word.ensures.ok_part) _ c.in_ok-o.ensures

@@ -1,10 +1,7 @@
-use Rattle.block.proofs.CutLaws.{seeking-start, seeking-turn, seeking-found, seeking-end}
+use Rattle.block.proofs.CutLaws.{seeking-turn, seeking-found, seeking-end, seeking-over}
 use Rattle.block.specs.Commands.{semicolon}
 use mathlib.Core.Path.{sym, ◌∙◌}
 use Rattle.block.proofs.commands.semicolon_from.Goals as goal
-
-pub loop-i-init : goal.loop-i-init
-loop-i-init c = seeking-start _ _ _ _ _
 
 pub returns-then-punct : goal.returns-then-punct
 unfolding semicolon
@@ -15,4 +12,5 @@ unfolding semicolon
 loop-i-preserved c = seeking-turn _ _ _ _ _ _ c.loop-i.invariant c.loop-i-test.true (sym c.punct.ensures ∙ c.if-punct.false)
 
 pub returns : goal.returns
-returns c = seeking-end _ _ _ _ _ _ c.loop-i.invariant c.loop-i-test.false
+returns c =
+    rw (c.max.ensures, seeking-over _ _ _ _ _ _ c.loop-i.invariant c.loop-i-test.false) (seeking-end _ _ _ _ _ _ c.loop-i.invariant c.loop-i-test.false)

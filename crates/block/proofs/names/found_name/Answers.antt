@@ -1,10 +1,7 @@
-use Rattle.block.proofs.KeptNames.{passing-start, passing-turn, passing-found, passing-free, passing-none, passing-value}
+use Rattle.block.proofs.KeptNames.{passing-found, passing-free, passing-none, passing-value}
 use Rattle.block.specs.NamesHeld.{name_of}
 use mathlib.Core.Path.{refl}
 use Rattle.block.proofs.names.found_name.Goals as goal
-
-pub loop-p-init : goal.loop-p-init
-loop-p-init c = passing-start _ _ _ _ _ _ _
 
 pub returns-then-value-eq0 : goal.returns-then-value-eq0
 unfolding name_of
@@ -13,13 +10,6 @@ returns-then-value-eq0 c =
 
 pub returns-then-slot_alike : goal.returns-then-slot_alike
 returns-then-slot_alike c = passing-found _ _ _ _ 0 0 0 c.slot_alike.ensures c.if-slot_alike.true c.if-value-eq0.false
-
-pub loop-p-preserved : goal.loop-p-preserved
-loop-p-preserved c =
-    passing-turn _ _ _ _ _ _ _ c.loop-p.invariant c.loop-p-test.true c.start_of-value.ensures c.slot_alike.ensures c.if-slot_alike.false
-
-pub returns-in-Unknown : goal.returns-in-Unknown
-returns-in-Unknown c = c.known_name.ensures
 
 pub returns-in-None : goal.returns-in-None
 unfolding name_of

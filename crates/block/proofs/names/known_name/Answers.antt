@@ -1,10 +1,7 @@
 use Rattle.block.proofs.NamesWalk.{searching-newline, searching-turn, searching-found, searching-end}
 use Rattle.block.specs.NamesHeld.{name_of}
-use mathlib.Core.Path.{refl, sym, ◌∙◌}
+use mathlib.Core.Path.{sym, ◌∙◌}
 use Rattle.block.proofs.names.known_name.Goals as goal
-
-pub loop-j-init : goal.loop-j-init
-loop-j-init c = record { rest = refl }
 
 pub loop-j-preserved-then-newline : goal.loop-j-preserved-then-newline
 loop-j-preserved-then-newline c = searching-newline _ _ _ _ _ _ c.loop-j.invariant c.loop-j-test.true (sym c.newline.ensures ∙ c.if-newline.true)

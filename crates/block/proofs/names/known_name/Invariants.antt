@@ -1,5 +1,4 @@
--- The function `known_name` meets its contract: a turn passes one name that is another. The measure is what is left of the words. Assumes nothing.
-use Prim.Native.Nat.{◌-◌}
+-- The function `known_name` meets its contract: a turn passes one name that is another. Assumes nothing.
 use Rattle.block.proofs.NamesWalk.{Searching}
 use Rattle.block.specs.NamesHeld.{name_of}
 use Rattle.lexer.specs.Stored.{word_of}
@@ -7,6 +6,3 @@ use Rattle.block.proofs.names.known_name.Given as goal
 
 abbrev pub invariant-loop-j : goal.invariant-loop-j
 invariant-loop-j l = Searching l.text l.work (name_of (word_of l.text l.work l.i)) l.from l.to l.j
-
-abbrev pub decreases-loop-j : goal.decreases-loop-j
-decreases-loop-j l = l.to - l.j

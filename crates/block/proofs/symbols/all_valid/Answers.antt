@@ -1,5 +1,5 @@
 use Prim.Native.Nat.{◌<◌}
-use Rattle.block.proofs.SymbolsDiffer.{passing-start, passing-turn, passing-over, passing-end, states-taken, valid-more, invalid-over}
+use Rattle.block.proofs.SymbolsDiffer.{passing-turn, passing-over, passing-end, states-taken, valid-more, invalid-over}
 use Rattle.block.specs.Format.{all_valid}
 use borrow.Author.Tests.{not-true, not-false}
 use lib.ListN.{length, take}
@@ -7,24 +7,12 @@ use mathlib.Core.Path.{sym, ap, ◌∙◌}
 use native.Mathlib.Omega.{arith}
 use Rattle.block.proofs.symbols.all_valid.Goals as goal
 
-pub loop-i-init : goal.loop-i-init
-loop-i-init c = passing-start _ _ _ 0
-
-pub bounds-symbols-i : goal.bounds-symbols-i
-bounds-symbols-i c = omega (arith, c.loop-i-test.true, c.states-count.ensures.1)
-
 pub returns-then-not-valid_symbol : goal.returns-then-not-valid_symbol
 returns-then-not-valid_symbol c =
     let f = c.args.f in
     let taken = states-taken f c.states-count.result c.states-count.ensures.0 in
     let below : c.loop-i.i < length (take c.states-count.result f.symbols) = omega (arith, c.loop-i-test.true, ap length taken, c.states-count.ensures.0) in
     passing-over _ _ _ c.loop-i.invariant below _ (invalid-over _ _ (sym c.valid_symbol.ensures ∙ not-true _ c.if-not-valid_symbol.true-raw)) ∙ ap all_valid taken
-
-pub overflow_add-i : goal.overflow_add-i
-overflow_add-i c = omega arith
-
-pub loop-i-smaller : goal.loop-i-smaller
-loop-i-smaller c = omega arith
 
 pub loop-i-preserved : goal.loop-i-preserved
 loop-i-preserved c =

@@ -1,5 +1,4 @@
--- The function `all-valid` meets its contract. A turn passes one symbol that is valid. The measure is what is left of the symbols. Assumes nothing.
-use Prim.Native.Nat.{◌-◌}
+-- The function `all-valid` meets its contract. A turn passes one symbol that is valid. Assumes nothing.
 use Rattle.block.proofs.SymbolsDiffer.{Passing}
 use Rattle.block.specs.Format.{all_valid}
 use lib.ListN.{take}
@@ -7,6 +6,3 @@ use Rattle.block.proofs.symbols.all_valid.Given as goal
 
 abbrev pub invariant-loop-i : goal.invariant-loop-i
 invariant-loop-i l = Passing all_valid l.count l.symbols (all_valid (take l.count l.symbols)) l.i
-
-abbrev pub decreases-loop-i : goal.decreases-loop-i
-decreases-loop-i l = l.count - l.i

@@ -11,21 +11,12 @@ pub loop-i-init : goal.loop-i-init
 unfolding meant
 loop-i-init c = passing-start _ _ _ _
 
-pub bounds-symbols-i : goal.bounds-symbols-i
-bounds-symbols-i c = omega (arith, c.loop-i-test.true, c.states-count.ensures.1)
-
 pub returns-then-equal : goal.returns-then-equal
 unfolding meant
 returns-then-equal c =
     let f = c.args.f in
     let below : c.loop-i.i < length (take f.count f.symbols) = omega (arith, c.loop-i-test.true, c.states-count.ensures.0) in
     passing-over _ _ _ c.loop-i.invariant below _ (clash-over _ _ _ _ (sym c.equal.ensures ∙ c.if-equal.true))
-
-pub overflow_add-i : goal.overflow_add-i
-overflow_add-i c = omega arith
-
-pub loop-i-smaller : goal.loop-i-smaller
-loop-i-smaller c = omega arith
 
 pub loop-i-preserved : goal.loop-i-preserved
 unfolding meant

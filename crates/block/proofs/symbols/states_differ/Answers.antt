@@ -11,24 +11,12 @@ pub loop-i-init : goal.loop-i-init
 unfolding meant
 loop-i-init c = passing-start _ _ _ 0
 
-pub bounds-symbols-i : goal.bounds-symbols-i
-bounds-symbols-i c = omega (arith, c.loop-i-test.true, c.states-count.ensures.1)
-
-pub overflow_add-i : goal.overflow_add-i
-overflow_add-i c = omega arith
-
 pub returns-then-clashes : goal.returns-then-clashes
 unfolding meant
 returns-then-clashes c =
     let f = c.args.f in
     let below : c.loop-i.i < length (take f.count f.symbols) = omega (arith, c.loop-i-test.true, c.states-count.ensures.0) in
     passing-over _ _ _ c.loop-i.invariant below _ (differ-over _ _ _ (sym c.clashes.ensures ∙ c.if-clashes.true))
-
-pub overflow_add-i-in-loop-i : goal.overflow_add-i-in-loop-i
-overflow_add-i-in-loop-i c = omega arith
-
-pub loop-i-smaller : goal.loop-i-smaller
-loop-i-smaller c = omega arith
 
 pub loop-i-preserved : goal.loop-i-preserved
 unfolding meant

@@ -1,9 +1,6 @@
-use Rattle.block.proofs.WordCounts.{counting-start, counting-newline, counting-turn, counting-end}
+use Rattle.block.proofs.WordCounts.{counting-newline, counting-turn, counting-end}
 use mathlib.Core.Path.{sym, ◌∙◌}
 use Rattle.block.proofs.words.count_words.Goals as goal
-
-pub loop-i-init : goal.loop-i-init
-loop-i-init c = counting-start _ _ _ _
 
 pub loop-i-preserved-then-newline : goal.loop-i-preserved-then-newline
 loop-i-preserved-then-newline c = counting-newline _ _ _ _ _ _ c.loop-i.invariant c.loop-i-test.true (sym c.newline.ensures ∙ c.if-newline.true)

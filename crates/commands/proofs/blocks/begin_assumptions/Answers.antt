@@ -1,28 +1,23 @@
 -- The function `begin_assumptions` meets its contract. Assumes nothing.
-use Rattle.assumptions.specs.TypesHeld.{type_word}
+use Rattle.commands.proofs.BlockLaws.{assumptions-refused, assumptions-begin}
+use Rattle.commands.proofs.GivenLaws.{matrix-if_none}
+use Rattle.lexer.proofs.Basics.{or_left}
+use Rattle.lexer.specs.Base.{option_of, pick}
 use Rattle.block.specs.Outcome.{done}
-use Rattle.commands.proofs.BlockLaws.{assumptions-again, assumptions-early, assumptions-begin}
-use Rattle.commands.specs.StateHeld.{stepped, matrix_of, phase_of, set_of}
-use Rattle.lexer.specs.Base.{pick}
+use Rattle.commands.specs.StateHeld.{phase_of, set_of, stepped}
 use mathlib.Core.Path.{ap, ◌∙◌}
 use Rattle.commands.proofs.blocks.begin_assumptions.Goals as goal
 
--- the parts of a fact as the clauses of the contract
-both : {A B : Type 0} → A × B → record { step : A; placed : B }
-both p = record { step = p.0; placed = p.1 }
-
-pub returns-then-s : goal.returns-then-s
+pub returns-then-s-is_none-clause-step : goal.returns-then-s-is_none-clause-step
 unfolding stepped
-returns-then-s c = both ((λ m text work. assumptions-again _ _ _ _ c.if-s.true, λ text front size h. tt))
+returns-then-s-is_none-clause-step c =
+    λ m text work. assumptions-refused _ _ _ _ (rw (matrix-if_none text work m _ _ c.is_none.ensures) at c.if-s-is_none.true)
 
-pub returns-in-None : goal.returns-in-None
-unfolding stepped matrix_of
-returns-in-None c = both ((λ m text work. assumptions-early _ _ _ _ c.if-s.false (ap (matrix_of m text work) c.in-None.is), λ text front size h. tt))
+pub returns-clause-step : goal.returns-clause-step
+unfolding stepped phase_of set_of option_of pick
+returns-clause-step c =
+    λ m text work. ap done (c.in_phase.ensures.step m text work) ∙ assumptions-begin _ _ _ _ (rw (matrix-if_none text work m _ _ c.is_none.ensures) at c.if-s-is_none.false)
 
-pub returns-in-Read : goal.returns-in-Read
-unfolding stepped matrix_of phase_of set_of type_word pick
-returns-in-Read c =
-    let first = c.if-s.false in both ((
-      λ m text work. ap done (c.in_phase.ensures.step m text work) ∙ assumptions-begin _ _ _ _ _ first (ap (matrix_of m text work) c.in-Read.is),
-      λ text front size h. c.in_phase.ensures.placed text front size h (h.untyped first),
-    ))
+pub returns-clause-placed : goal.returns-clause-placed
+returns-clause-placed c =
+    λ text front size h. c.in_phase.ensures.placed text front size h (h.untyped (or_left _ _ c.if-s-is_none.false))

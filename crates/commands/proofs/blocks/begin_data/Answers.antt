@@ -1,21 +1,21 @@
 -- The function `begin_data` meets its contract. Assumes nothing.
-use Rattle.block.specs.Blocks.{in_phase}
-use Rattle.commands.specs.StateHeld.{stepped, state_of, phase_of}
+use Rattle.block.specs.Outcome.{done}
+use Rattle.commands.proofs.GivenLaws.{matrix_if_some, none_if_not}
+use Rattle.commands.specs.StateHeld.{stepped}
 use Rattle.lexer.specs.Base.{pick}
+use mathlib.Core.Path.{sym, ap, ◌∙◌}
 use Rattle.commands.proofs.blocks.begin_data.Goals as goal
 
--- the parts of a fact as the clauses of the contract
-both : {A B : Type 0} → A × B → record { step : A; placed : B }
-both p = record { step = p.0; placed = p.1 }
-
-pub returns-then-matrix_given : goal.returns-then-matrix_given
+pub returns-then-is_some-clause-step : goal.returns-then-is_some-clause-step
 unfolding stepped pick
-returns-then-matrix_given c = both ((λ m text work. rw (← c.matrix_given.ensures.known m text work, c.if-matrix_given.true), λ text front size h. tt))
+returns-then-is_some-clause-step c =
+    λ m text work. rw (← (c.is_some.ensures ∙ matrix_if_some text work m _), c.if-is_some.true)
 
-pub returns : goal.returns
-unfolding stepped pick state_of phase_of in_phase
-returns c =
-    both ((
-      λ m text work. rw (← c.matrix_given.ensures.known m text work, c.if-matrix_given.false, ← c.no_data.ensures.step m text work),
-      λ text front size h. record { phase = (c.no_data.ensures.placed text front size h.taxa, c.matrix_given.ensures.none c.if-matrix_given.false); taxa = h.taxa; matrix = h.matrix; untyped = h.untyped },
-    ))
+pub returns-clause-step : goal.returns-clause-step
+unfolding stepped pick
+returns-clause-step c =
+    λ m text work. rw (← (c.is_some.ensures ∙ matrix_if_some text work m _), c.if-is_some.false, ← c.no_data.ensures.step m text work) (ap done (c.in_data.ensures.step m text work))
+
+pub returns-clause-placed : goal.returns-clause-placed
+returns-clause-placed c =
+    λ text front size h. c.in_data.ensures.placed text front size h (c.no_data.ensures.placed text front size h.taxa) (none_if_not _ (sym c.is_some.ensures ∙ c.if-is_some.false))

@@ -3,27 +3,28 @@ use Rattle.block.specs.Blocks.{begin_words}
 use Rattle.commands.specs.StateHeld.{stepped}
 use Rattle.lexer.specs.Base.{pick, bytes}
 use Rattle.lexer.specs.Stored.{word_of}
+use native.Mathlib.Omega.{arith}
 use Rattle.commands.proofs.blocks.begin_words.Goals as goal
 
--- the parts of a fact as the clauses of the contract
-both : {A B : Type 0} → A × B → record { step : A; placed : B }
-both p = record { step = p.0; placed = p.1 }
+pub overflow_add-name : goal.overflow_add-name
+overflow_add-name c = omega (arith, (c.word_ahead.ensures.some _ c.in-Some.is).within)
 
-pub returns-then-to-name : goal.returns-then-to-name
+pub returns-in_default-clause-step : goal.returns-in_default-clause-step
 unfolding begin_words stepped word_of
-returns-then-to-name c = both ((λ m. rw (c.next_word-name.ensures.past c.if-to-name.true), λ size h. tt))
+returns-in_default-clause-step c =
+    λ m. rw (c.word_ahead.ensures.none c.in_default.is)
 
-pub returns-then-next_word-to : goal.returns-then-next_word-to
+pub returns-in-Some-word_ahead-clause-step : goal.returns-in-Some-word_ahead-clause-step
 unfolding begin_words stepped word_of
-returns-then-next_word-to c =
-    both ((λ m. rw (c.next_word-name.ensures.here c.if-to-name.false, c.next_word.ensures.here c.if-next_word-to.true), λ size h. tt))
+returns-in-Some-word_ahead-clause-step c =
+    λ m. rw ((c.word_ahead.ensures.some _ c.in-Some.is).here, (c.word_ahead-2.ensures.some _ c.in-Some-word_ahead.is).here)
 
-pub returns-then-is : goal.returns-then-is
+pub returns-then-is-clause-step : goal.returns-then-is-clause-step
 unfolding begin_words pick bytes
-returns-then-is c =
-    both ((λ m. rw (c.next_word-name.ensures.here c.if-to-name.false, c.next_word.ensures.past c.if-next_word-to.false, ← c.is.ensures, c.if-is.true) (c.begin_block.ensures.step m), c.begin_block.ensures.placed))
+returns-then-is-clause-step c =
+    λ m. rw ((c.word_ahead.ensures.some _ c.in-Some.is).here, c.word_ahead-2.ensures.none c.in_default-word_ahead.is, ← c.is.ensures, c.if-is.true) (c.begin_block.ensures.step m)
 
-pub returns : goal.returns
+pub returns-clause-step : goal.returns-clause-step
 unfolding begin_words stepped pick bytes word_of
-returns c =
-    both ((λ m. rw (c.next_word-name.ensures.here c.if-to-name.false, c.next_word.ensures.past c.if-next_word-to.false, ← c.is.ensures, c.if-is.false), λ size h. tt))
+returns-clause-step c =
+    λ m. rw ((c.word_ahead.ensures.some _ c.in-Some.is).here, c.word_ahead-2.ensures.none c.in_default-word_ahead.is, ← c.is.ensures, c.if-is.false)

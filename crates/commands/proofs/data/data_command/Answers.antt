@@ -7,26 +7,39 @@ use Rattle.lexer.specs.Stored.{word_of}
 use mathlib.Core.Path.{sym, ◌∙◌}
 use Rattle.commands.proofs.data.data_command.Goals as goal
 
--- the parts of a fact as the clauses of the contract
-both : {A B : Type 0} → A × B → record { step : A; placed : B }
-both p = record { step = p.0; placed = p.1 }
-
-pub returns-then-is : goal.returns-then-is
+pub returns-then-is-clause-step : goal.returns-then-is-clause-step
 unfolding data_command data_of pick bytes word_of
-returns-then-is c = both (((λ m size other. answered (rw (← c.is.ensures, c.if-is.true) (c.declare_sizes.ensures.step m))), (λ size at p. c.declare_sizes.ensures.placed size p)))
+returns-then-is-clause-step c =
+    λ m size other. answered (rw (← c.is.ensures, c.if-is.true) (c.declare_sizes.ensures.step m))
 
-pub returns-then-is-2 : goal.returns-then-is-2
+pub returns-then-is-clause-placed : goal.returns-then-is-clause-placed
 unfolding data_command data_of pick bytes word_of
-returns-then-is-2 c =
-    both (((λ m size other. answered (rw (← c.is.ensures, c.if-is.false, ← c.is-2.ensures, c.if-is-2.true) (c.declare_style.ensures.step m))), (λ size at p. c.declare_style.ensures.placed size p)))
+returns-then-is-clause-placed c =
+    λ size at p. c.declare_sizes.ensures.placed size p
 
-pub returns-then-is-3 : goal.returns-then-is-3
+pub returns-then-is-2-clause-step : goal.returns-then-is-2-clause-step
 unfolding data_command data_of pick bytes word_of
-returns-then-is-3 c =
+returns-then-is-2-clause-step c =
+    λ m size other. answered (rw (← c.is.ensures, c.if-is.false, ← c.is-2.ensures, c.if-is-2.true) (c.declare_style.ensures.step m))
+
+pub returns-then-is-2-clause-placed : goal.returns-then-is-2-clause-placed
+unfolding data_command data_of pick bytes word_of
+returns-then-is-2-clause-placed c =
+    λ size at p. c.declare_style.ensures.placed size p
+
+pub returns-then-is-3-clause-step : goal.returns-then-is-3-clause-step
+unfolding data_command data_of pick bytes word_of
+returns-then-is-3-clause-step c =
     let told = c.requires.1.right (sym c.is-3.ensures ∙ c.if-is-3.true) in
-    both (((λ m size other. answered (rw (← c.is.ensures, c.if-is.false, ← c.is-2.ensures, c.if-is-2.false, ← c.is-3.ensures, c.if-is-3.true) (c.declare_names.ensures.step m _ _ told))), (λ size at p. c.declare_names.ensures.placed _ _ size at p)))
+    λ m size other. answered (rw (← c.is.ensures, c.if-is.false, ← c.is-2.ensures, c.if-is-2.false, ← c.is-3.ensures, c.if-is-3.true) (c.declare_names.ensures.step m _ _ told))
 
-pub returns : goal.returns
+pub returns-then-is-3-clause-placed : goal.returns-then-is-3-clause-placed
 unfolding data_command data_of pick bytes word_of
-returns c =
-    both (((λ m size other. rw (← c.is.ensures, c.if-is.false, ← c.is-2.ensures, c.if-is-2.false, ← c.is-3.ensures, c.if-is-3.false, other) (c.declare_other.ensures.step m size)), (λ size at p. c.declare_other.ensures.placed size at p)))
+returns-then-is-3-clause-placed c =
+    let told = c.requires.1.right (sym c.is-3.ensures ∙ c.if-is-3.true) in
+    λ size at p. c.declare_names.ensures.placed _ _ size at p
+
+pub returns-clause-step : goal.returns-clause-step
+unfolding data_command data_of pick bytes word_of
+returns-clause-step c =
+    λ m size other. rw (← c.is.ensures, c.if-is.false, ← c.is-2.ensures, c.if-is-2.false, ← c.is-3.ensures, c.if-is-3.false, other) (c.declare_other.ensures.step m size)

@@ -10,20 +10,21 @@ use mathlib.Core.Path.{refl, sym, ◌∙◌}
 use native.Mathlib.Omega.{arith}
 use Rattle.commands.proofs.data.declare_labels.Goals as goal
 
--- the parts of a fact as the clauses of the contract
-both : {A B : Type 0} → A × B → record { step : A; placed : B }
-both p = record { step = p.0; placed = p.1 }
-
-pub returns-then-labelled_by : goal.returns-then-labelled_by
+pub returns-then-labelled_by-clause-step : goal.returns-then-labelled_by-clause-step
 unfolding label_step data_of declared word_of pick
-returns-then-labelled_by c = both (((λ m text work size. answered (rw (← c.labelled_by.ensures text work, c.if-labelled_by.true))), (λ text front size at p. tt)))
+returns-then-labelled_by-clause-step c =
+    λ m text work size. answered (rw (← c.labelled_by.ensures text work, c.if-labelled_by.true))
 
-pub returns-then-labels-gt2 : goal.returns-then-labels-gt2
+pub returns-then-d-gt2-clause-step : goal.returns-then-d-gt2-clause-step
 unfolding declared
-returns-then-labels-gt2 c =
-    both (((λ m text work size. short refl (λ p. let few = kinds-room _ _ (sym (c.labelled_by.ensures text work) ∙ c.if-labelled_by.false) in omega (arith, few, p.kinds))), (λ text front size at p. tt)))
+returns-then-d-gt2-clause-step c =
+    λ m text work size. short refl (λ p. let few = kinds-room _ _ (sym (c.labelled_by.ensures text work) ∙ c.if-labelled_by.false) in omega (arith, few, p.kinds))
 
-pub returns : goal.returns
+pub returns-clause-step : goal.returns-clause-step
 unfolding label_step data_of declared word_of pick
-returns c =
-    both (((λ m text work size. answered (rw (← c.labelled_by.ensures text work, c.if-labelled_by.false, c.more_labels.ensures.held text work))), (λ text front size at p. record { style = p.style; names = p.names; labels = commands-more _ _ _ _ _ _ _ _ c.more_labels.ensures (sym (c.labelled_by.ensures text front) ∙ c.if-labelled_by.false) at p.labels; matrix = p.matrix; untyped = p.untyped })))
+returns-clause-step c =
+    λ m text work size. answered (rw (← c.labelled_by.ensures text work, c.if-labelled_by.false, c.more_labels.ensures.held text work))
+
+pub returns-clause-placed : goal.returns-clause-placed
+returns-clause-placed c =
+    λ text front size at p. record { style = p.style; names = p.names; labels = commands-more _ _ _ _ _ _ _ _ c.more_labels.ensures (sym (c.labelled_by.ensures text front) ∙ c.if-labelled_by.false) at p.labels; matrix = p.matrix; untyped = p.untyped }

@@ -2,26 +2,26 @@
 use Rattle.block.specs.Blocks.{with_taxa}
 use Rattle.block.specs.Judged.{judged}
 use Rattle.block.specs.Outcome.{then}
+use Rattle.commands.proofs.GivenLaws.{names_if_some}
 use Rattle.commands.specs.DataHeld.{declared}
 use Rattle.commands.specs.StateHeld.{data_of, names_in}
 use Rattle.lexer.specs.Base.{pick}
+use Rattle.std.proofs.lemmas.Result.{err_from_is_err_and}
 use mathlib.Core.Path.{sym, ap, ◌∙◌}
 use Rattle.commands.proofs.data.declare_names.Goals as goal
 
--- the parts of a fact as the clauses of the contract
-both : {A B : Type 0} → A × B → record { step : A; placed : B }
-both p = record { step = p.0; placed = p.1 }
-
-pub returns-then-names_given : goal.returns-then-names_given
+pub returns-then-is_some-clause-step : goal.returns-then-is_some-clause-step
 unfolding declared pick
-returns-then-names_given c = both (((λ m text starts e. rw (← c.names_given.ensures text starts, c.if-names_given.true)), (λ text front size at p. tt)))
+returns-then-is_some-clause-step c =
+    λ m text starts e. rw (← (c.is_some.ensures ∙ names_if_some text starts _), c.if-is_some.true)
 
-pub returns-in-Good : goal.returns-in-Good
+pub returns-clause-step : goal.returns-clause-step
 unfolding declared pick then judged with_taxa data_of names_in
-returns-in-Good c =
-    both (((λ m text starts e. rw (← c.names_given.ensures text starts, c.if-names_given.false, sym e ∙ ap (judged _) c.in-Good.is)), (λ text front size at p. record { style = p.style; names = at.within; labels = p.labels; matrix = p.matrix; untyped = p.untyped })))
+returns-clause-step c =
+    λ m text starts e. rw (← (c.is_some.ensures ∙ names_if_some text starts _), c.if-is_some.false, sym e ∙ ap (judged _) c.in_ok-judgement.was)
 
-pub returns-in-Refused : goal.returns-in-Refused
+pub returns-in_err-judgement-clause-step : goal.returns-in_err-judgement-clause-step
 unfolding declared pick then judged
-returns-in-Refused c =
-    both (((λ m text starts e. rw (← c.names_given.ensures text starts, c.if-names_given.false, sym e ∙ ap (judged _) c.in-Refused.is)), (λ text front size at p. tt)))
+returns-in_err-judgement-clause-step c =
+    let p = err_from_is_err_and c.from_residual.result c.from_residual.ensures.1 in
+    λ m text starts e. rw (p.1, p.2, ← (c.is_some.ensures ∙ names_if_some text starts _), c.if-is_some.false, sym e ∙ ap (judged _) c.in_err-judgement.was)

@@ -1,29 +1,26 @@
 -- The function `declare_sizes` meets its contract: the first of its kind, and what it declares. Assumes nothing.
 use Rattle.block.specs.Blocks.{with_dimensions}
-use Rattle.block.specs.Outcome.{then}
-use Rattle.block.specs.Sizes.{sized}
+use Rattle.block.specs.Outcome.{then, outcome}
+use Rattle.commands.proofs.GivenLaws.{given_if_some}
 use Rattle.commands.specs.DataHeld.{declared}
-use Rattle.commands.specs.StateHeld.{data_of, sizes_of}
-use Rattle.lexer.specs.Base.{pick}
-use mathlib.Core.Path.{sym, ap, ◌∙◌}
+use Rattle.commands.specs.StateHeld.{data_of}
+use Rattle.lexer.specs.Base.{option_of, pick}
+use Rattle.std.proofs.lemmas.Result.{err_from_is_err_and}
+use mathlib.Core.Path.{◌∙◌}
 use Rattle.commands.proofs.data.declare_sizes.Goals as goal
 
--- the parts of a fact as the clauses of the contract
-both : {A B : Type 0} → A × B → record { step : A; placed : B }
-both p = record { step = p.0; placed = p.1 }
-
-pub returns-then-sizes_given : goal.returns-then-sizes_given
+pub returns-then-is_some-clause-step : goal.returns-then-is_some-clause-step
 unfolding declared pick
-returns-then-sizes_given c = both (((λ m. rw (← c.sizes_given.ensures, c.if-sizes_given.true)), (λ size p. tt)))
+returns-then-is_some-clause-step c =
+    λ m. rw (← (c.is_some.ensures ∙ given_if_some _), c.if-is_some.true)
 
-pub returns-in-Dimensions : goal.returns-in-Dimensions
-unfolding declared pick then sized with_dimensions data_of sizes_of
-returns-in-Dimensions c =
-    let known = sym c.dimensions.ensures ∙ ap sized c.in-Dimensions.is in
-    both (((λ m. rw (← c.sizes_given.ensures, c.if-sizes_given.false, known)), (λ size p. record { style = p.style; names = p.names; labels = p.labels; matrix = p.matrix; untyped = p.untyped })))
+pub returns-clause-step : goal.returns-clause-step
+unfolding declared pick then outcome with_dimensions data_of option_of
+returns-clause-step c =
+    λ m. rw (← (c.is_some.ensures ∙ given_if_some _), c.if-is_some.false, ← c.in_ok-sizes.ensures)
 
-pub returns-in-Refused : goal.returns-in-Refused
-unfolding declared pick then sized
-returns-in-Refused c =
-    let known = sym c.dimensions.ensures ∙ ap sized c.in-Refused.is in
-    both (((λ m. rw (← c.sizes_given.ensures, c.if-sizes_given.false, known)), (λ size p. tt)))
+pub returns-in_err-sizes-clause-step : goal.returns-in_err-sizes-clause-step
+unfolding declared pick then outcome
+returns-in_err-sizes-clause-step c =
+    let p = err_from_is_err_and c.from_residual.result c.from_residual.ensures.1 in
+    λ m. rw (p.1, p.2, ← (c.is_some.ensures ∙ given_if_some _), c.if-is_some.false, ← c.in_err-sizes.ensures)

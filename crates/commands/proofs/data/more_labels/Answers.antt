@@ -3,11 +3,14 @@ use Rattle.commands.proofs.LabelKindLaws.{more-one, more-two, more-three}
 use native.Mathlib.Omega.{arith}
 use Rattle.commands.proofs.data.more_labels.Goals as goal
 
-pub returns-then-ls-eq0 : goal.returns-then-ls-eq0
-returns-then-ls-eq0 c = more-one _ _ c.if-ls-eq0.true
+pub returns-in-0 : goal.returns-in-0
+returns-in-0 c =
+    more-one _ _ c.in-0.is
 
-pub returns-then-ls-eq1 : goal.returns-then-ls-eq1
-returns-then-ls-eq1 c = more-two _ _ c.if-ls-eq1.true
+pub returns-in-1 : goal.returns-in-1
+returns-in-1 c =
+    more-two _ _ c.in-1.is
 
-pub returns : goal.returns
-returns c = more-three _ _ (omega arith)
+pub returns-in_default : goal.returns-in_default
+returns-in_default c =
+    more-three _ _ (omega arith)

@@ -6,24 +6,25 @@ use Rattle.lexer.specs.Stored.{word_of}
 use mathlib.Core.Path.{ap}
 use Rattle.commands.proofs.taxa.taxa_count.Goals as goal
 
--- the parts of a fact as the clauses of the contract
-both : {A B : Type 0} → A × B → record { step : A; placed : B }
-both p = record { step = p.0; placed = p.1 }
-
-pub returns-then-d : goal.returns-then-d
+pub returns-then-d-clause-step : goal.returns-then-d-clause-step
 unfolding stepped then word_of
-returns-then-d c = both ((λ m text work. rw (count-more (word_of text work _) _ _ c.if-d.true), λ text front size h. tt))
+returns-then-d-clause-step c =
+    λ m text work. rw (count-more (word_of text work _) _ _ c.if-d.true)
 
-pub returns-then-d-eq0 : goal.returns-then-d-eq0
+pub returns-then-d-eq0-clause-step : goal.returns-then-d-eq0-clause-step
 unfolding stepped then word_of
-returns-then-d-eq0 c =
+returns-then-d-eq0-clause-step c =
     let d = c.args.d in
-    both ((λ m text work. rw (count-absent (word_of text work _) _ d c.if-d.false c.if-d-eq0.true), λ text front size h. tt))
+    λ m text work. rw (count-absent (word_of text work _) _ d c.if-d.false c.if-d-eq0.true)
 
-pub returns : goal.returns
+pub returns-clause-step : goal.returns-clause-step
 unfolding stepped then phase_of names_in
-returns c =
-    let d = c.args.d in both ((
-      λ m text work. rw (count-alone (word_of text work _) _ d c.if-d.false c.if-d-eq0.false) (ap done (c.in_phase.ensures.step m text work)),
-      λ text front size h. c.in_phase.ensures.placed text front size h tt,
-    ))
+returns-clause-step c =
+    let d = c.args.d in
+    λ m text work. rw (count-alone (word_of text work _) _ d c.if-d.false c.if-d-eq0.false) (ap done (c.in_phase.ensures.step m text work))
+
+pub returns-clause-placed : goal.returns-clause-placed
+unfolding stepped then phase_of names_in
+returns-clause-placed c =
+    let d = c.args.d in
+    λ text front size h. c.in_phase.ensures.placed text front size h tt

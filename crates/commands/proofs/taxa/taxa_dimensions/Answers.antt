@@ -1,18 +1,20 @@
 -- The function `taxa_dimensions` meets its contract. Assumes nothing.
-use Rattle.block.specs.Outcome.{then}
-use Rattle.block.specs.Sizes.{sized}
+use Rattle.block.specs.Outcome.{then, outcome}
 use Rattle.commands.specs.StateHeld.{stepped}
+use Rattle.std.proofs.lemmas.Result.{err_from_is_err_and}
 use Rattle.commands.proofs.taxa.taxa_dimensions.Goals as goal
 
--- the parts of a fact as the clauses of the contract
-both : {A B : Type 0} → A × B → record { step : A; placed : B }
-both p = record { step = p.0; placed = p.1 }
+pub returns-clause-step : goal.returns-clause-step
+unfolding then outcome
+returns-clause-step c =
+    λ m. rw (← c.in_ok-d.ensures) (c.taxa_count.ensures.step m _ _)
 
-pub returns-in-Dimensions : goal.returns-in-Dimensions
-unfolding then sized
-returns-in-Dimensions c =
-    both ((λ m. rw (← c.dimensions.ensures, c.in-Dimensions.is) (c.taxa_count.ensures.step m _ _), c.taxa_count.ensures.placed _ _))
+pub returns-clause-placed : goal.returns-clause-placed
+returns-clause-placed c =
+    c.taxa_count.ensures.placed _ _
 
-pub returns-in-Refused : goal.returns-in-Refused
-unfolding then sized stepped
-returns-in-Refused c = both ((λ m. rw (← c.dimensions.ensures, c.in-Refused.is), λ size h. tt))
+pub returns-in_err-d-clause-step : goal.returns-in_err-d-clause-step
+unfolding then outcome stepped
+returns-in_err-d-clause-step c =
+    let p = err_from_is_err_and c.from_residual.result c.from_residual.ensures.1 in
+    λ m. rw (p.1, p.2, ← c.in_err-d.ensures)

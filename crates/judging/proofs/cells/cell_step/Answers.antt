@@ -1,6 +1,5 @@
 -- The function `cell_step` meets its contract, mode by mode. Assumes nothing.
-use Rattle.judging.proofs.CellModeLaws.{step-known}
-use Rattle.judging.proofs.ModeTags.{tags-closed}
+use Rattle.judging.proofs.CellModeLaws.{step-known, within-other}
 use Rattle.judging.specs.CellModes.{step, within}
 use Rattle.lexer.specs.Base.{pick}
 use borrow.Author.Tests.{eq-eqb}
@@ -24,4 +23,4 @@ unfolding within
 returns-in-Index c = step-known _ _ c.if-b-eq32.false c.in-Index.is c.index_step.ensures
 
 pub returns-in_default : goal.returns-in_default
-returns-in_default c = step-known _ _ c.if-b-eq32.false refl (sym (tags-closed _ _ _ c.in_default.in_default-own.keys4))
+returns-in_default c = step-known _ _ c.if-b-eq32.false refl (sym (within-other _ _ _ c.in_default.not-Fresh c.in_default.not-Opened c.in_default.not-Index))

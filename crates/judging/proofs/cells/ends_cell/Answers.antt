@@ -1,8 +1,7 @@
 -- The function `ends_cell` meets its contract, mode by mode. Assumes nothing.
-use Rattle.judging.proofs.ModeTags.{tags-open}
+use Rattle.judging.proofs.CellModeLaws.{ends-other}
 use Rattle.judging.specs.CellModes.{ends}
 use mathlib.Core.Path.{sym}
-use borrow.Enum.Refused.{opened}
 use Rattle.judging.proofs.cells.ends_cell.Goals as goal
 
 pub returns-in-Index : goal.returns-in-Index
@@ -14,4 +13,4 @@ unfolding ends
 returns-in-Whole c = rw c.in-Whole.is
 
 pub returns-in_default : goal.returns-in_default
-returns-in_default c = sym (tags-open _ (opened c.in_default.in_default-own.keys3))
+returns-in_default c = sym (ends-other _ c.in_default.not-Index c.in_default.not-Whole)

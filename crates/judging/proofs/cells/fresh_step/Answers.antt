@@ -1,25 +1,26 @@
 -- The function `fresh_step` meets its contract. Assumes nothing.
-use Rattle.judging.proofs.CellModeLaws.{digit_low}
 use Rattle.judging.specs.CellModes.{is_digit, step_fresh}
 use Rattle.lexer.specs.Base.{pick}
+use Rattle.std.proofs.Common.{arith}
+use Rattle.std.proofs.lemmas.Bool.Decides.{nat_tests}
 use Rattle.judging.proofs.cells.fresh_step.Goals as goal
 
-pub begin_index-requires : goal.begin_index-requires
-unfolding is_digit
-begin_index-requires c = digit_low c.args.b c.if-b.true
-
-pub returns-then-b : goal.returns-then-b
+pub returns-in-117 : goal.returns-in-117
 unfolding step_fresh is_digit pick
-returns-then-b c = rw c.if-b.true c.begin_index.ensures
+returns-in-117 c = grind (arith, nat_tests)
 
-pub returns-then-b-2 : goal.returns-then-b-2
+pub returns-in-109 : goal.returns-in-109
 unfolding step_fresh is_digit pick
-returns-then-b-2 c = rw (c.if-b.false, c.if-b-2.true)
+returns-in-109 c = grind (arith, nat_tests)
 
-pub returns-then-b-3 : goal.returns-then-b-3
+pub returns-in-48-to-57 : goal.returns-in-48-to-57
 unfolding step_fresh is_digit pick
-returns-then-b-3 c = rw (c.if-b.false, c.if-b-2.false, c.if-b-3.true)
+returns-in-48-to-57 c = grind (arith, nat_tests)
 
-pub returns : goal.returns
+pub returns-in_default : goal.returns-in_default
 unfolding step_fresh is_digit pick
-returns c = rw (c.if-b.false, c.if-b-2.false, c.if-b-3.false)
+returns-in_default c = grind (arith, nat_tests)
+
+pub returns-in_default-2 : goal.returns-in_default-2
+unfolding step_fresh is_digit pick
+returns-in_default-2 c = grind (arith, nat_tests)

@@ -1,17 +1,17 @@
 -- The function `opened_step` meets its contract. Assumes nothing.
-use Rattle.judging.proofs.CellModeLaws.{digit_low}
 use Rattle.judging.specs.CellModes.{is_digit, step_opened}
 use Rattle.lexer.specs.Base.{pick}
+use Rattle.std.proofs.Common.{rules, tests}
 use Rattle.judging.proofs.cells.opened_step.Goals as goal
 
-pub begin_index-requires : goal.begin_index-requires
-unfolding is_digit
-begin_index-requires c = digit_low c.args.b c.if-b.true
-
-pub returns-then-b : goal.returns-then-b
+pub returns-in-48-to-57 : goal.returns-in-48-to-57
 unfolding step_opened is_digit pick
-returns-then-b c = rw c.if-b.true c.begin_index.ensures
+returns-in-48-to-57 c = search (tests, rules)
 
-pub returns : goal.returns
+pub returns-in_default : goal.returns-in_default
 unfolding step_opened is_digit pick
-returns c = rw c.if-b.false
+returns-in_default c = search (tests, rules)
+
+pub returns-in_default-2 : goal.returns-in_default-2
+unfolding step_opened is_digit pick
+returns-in_default-2 c = search (tests, rules)

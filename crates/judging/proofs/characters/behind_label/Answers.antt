@@ -1,12 +1,13 @@
 -- The function `behind_label` meets its contract: type and state labels stand there; or the state labels do not, or the type. Assumes nothing.
+use mathlib.Core.Path.{refl}
 use Rattle.judging.proofs.CharactersTold.{tail-uncounted, tail-unordered, tail-whole}
 use Rattle.judging.proofs.characters.behind_label.Goals as goal
 
-pub returns-in-At-state_part : goal.returns-in-At-state_part
-returns-in-At-state_part c = λ small. tail-whole _ _ _ _ _ c.order_line.ensures _ _ c.in-At.is _ (c.state_part.ensures small) _ _ c.in-At-state_part.is
+pub returns-in_err-j : goal.returns-in_err-j
+returns-in_err-j c = rw c.from_residual.ensures (λ small. tail-unordered _ _ _ _ _ c.in_err-j.ensures refl)
 
-pub returns-in-Wrong-state_part : goal.returns-in-Wrong-state_part
-returns-in-Wrong-state_part c = λ small. tail-uncounted _ _ _ _ _ c.order_line.ensures _ _ c.in-At.is _ (c.state_part.ensures small) c.in-Wrong-state_part.is
+pub returns-in_err-k : goal.returns-in_err-k
+returns-in_err-k c = rw c.from_residual-in_err-k.ensures (λ small. tail-uncounted _ _ _ _ _ c.in_ok-j.ensures _ _ refl _ (c.in_err-k.ensures small) refl)
 
-pub returns-in-Wrong : goal.returns-in-Wrong
-returns-in-Wrong c = λ small. tail-unordered _ _ _ _ _ c.order_line.ensures c.in-Wrong.is
+pub returns : goal.returns
+returns c = λ small. tail-whole _ _ _ _ _ c.in_ok-j.ensures _ _ refl _ (c.in_ok-k.ensures small) _ _ refl

@@ -1,16 +1,17 @@
 -- The function `keyed_label` meets its contract: the key stands there, and then the label is judged, which is empty where an LF begins it; or the key does not. Assumes nothing.
 use Rattle.lexer.specs.Base.{bytes}
+use mathlib.Core.Path.{refl}
 use Rattle.judging.proofs.LinesTold.{labelled-line, label-otherwise, unlabelled}
 use Rattle.judging.proofs.characters.keyed_label.Goals as goal
 
-pub returns-in-At-label_line : goal.returns-in-At-label_line
+pub returns-in_err-j : goal.returns-in_err-j
 unfolding bytes
-returns-in-At-label_line c = rw c.byte_or_zero.ensures (labelled-line _ _ _ c.key_at.ensures _ c.in-At.is _ c.label_line.ensures _ c.in-At-label_line.is)
+returns-in_err-j c = rw c.from_residual.ensures (unlabelled _ _ _ c.in_err-j.ensures refl)
 
-pub returns-in-Wrong-label_line : goal.returns-in-Wrong-label_line
+pub returns-in_err-k : goal.returns-in_err-k
 unfolding bytes
-returns-in-Wrong-label_line c = label-otherwise _ _ _ c.key_at.ensures _ c.in-At.is _ c.label_line.ensures c.in-Wrong-label_line.is
+returns-in_err-k c = rw c.from_residual-in_err-k.ensures (label-otherwise _ _ _ c.in_ok-j.ensures _ refl _ c.in_err-k.ensures refl)
 
-pub returns-in-Wrong : goal.returns-in-Wrong
+pub returns : goal.returns
 unfolding bytes
-returns-in-Wrong c = unlabelled _ _ _ c.key_at.ensures c.in-Wrong.is
+returns c = rw c.byte_or_zero.ensures (labelled-line _ _ _ c.in_ok-j.ensures _ refl _ c.in_ok-k.ensures _ refl)

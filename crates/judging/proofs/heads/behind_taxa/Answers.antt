@@ -4,14 +4,14 @@ use mathlib.Core.Path.{refl}
 use Rattle.judging.proofs.OpeningTold.{behind-taxa-no-count, behind-taxa-no-symbols, behind-taxa-whole}
 use Rattle.judging.proofs.heads.behind_taxa.Goals as goal
 
-pub returns-in-At-symbols_line : goal.returns-in-At-symbols_line
+pub returns-in_err-n : goal.returns-in_err-n
 unfolding bytes
-returns-in-At-symbols_line c = behind-taxa-whole _ _ _ _ _ c.count_line.ensures _ _ c.in-At.is _ c.symbols_line.ensures _ _ c.in-At-symbols_line.is _ refl refl refl refl
+returns-in_err-n c = rw c.from_residual.ensures (behind-taxa-no-count _ _ _ _ _ c.in_err-n.ensures refl)
 
-pub returns-in-Wrong-symbols_line : goal.returns-in-Wrong-symbols_line
+pub returns-in_err-states : goal.returns-in_err-states
 unfolding bytes
-returns-in-Wrong-symbols_line c = behind-taxa-no-symbols _ _ _ _ _ c.count_line.ensures _ _ c.in-At.is _ c.symbols_line.ensures c.in-Wrong-symbols_line.is
+returns-in_err-states c = rw c.from_residual-in_err-states.ensures (behind-taxa-no-symbols _ _ _ _ _ c.in_ok-n.ensures _ _ refl _ c.in_err-states.ensures refl)
 
-pub returns-in-Wrong : goal.returns-in-Wrong
+pub returns : goal.returns
 unfolding bytes
-returns-in-Wrong c = behind-taxa-no-count _ _ _ _ _ c.count_line.ensures c.in-Wrong.is
+returns c = behind-taxa-whole _ _ _ _ _ c.in_ok-n.ensures _ _ refl _ c.in_ok-states.ensures _ _ refl _ refl refl refl refl

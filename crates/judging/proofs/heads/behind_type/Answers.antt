@@ -4,10 +4,10 @@ use mathlib.Core.Path.{refl}
 use Rattle.judging.proofs.OpeningTold.{behind-type-no-count, behind-type-whole}
 use Rattle.judging.proofs.heads.behind_type.Goals as goal
 
-pub returns-in-At : goal.returns-in-At
+pub returns-in_err-n : goal.returns-in_err-n
 unfolding bytes
-returns-in-At c = behind-type-whole _ _ _ _ c.count_line.ensures _ _ c.in-At.is _ refl _ c.behind_taxa.ensures
+returns-in_err-n c = rw c.from_residual.ensures (behind-type-no-count _ _ _ _ c.in_err-n.ensures refl)
 
-pub returns-in-Wrong : goal.returns-in-Wrong
+pub returns : goal.returns
 unfolding bytes
-returns-in-Wrong c = behind-type-no-count _ _ _ _ c.count_line.ensures c.in-Wrong.is
+returns c = behind-type-whole _ _ _ _ c.in_ok-n.ensures _ _ refl _ refl _ c.behind_taxa.ensures

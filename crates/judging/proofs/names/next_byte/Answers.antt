@@ -4,7 +4,6 @@ use Rattle.judging.proofs.NameRests.{name-forbidden, name-broken, name-byte}
 use Rattle.judging.proofs.Utf8Bytes.{open-ascii, open-lead, no_lead, open-later, no-later}
 use borrow.Author.Rules.{rules}
 use mathlib.Core.Path.{sym, ◌∙◌}
-use native.Mathlib.Omega.{arith}
 use Rattle.judging.proofs.names.next_byte.Goals as goal
 
 pub returns-then-b : goal.returns-then-b
@@ -12,7 +11,8 @@ returns-then-b c = λ n w. name-forbidden _ _ n c.if-b.true ∙ sym (c.no_name.e
 
 pub returns-then-b-lt128 : goal.returns-then-b-lt128
 returns-then-b-lt128 c =
-    λ n w. name-byte _ c.args.b n _ (search rules) c.if-b.false (open-ascii _ _ _ _ n c.if-s-eq0.true c.if-b-lt128.true) (rw w)
+    rw c.open.ensures
+    (λ n w. name-byte c.args.s c.args.b n _ (search rules) c.if-b.false (open-ascii _ _ _ _ n c.if-s-eq0.true c.if-b-lt128.true) (rw w))
 
 pub returns-then-b-2 : goal.returns-then-b-2
 returns-then-b-2 c =
@@ -29,9 +29,7 @@ returns-then-s-eq0 c =
 pub returns-then-b-s : goal.returns-then-b-s
 returns-then-b-s c = λ n w. name-broken _ _ n (no-later _ _ _ _ n c.if-s-eq0.false c.if-b-s.true) ∙ sym (c.no_name-then-b-s.ensures n)
 
-pub overflow_sub-result : goal.overflow_sub-result
-overflow_sub-result c = omega (arith, c.if-s-eq0.false)
-
 pub returns : goal.returns
 returns c =
-    λ n w. name-byte _ c.args.b n _ (search rules) c.if-b.false (open-later _ _ _ _ n c.if-s-eq0.false c.if-b-s.false) (rw w)
+    rw c.open-2.ensures
+    (λ n w. name-byte c.args.s c.args.b n _ (search rules) c.if-b.false (open-later _ _ _ _ n c.if-s-eq0.false c.if-b-s.false) (rw w))

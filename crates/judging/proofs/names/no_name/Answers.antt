@@ -4,4 +4,4 @@ use mathlib.Core.Path.{refl}
 use Rattle.judging.proofs.names.no_name.Goals as goal
 
 pub returns : goal.returns
-returns c = name-none _ refl refl refl
+returns c = rw c.open.ensures (name-none _ refl refl refl)

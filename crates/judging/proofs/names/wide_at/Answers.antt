@@ -5,6 +5,3 @@ use Rattle.judging.proofs.names.wide_at.Goals as goal
 
 pub returns-then-b-lt194 : goal.returns-then-b-lt194
 returns-then-b-lt194 c = sym (wide_below _ _ c.if-b-lt194.true)
-
-pub returns : goal.returns
-returns c = c.wide_blank.ensures

@@ -1,9 +1,10 @@
 -- The function `keyed_number` meets its contract: the key stands there, and then the number is judged; or it does not. Assumes nothing.
+use mathlib.Core.Path.{refl}
 use Rattle.judging.proofs.LinesTold.{number-keyed, number-no-key}
 use Rattle.judging.proofs.numbers.keyed_number.Goals as goal
 
-pub returns-in-At : goal.returns-in-At
-returns-in-At c = number-keyed _ _ _ _ c.key_at.ensures _ c.in-At.is _ c.number_line.ensures
+pub returns-in_err-j : goal.returns-in_err-j
+returns-in_err-j c = rw c.from_residual.ensures (number-no-key _ _ _ _ c.in_err-j.ensures refl)
 
-pub returns-in-Wrong : goal.returns-in-Wrong
-returns-in-Wrong c = number-no-key _ _ _ _ c.key_at.ensures c.in-Wrong.is
+pub returns : goal.returns
+returns c = number-keyed _ _ _ _ c.in_ok-j.ensures _ refl _ c.number_line.ensures

@@ -1,12 +1,13 @@
 -- The function `row` meets its contract: a name stands there, and then the cells are judged; or none does. Assumes nothing.
 use Rattle.lexer.specs.Base.{bytes}
+use mathlib.Core.Path.{refl}
 use Rattle.judging.proofs.RowsTold.{row-named, row-unnamed}
 use Rattle.judging.proofs.rows.row.Goals as goal
 
-pub returns-in-At : goal.returns-in-At
+pub returns-in_err-j : goal.returns-in_err-j
 unfolding bytes
-returns-in-At c = λ some. row-named _ _ _ _ _ c.keyed_name.ensures _ c.in-At.is _ (c.keyed_cells.ensures some)
+returns-in_err-j c = rw c.from_residual.ensures (λ some. row-unnamed _ _ _ _ _ c.in_err-j.ensures refl)
 
-pub returns-in-Wrong : goal.returns-in-Wrong
+pub returns : goal.returns
 unfolding bytes
-returns-in-Wrong c = λ some. row-unnamed _ _ _ _ _ c.keyed_name.ensures c.in-Wrong.is
+returns c = λ some. row-named _ _ _ _ _ c.in_ok-j.ensures _ refl _ (c.keyed_cells.ensures some)

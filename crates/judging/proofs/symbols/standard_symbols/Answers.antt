@@ -8,9 +8,6 @@ use Rattle.judging.proofs.symbols.standard_symbols.Goals as goal
 pub returns-then-byte_or_zero-ne10 : goal.returns-then-byte_or_zero-ne10
 returns-then-byte_or_zero-ne10 c = symbols-other _ _ _ c.symbol_run-end.ensures (λ lf. c.if-byte_or_zero-ne10.true (c.byte_or_zero.ensures ∙ lf))
 
-pub overflow_sub-count : goal.overflow_sub-count
-overflow_sub-count c = omega (arith, c.symbol_run-end.ensures)
-
 pub returns-then-count : goal.returns-then-count
 returns-then-count c = symbols-not-so-many _ _ _ c.symbol_run-end.ensures c.if-count.true
 

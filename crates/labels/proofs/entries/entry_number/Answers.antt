@@ -2,20 +2,13 @@
 use Rattle.block.specs.Labels.{entry_number}
 use Rattle.labels.specs.LabelEntries.{entered, entry_of}
 use Rattle.lexer.specs.Stored.{word_of}
+use Rattle.std.proofs.Common.{inl, inr}
 use Rattle.labels.proofs.entries.entry_number.Goals as goal
 
--- the parts of a fact as the clauses of the contract
-both : {A B : Type 0} → A × B → record { placed : A; entered : B }
-both p = record { placed = p.0; entered = p.1 }
-
-pub returns-in-CharLabels : goal.returns-in-CharLabels
-unfolding entered entry_of entry_number word_of
-returns-in-CharLabels c = both (((c.requires.0, c.requires.1), λ text. rw c.in-CharLabels.is))
-
-pub returns-in-StateLabels : goal.returns-in-StateLabels
+pub returns-in-StateLabels-clause-entered : goal.returns-in-StateLabels-clause-entered
 unfolding entry_number word_of
-returns-in-StateLabels c = both ((c.begin_states.ensures.placed, λ text. rw c.in-StateLabels.is (c.begin_states.ensures.entered text)))
+returns-in-StateLabels-clause-entered c = λ text. rw c.in-StateLabels.is (c.begin_states.ensures.entered text)
 
-pub returns-in-CharStateLabels : goal.returns-in-CharStateLabels
+pub returns-in-CharLabels-clause-entered : goal.returns-in-CharLabels-clause-entered
 unfolding entered entry_of entry_number word_of
-returns-in-CharStateLabels c = both (((c.requires.0, c.requires.1), λ text. rw c.in-CharStateLabels.is))
+returns-in-CharLabels-clause-entered c = λ text. elim c.in-CharLabels.is [ inl e ↦ rw e | inr e ↦ rw e ]

@@ -1,17 +1,13 @@
 -- The function `char_labels` meets its contract: the count of words, and then each label. Assumes nothing.
 use Rattle.block.specs.Judged.{judged}
 use Rattle.labels.proofs.EachLabelled.{count-right, count-wrong}
-use mathlib.Core.Path.{refl, sym, ◌∙◌}
+use mathlib.Core.Path.{sym, ◌∙◌}
 use Rattle.labels.proofs.labels.char_labels.Goals as goal
 
--- the parts of a fact as the clauses of the contract
-both : {A B : Type 0} → A × B → record { front : A; labelled : B }
-both p = record { front = p.0; labelled = p.1 }
-
-pub returns-then-count_words-characters : goal.returns-then-count_words-characters
-returns-then-count_words-characters c =
-    both ((c.label_each.ensures.front, c.label_each.ensures.labelled ∙ sym (count-right _ _ _ _ _ _ _ c.count_words.ensures c.if-count_words-characters.true)))
-
-pub returns : goal.returns
+pub returns-then-count_words-room-clause-labelled : goal.returns-then-count_words-room-clause-labelled
 unfolding judged
-returns c = both ((refl, sym (count-wrong _ _ _ _ _ _ _ c.count_words.ensures c.if-count_words-characters.false)))
+returns-then-count_words-room-clause-labelled c = sym (count-wrong _ _ _ _ _ _ _ c.count_words.ensures c.if-count_words-room.true)
+
+pub returns-clause-labelled : goal.returns-clause-labelled
+returns-clause-labelled c =
+    c.label_each.ensures.labelled ∙ sym (count-right _ _ _ _ _ _ _ c.count_words.ensures c.if-count_words-room.false)

@@ -1,16 +1,11 @@
-use Rattle.labels.proofs.LabelSlotLaws.{emptying-start, emptying-turn, emptying-end}
-use native.Mathlib.Omega.{arith}
+use Prim.Native.Nat.{◌*◌}
+use Rattle.labels.proofs.LabelSlotLaws.{held-filled}
+use Rattle.std.proofs.Common.{rules}
+use lib.ListN.{replicate}
+use mathlib.Core.Path.{◌≡◌}
 use Rattle.labels.proofs.labels.clear_labels.Goals as goal
 
--- the parts of a fact as the clauses of the contract
-both : {A B : Type 0} → A × B → record { front : A; clear : B }
-both p = record { front = p.0; clear = p.1 }
-
-pub loop-i-init : goal.loop-i-init
-loop-i-init c = emptying-start _ _
-
-pub loop-i-preserved : goal.loop-i-preserved
-loop-i-preserved c = emptying-turn _ _ _ _ c.loop-i.invariant (omega (arith, c.loop-i-test.true, c.requires))
-
-pub returns : goal.returns
-returns c = both ((c.loop-i.invariant.front, λ text. emptying-end _ _ _ _ c.loop-i.invariant text _ c.loop-i-test.false))
+pub returns-clause-clear : goal.returns-clause-clear
+returns-clause-clear c =
+    let filled : c.fill.new.self ≡ replicate (2 * c.args.room.characters) 0 = search rules in
+    λ text. held-filled text c.args.work.now c.fill.new.self _ c.args.room.at c.args.room.characters c.requires filled

@@ -1,25 +1,20 @@
 -- The function `label_one` meets its contract: one test after the other, and a store. Assumes nothing.
 use Rattle.block.specs.Judged.{judged}
 use Rattle.labels.proofs.LabelTurns.{one-twice, one-nameless, one-new}
-use borrow.Author.Tests.{not-true, not-false}
-use mathlib.Core.Path.{refl, sym, ◌∙◌}
+use mathlib.Core.Path.{sym, ◌∙◌}
 use Rattle.labels.proofs.labels.label_one.Goals as goal
 
--- the parts of a fact as the clauses of the contract
-both : {A B : Type 0} → A × B → record { front : A; labelled : B }
-both p = record { front = p.0; labelled = p.1 }
-
-pub returns-then-slot_given : goal.returns-then-slot_given
+pub returns-then-slot_given-clause-labelled : goal.returns-then-slot_given-clause-labelled
 unfolding judged
-returns-then-slot_given c =
-    both ((refl, one-twice _ _ _ _ _ c.requires.0 c.requires.1 _ _ c.slot_given.ensures c.if-slot_given.true))
+returns-then-slot_given-clause-labelled c =
+    one-twice _ _ _ _ _ c.requires.0 c.requires.1 _ _ c.slot_given.ensures c.if-slot_given.true
 
-pub returns-then-not-named : goal.returns-then-not-named
+pub returns-then-not-named-clause-labelled : goal.returns-then-not-named-clause-labelled
 unfolding judged
-returns-then-not-named c =
-    both ((refl, one-nameless _ _ _ _ _ c.requires.0 c.requires.1 _ _ c.slot_given.ensures c.if-slot_given.false (sym c.named.ensures ∙ not-true _ c.if-not-named.true-raw)))
+returns-then-not-named-clause-labelled c =
+    one-nameless _ _ _ _ _ c.requires.0 c.requires.1 _ _ c.slot_given.ensures c.if-slot_given.false (sym c.named.ensures ∙ c.if-not-named.true)
 
-pub returns : goal.returns
+pub returns-clause-labelled : goal.returns-clause-labelled
 unfolding judged
-returns c =
-    both (one-new _ _ _ _ _ c.requires.0 c.requires.1 _ _ c.slot_given.ensures c.if-slot_given.false _ c.requires.2 c.requires.3 (sym c.named.ensures ∙ not-false _ c.if-not-named.false-raw) c.put_slot.ensures)
+returns-clause-labelled c =
+    (one-new _ _ _ _ _ c.requires.0 c.requires.1 _ _ c.slot_given.ensures c.if-slot_given.false _ c.requires.2 c.requires.3 (sym c.named.ensures ∙ c.if-not-named.false) c.put_slot.ensures).1

@@ -3,7 +3,7 @@ use Rattle.lexer.proofs.Basics.{and_left, and_right}
 use Rattle.lexer.proofs.NextBytes.{yielded}
 use Rattle.lexer.proofs.TextWalks.{counting-turn, counting-other, counting-large, counting-end}
 use Rattle.lexer.proofs.label.digits_value.Goals as goal
-use borrow.Author.Tests.{leb-true, not-true}
+use borrow.Author.Tests.{leb-true}
 use lib.Dec.{leb}
 use mathlib.Core.Bool.{true, ◌&&◌}
 use mathlib.Core.Path.{◌≡◌, refl}
@@ -18,38 +18,38 @@ loop-b-init c = record { small = omega arith; rest = refl }
 
 pub returns-then-not-digit : goal.returns-then-not-digit
 returns-then-not-digit c =
-    let read = (yielded _ _ _ c.next_byte.ensures).byte _ _ c.in-Byte.is in
-    counting-other _ _ _ _ c.loop-b.invariant _ _ read (not-true _ c.if-not-digit.true-raw)
+    let read = (yielded _ _ _ c.next_byte.ensures).byte _ _ c.in-Some.is in
+    counting-other _ _ _ _ c.loop-b.invariant _ _ read c.if-not-digit.true
 
 pub overflow_sub-v : goal.overflow_sub-v
-overflow_sub-v c = let h = digit c.in-Byte.b c.if-not-digit.false in omega arith
+overflow_sub-v c = let h = digit c.in-Some.b c.if-not-digit.false in omega arith
 
 pub overflow_cast-v : goal.overflow_cast-v
-overflow_cast-v c = let h = digit c.in-Byte.b c.if-not-digit.false in omega arith
+overflow_cast-v c = let h = digit c.in-Some.b c.if-not-digit.false in omega arith
 
-pub overflow_sub-v-in-Byte : goal.overflow_sub-v-in-Byte
-overflow_sub-v-in-Byte c = let h = digit c.in-Byte.b c.if-not-digit.false in omega arith
+pub overflow_sub-v-in-Some : goal.overflow_sub-v-in-Some
+overflow_sub-v-in-Some c = let h = digit c.in-Some.b c.if-not-digit.false in omega arith
 
 pub returns-then-v-n : goal.returns-then-v-n
 returns-then-v-n c =
-    let h = digit c.in-Byte.b c.if-not-digit.false in
-    let read = (yielded _ _ _ c.next_byte.ensures).byte _ _ c.in-Byte.is in
+    let h = digit c.in-Some.b c.if-not-digit.false in
+    let read = (yielded _ _ _ c.next_byte.ensures).byte _ _ c.in-Some.is in
     counting-large _ _ _ _ c.loop-b.invariant _ _ read c.if-not-digit.false (omega arith)
 
 pub overflow_mul-n : goal.overflow_mul-n
-overflow_mul-n c = let h = digit c.in-Byte.b c.if-not-digit.false in omega arith
+overflow_mul-n c = let h = digit c.in-Some.b c.if-not-digit.false in omega arith
 
 pub overflow_add-n : goal.overflow_add-n
-overflow_add-n c = let h = digit c.in-Byte.b c.if-not-digit.false in omega arith
+overflow_add-n c = let h = digit c.in-Some.b c.if-not-digit.false in omega arith
 
 pub loop-b-smaller : goal.loop-b-smaller
-loop-b-smaller c = let y = (yielded _ _ _ c.next_byte.ensures).byte _ _ c.in-Byte.is in omega arith
+loop-b-smaller c = let y = (yielded _ _ _ c.next_byte.ensures).byte _ _ c.in-Some.is in omega arith
 
 pub loop-b-preserved : goal.loop-b-preserved
 loop-b-preserved c =
-    let h = digit c.in-Byte.b c.if-not-digit.false in
-    let read = (yielded _ _ _ c.next_byte.ensures).byte _ _ c.in-Byte.is in
+    let h = digit c.in-Some.b c.if-not-digit.false in
+    let read = (yielded _ _ _ c.next_byte.ensures).byte _ _ c.in-Some.is in
     counting-turn _ _ _ _ c.loop-b.invariant _ _ read c.if-not-digit.false (omega arith)
 
-pub returns-in-End : goal.returns-in-End
-returns-in-End c = counting-end _ _ _ _ c.loop-b.invariant ((yielded _ _ _ c.next_byte.ensures).end c.in-End.is)
+pub returns : goal.returns
+returns c = counting-end _ _ _ _ c.loop-b.invariant ((yielded _ _ _ c.next_byte.ensures).end c.in_default.is)

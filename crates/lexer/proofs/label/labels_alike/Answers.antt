@@ -2,6 +2,7 @@
 use Rattle.lexer.proofs.NextBytes.{front-left}
 use Rattle.lexer.proofs.RunsAlike.{words-as-long, words-differ}
 use Rattle.lexer.proofs.WordsTold.{stop-told}
+use borrow.Author.Tests.{ne_eqb}
 use mathlib.Core.Path.{◌∙◌}
 use native.Mathlib.Omega.{arith}
 use Rattle.lexer.proofs.label.labels_alike.Goals as goal
@@ -16,8 +17,8 @@ pub returns-then-end-a : goal.returns-then-end-a
 returns-then-end-a c =
     c.runs_alike.ensures ∙ words-as-long _ _ _ _ _ (stop-told _ _ _ c.word_stop-end.ensures c.if-a-end.true) (stop-told _ _ _ c.word_stop-stop.ensures c.if-b-stop.true) c.if-end-a.true
 
-pub returns-then-b-stop : goal.returns-then-b-stop
-returns-then-b-stop c = words-differ _ _ _ _ _ (stop-told _ _ _ c.word_stop-end.ensures c.if-a-end.true) (stop-told _ _ _ c.word_stop-stop.ensures c.if-b-stop.true) c.if-end-a.false
+pub returns-else-end-a : goal.returns-else-end-a
+returns-else-end-a c = ne_eqb _ _ c.if-end-a.false ∙ words-differ _ _ _ _ _ (stop-told _ _ _ c.word_stop-end.ensures c.if-a-end.true) (stop-told _ _ _ c.word_stop-stop.ensures c.if-b-stop.true) c.if-end-a.false
 
 pub returns : goal.returns
 returns c =

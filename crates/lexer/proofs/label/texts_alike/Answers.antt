@@ -9,26 +9,26 @@ loop-a-init c = record { rest = refl }
 
 pub returns-then-folded : goal.returns-then-folded
 returns-then-folded c =
-    let read = (yielded _ _ _ c.next_byte.ensures).byte _ _ c.in-Byte.is in
-    let read2 = (yielded _ _ _ c.next_byte-in-Byte.ensures).byte _ _ c.in-Byte-next_byte.is in
-    comparing-over _ _ _ _ _ c.loop-a.invariant _ _ read _ _ read2 (λ e. c.if-folded.true (c.folded.ensures ∙ e ∙ sym c.folded-in-Byte-next_byte.ensures))
+    let read = (yielded _ _ _ c.next_byte.ensures).byte _ _ c.in-Some.is in
+    let read2 = (yielded _ _ _ c.next_byte-in-Some.ensures).byte _ _ c.in-Some-next_byte.is in
+    comparing-over _ _ _ _ _ c.loop-a.invariant _ _ read _ _ read2 (λ e. c.if-folded.true (c.folded.ensures ∙ e ∙ sym c.folded-in-Some.ensures))
 
 pub loop-a-smaller : goal.loop-a-smaller
 loop-a-smaller c =
-    let read = (yielded _ _ _ c.next_byte.ensures).byte _ _ c.in-Byte.is in
+    let read = (yielded _ _ _ c.next_byte.ensures).byte _ _ c.in-Some.is in
     omega arith
 
 pub loop-a-preserved : goal.loop-a-preserved
 loop-a-preserved c =
-    let read = (yielded _ _ _ c.next_byte.ensures).byte _ _ c.in-Byte.is in
-    let read2 = (yielded _ _ _ c.next_byte-in-Byte.ensures).byte _ _ c.in-Byte-next_byte.is in
-    comparing-turn _ _ _ _ _ c.loop-a.invariant _ _ read _ _ read2 (sym c.folded.ensures ∙ c.if-folded.false ∙ c.folded-in-Byte-next_byte.ensures)
+    let read = (yielded _ _ _ c.next_byte.ensures).byte _ _ c.in-Some.is in
+    let read2 = (yielded _ _ _ c.next_byte-in-Some.ensures).byte _ _ c.in-Some-next_byte.is in
+    comparing-turn _ _ _ _ _ c.loop-a.invariant _ _ read _ _ read2 (sym c.folded.ensures ∙ c.if-folded.false ∙ c.folded-in-Some.ensures)
 
-pub returns-in-End-next_byte : goal.returns-in-End-next_byte
-returns-in-End-next_byte c =
-    let read = (yielded _ _ _ c.next_byte.ensures).byte _ _ c.in-Byte.is in
-    comparing-short _ _ _ _ _ c.loop-a.invariant _ _ read ((yielded _ _ _ c.next_byte-in-Byte.ensures).end c.in-End-next_byte.is)
+pub returns-in_default-next_byte : goal.returns-in_default-next_byte
+returns-in_default-next_byte c =
+    let read = (yielded _ _ _ c.next_byte.ensures).byte _ _ c.in-Some.is in
+    comparing-short _ _ _ _ _ c.loop-a.invariant _ _ read ((yielded _ _ _ c.next_byte-in-Some.ensures).end c.in_default-next_byte.is)
 
-pub returns-in-End : goal.returns-in-End
-returns-in-End c =
-    c.ended.ensures ∙ comparing-end _ _ _ _ _ c.loop-a.invariant ((yielded _ _ _ c.next_byte.ensures).end c.in-End.is)
+pub returns : goal.returns
+returns c =
+    c.ended.ensures ∙ comparing-end _ _ _ _ _ c.loop-a.invariant ((yielded _ _ _ c.next_byte.ensures).end c.in_default.is)

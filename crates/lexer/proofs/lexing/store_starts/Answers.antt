@@ -1,24 +1,21 @@
-use Rattle.lexer.proofs.StepLaws.{step_skip, step-token, step-quote, step-comment}
+use Rattle.lexer.proofs.StepLaws.{step_skip, step-token, step-open}
 use Rattle.lexer.proofs.Storing.{storing-start, storing-skip, storing-token, storing-end, storing-open}
-use mathlib.Core.Path.{sym, ◌∙◌}
+use Rattle.std.proofs.lemmas.Result.{err_from_is_err_and}
+use mathlib.Core.Path.{sym}
 use native.Mathlib.Omega.{arith}
 use Rattle.lexer.proofs.lexing.store_starts.Goals as goal
-
--- a pair as the clauses of the contract
-both : {A B : Type 0} → A × B → record { answer : A; stored : B }
-both p = record { answer = p.0; stored = p.1 }
 
 pub loop-i-init : goal.loop-i-init
 loop-i-init c = rw c.first_byte-i.ensures (storing-start _ _ c.requires.1)
 
 pub loop-i-smaller-in-Skip : goal.loop-i-smaller-in-Skip
 loop-i-smaller-in-Skip c =
-    let k = step_skip _ _ _ c.loop-i-test.true (sym c.token_step.ensures ∙ c.in-Skip.is) in
+    let k = step_skip _ _ _ c.loop-i-test.true (rw c.in-Skip.is at (sym c.in_ok-j.ensures)) in
     omega arith
 
 pub loop-i-preserved-in-Skip : goal.loop-i-preserved-in-Skip
 loop-i-preserved-in-Skip c =
-    storing-skip _ _ _ _ _ c.loop-i.invariant _ (step_skip _ _ _ c.loop-i-test.true (sym c.token_step.ensures ∙ c.in-Skip.is))
+    storing-skip _ _ _ _ _ c.loop-i.invariant _ (step_skip _ _ _ c.loop-i-test.true (rw c.in-Skip.is at (sym c.in_ok-j.ensures)))
 
 pub overflow_cast-work : goal.overflow_cast-work
 overflow_cast-work c = omega arith
@@ -34,29 +31,24 @@ overflow_add-n c = omega arith
 
 pub loop-i-smaller : goal.loop-i-smaller
 loop-i-smaller c =
-    let k = step-token _ _ _ c.loop-i-test.true (sym c.token_step.ensures ∙ c.in-Token.is) in
+    let k = step-token _ _ _ c.loop-i-test.true (rw c.in-Token.is at (sym c.in_ok-j.ensures)) in
     omega arith
 
 pub loop-i-preserved : goal.loop-i-preserved
 loop-i-preserved c =
-    storing-token _ _ _ _ _ c.loop-i.invariant _ (step-token _ _ _ c.loop-i-test.true (sym c.token_step.ensures ∙ c.in-Token.is))
+    storing-token _ _ _ _ _ c.loop-i.invariant _ (step-token _ _ _ c.loop-i-test.true (rw c.in-Token.is at (sym c.in_ok-j.ensures)))
 
-pub shape_of-work-in-Quote : goal.shape_of-work-in-Quote
-shape_of-work-in-Quote c = c.loop-i.invariant.kept
+pub shape_of-work-in_err-j : goal.shape_of-work-in_err-j
+shape_of-work-in_err-j c = c.loop-i.invariant.kept
 
-pub returns-in-Quote : goal.returns-in-Quote
-returns-in-Quote c =
-    both (storing-open _ _ _ _ _ c.loop-i.invariant _ _ (step-quote _ _ _ c.loop-i-test.true (sym c.token_step.ensures ∙ c.in-Quote.is)))
-
-pub shape_of-work-in-Comment : goal.shape_of-work-in-Comment
-shape_of-work-in-Comment c = c.loop-i.invariant.kept
-
-pub returns-in-Comment : goal.returns-in-Comment
-returns-in-Comment c =
-    both (storing-open _ _ _ _ _ c.loop-i.invariant _ _ (step-comment _ _ _ c.loop-i-test.true (sym c.token_step.ensures ∙ c.in-Comment.is)))
+pub returns-in_err-j : goal.returns-in_err-j
+returns-in_err-j c =
+    let p = err_from_is_err_and c.from_residual.result c.from_residual.ensures.1 in
+    let all = storing-open _ _ _ _ _ c.loop-i.invariant _ (step-open _ _ _ c.loop-i-test.true (sym c.in_err-j.ensures)) in
+    rw (p.1, p.2) all
 
 pub shape_of-work : goal.shape_of-work
 shape_of-work c = c.loop-i.invariant.kept
 
 pub returns : goal.returns
-returns c = both (storing-end _ _ _ _ _ c.loop-i.invariant c.loop-i-test.false)
+returns c = storing-end _ _ _ _ _ c.loop-i.invariant c.loop-i-test.false

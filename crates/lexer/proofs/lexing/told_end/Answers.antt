@@ -7,10 +7,8 @@ use Rattle.lexer.proofs.lexing.told_end.Goals as goal
 
 pub returns-then-entry_of-eq3 : goal.returns-then-entry_of-eq3
 returns-then-entry_of-eq3 c =
-    let small = c.shared_slice_known-2-1.given c.args.i in
-    told-alone _ _ (stands-alone _ c.requires.1 _ _ c.entry_of.ensures (omega (arith, small)) ∙ eq-eqb _ _ c.if-entry_of-eq3.true)
+    told-alone _ _ (stands-alone _ c.requires.1 _ _ c.entry_of.ensures (omega arith) ∙ eq-eqb _ _ c.if-entry_of-eq3.true)
 
 pub returns : goal.returns
 returns c =
-    let small = c.shared_slice_known-2-1.given c.args.i in
-    c.word_stop_by.ensures ∙ told-word _ _ (stands-alone _ c.requires.1 _ _ c.entry_of.ensures (omega (arith, small)) ∙ ne_eqb _ _ c.if-entry_of-eq3.false)
+    c.word_stop_by.ensures ∙ told-word _ _ (stands-alone _ c.requires.1 _ _ c.entry_of.ensures (omega arith) ∙ ne_eqb _ _ c.if-entry_of-eq3.false)

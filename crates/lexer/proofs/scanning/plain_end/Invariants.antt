@@ -1,13 +1,8 @@
--- The function `plain_end` meets its contract. The invariant: from here the plain bytes end where they do from the first. The measure is what is left
--- of the text. Assumes nothing.
-use Prim.Native.Nat.{◌-◌}
+-- The function `plain_end` meets its contract. The invariant: from here the plain bytes end where they do from the first. Assumes nothing.
 use Rattle.lexer.specs.ByteBlocks.{plain_end}
-use lib.ListN.{length, drop}
+use lib.ListN.{drop}
 use mathlib.Core.Path.{◌≡◌}
 use Rattle.lexer.proofs.scanning.plain_end.Given as goal
 
 abbrev pub invariant-loop-i : goal.invariant-loop-i
 invariant-loop-i l = plain_end l.i (drop l.i l.text) ≡ plain_end l.from (drop l.from l.text)
-
-abbrev pub decreases-loop-i : goal.decreases-loop-i
-decreases-loop-i l = length l.text - l.i

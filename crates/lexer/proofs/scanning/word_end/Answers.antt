@@ -1,8 +1,8 @@
-use borrow.Enum.Refused.{opened}
-use Rattle.lexer.proofs.SymbolTags.{tags-continue, tags-stop}
+use Rattle.std.proofs.lemmas.Result.{err_from_is_err_and}
+use Rattle.lexer.proofs.SymbolTags.{continues, stops}
 use Rattle.lexer.proofs.WordBlocks.{word_next, plain-ahead, wording-start, wording-blocks, wording-skips}
-use Rattle.lexer.proofs.WordEnds.{resumed, word-goes-on, word_over, word-skips, skip-ahead, word-last}
-use mathlib.Core.Path.{sym, ap, ◌∙◌}
+use Rattle.lexer.proofs.WordEnds.{word-goes-on, word_over, word-skips, skip-ahead, word-last}
+use mathlib.Core.Path.{refl, sym, ◌∙◌}
 use native.Mathlib.Omega.{arith}
 use Rattle.lexer.proofs.scanning.word_end.Goals as goal
 
@@ -15,34 +15,35 @@ loop-i-preserved-then-plain c =
 
 pub loop-i-preserved-in-Other : goal.loop-i-preserved-in-Other
 loop-i-preserved-in-Other c =
-    let same = word-goes-on _ _ c.loop-i-test.true _ c.symbol_at.ensures (tags-continue _ c.in-Other.in-Other-own.keys1) in
+    let same = word-goes-on _ _ c.loop-i-test.true _ c.symbol_at.ensures (continues _ c.in-Other.is) in
     record { ahead = omega arith; within = omega arith; rest = sym same ∙ c.loop-i.invariant.rest }
 
-pub word_blocks-i-requires-in-At : goal.word_blocks-i-requires-in-At
-word_blocks-i-requires-in-At c =
-    (skip-ahead _ _ c.loop-i-test.true _ c.comment_end.ensures _ c.in-At.is).1
+pub word_blocks-i-requires-in-Open : goal.word_blocks-i-requires-in-Open
+word_blocks-i-requires-in-Open c =
+    (skip-ahead _ _ c.loop-i-test.true _ c.in_ok-comment_end-in-Open.ensures _ refl).1
 
 pub loop-i-smaller : goal.loop-i-smaller
 loop-i-smaller c =
-    let ahead = skip-ahead _ _ c.loop-i-test.true _ c.comment_end.ensures _ c.in-At.is in
-    let further = plain-ahead _ _ _ ahead.1 c.word_blocks-i-in-At.ensures in
+    let ahead = skip-ahead _ _ c.loop-i-test.true _ c.in_ok-comment_end-in-Open.ensures _ refl in
+    let further = plain-ahead _ _ _ ahead.1 c.word_blocks-i-in-Open.ensures in
     omega arith
 
 pub loop-i-preserved : goal.loop-i-preserved
 loop-i-preserved c =
-    let ahead = skip-ahead _ _ c.loop-i-test.true _ c.comment_end.ensures _ c.in-At.is in
-    let same = word-skips _ _ c.loop-i-test.true _ c.symbol_at.ensures c.in-Open.is _ c.comment_end.ensures in
-    let behind = wording-skips _ _ _ _ _ c.loop-i.invariant ahead same c.in-At.is in
-    wording-blocks _ _ _ ahead.1 c.word_blocks-i-in-At.ensures _ behind
+    let ahead = skip-ahead _ _ c.loop-i-test.true _ c.in_ok-comment_end-in-Open.ensures _ refl in
+    let same = word-skips _ _ c.loop-i-test.true _ c.symbol_at.ensures c.in-Open.is _ c.in_ok-comment_end-in-Open.ensures in
+    let behind = wording-skips _ _ _ _ _ c.loop-i.invariant ahead same refl in
+    wording-blocks _ _ _ ahead.1 c.word_blocks-i-in-Open.ensures _ behind
 
-pub returns-in-Open-comment_end : goal.returns-in-Open-comment_end
-returns-in-Open-comment_end c =
-    let same = word-skips _ _ c.loop-i-test.true _ c.symbol_at.ensures c.in-Open.is _ c.comment_end.ensures in
-    sym (same ∙ ap (resumed _) c.in-Open-comment_end.is) ∙ c.loop-i.invariant.rest
+pub returns-in_err-comment_end-in-Open : goal.returns-in_err-comment_end-in-Open
+returns-in_err-comment_end-in-Open c =
+    let same = word-skips _ _ c.loop-i-test.true _ c.symbol_at.ensures c.in-Open.is _ c.in_err-comment_end-in-Open.ensures in
+    let p = err_from_is_err_and c.from_residual.result c.from_residual.ensures.1 in
+    rw (p.1, p.2) (sym same ∙ c.loop-i.invariant.rest)
 
 pub returns-in_default : goal.returns-in_default
 returns-in_default c =
-    sym (word_over _ _ c.loop-i-test.true _ c.symbol_at.ensures (tags-stop _ (opened c.in_default.in_default-own.keys3))) ∙ c.loop-i.invariant.rest
+    sym (word_over _ _ c.loop-i-test.true _ c.symbol_at.ensures (stops _ c.in_default.not-Other c.in_default.not-Part c.in_default.not-Open)) ∙ c.loop-i.invariant.rest
 
 pub returns : goal.returns
 returns c = sym (word-last _ _ c.loop-i-test.false) ∙ c.loop-i.invariant.rest

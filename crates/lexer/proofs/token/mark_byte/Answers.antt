@@ -2,8 +2,8 @@
 use Rattle.lexer.proofs.TextItems.{mark-here, mark-past}
 use Rattle.lexer.proofs.token.mark_byte.Goals as goal
 
-pub returns-then-i-text : goal.returns-then-i-text
-returns-then-i-text c = mark-here _ _ c.if-i-text.true
+pub returns-then-text-i : goal.returns-then-text-i
+returns-then-text-i c = mark-past _ _ c.if-text-i.true
 
 pub returns : goal.returns
-returns c = mark-past _ _ c.if-i-text.false
+returns c = mark-here _ _ c.if-text-i.false

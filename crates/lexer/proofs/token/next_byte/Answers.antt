@@ -21,4 +21,4 @@ unfolding item_of
 returns-in-Between c = c.mark_byte.ensures ∙ next-mode _ _ _ c.in-Between.is
 
 pub returns-in_default : goal.returns-in_default
-returns-in_default c = next-over _ _ c.in_default.in_default-own.keys5
+returns-in_default c = next-over _ _ c.in_default.not-Word c.in_default.not-Quoted c.in_default.not-String c.in_default.not-Between

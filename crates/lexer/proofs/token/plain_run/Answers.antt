@@ -1,5 +1,4 @@
 -- The function `plain_run` meets its contract, by the mode of the cursor. Assumes nothing.
-use borrow.Enum.Refused.{opened}
 use Rattle.lexer.proofs.PlainRuns.{run-word-end, run-stays}
 use Rattle.lexer.proofs.token.plain_run.Goals as goal
 
@@ -7,4 +6,4 @@ pub returns-in-Word : goal.returns-in-Word
 returns-in-Word c = run-word-end _ _ _ c.in-Word.is c.plain_end.ensures
 
 pub returns-in_default : goal.returns-in_default
-returns-in_default c = run-stays _ _ (opened c.in_default.in_default-own.keys2)
+returns-in_default c = run-stays _ _ c.in_default.not-Word

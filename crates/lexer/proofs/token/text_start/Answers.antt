@@ -1,5 +1,4 @@
 -- The function `text_start` meets its contract: the front of the token's text, by the symbol of its first byte. Assumes nothing.
-use borrow.Enum.Refused.{opened}
 use Rattle.lexer.proofs.TokenParts.{front-newline, front-single, front-double, front-word, front-mark, front-past}
 use Rattle.lexer.proofs.token.text_start.Goals as goal
 
@@ -19,4 +18,4 @@ pub returns-in-Other : goal.returns-in-Other
 returns-in-Other c = front-word _ _ c.if-text-start.false _ c.symbol_at.ensures c.in-Other.is
 
 pub returns-in_default : goal.returns-in_default
-returns-in_default c = front-mark _ _ c.if-text-start.false _ c.symbol_at.ensures (opened c.in_default.in_default-own.keys5)
+returns-in_default c = front-mark _ _ c.if-text-start.false _ c.symbol_at.ensures (c.in_default.not-Newline, c.in_default.not-Single, c.in_default.not-Double, c.in_default.not-Other)

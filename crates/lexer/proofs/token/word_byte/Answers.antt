@@ -1,8 +1,7 @@
-use borrow.Enum.Refused.{opened}
 use Rattle.lexer.proofs.ClassLaws.{plain-symbol}
-use Rattle.lexer.proofs.SymbolTags.{tags-continue, tags-stop}
+use Rattle.lexer.proofs.SymbolTags.{continues, stops}
 use Rattle.lexer.proofs.WordBlocks.{other-continues}
-use Rattle.lexer.proofs.WordBytes.{item-goes-on, item-over, item-skips, item-open, item-last}
+use Rattle.lexer.proofs.WordBytes.{ok-found, err-found, item-goes-on, item-over, item-skips, item-open, item-last}
 use Rattle.lexer.proofs.WordEnds.{skip-ahead}
 use mathlib.Core.Path.{refl, sym, ◌∙◌}
 use native.Mathlib.Omega.{arith}
@@ -18,24 +17,27 @@ returns-then-plain c =
 
 pub returns-in-Other : goal.returns-in-Other
 returns-in-Other c =
-    sym (item-goes-on _ _ c.loop-i-test.true _ c.symbol_at.ensures (tags-continue _ c.in-Other.in-Other-own.keys1)) ∙ c.loop-i.invariant
+    sym (item-goes-on _ _ c.loop-i-test.true _ c.symbol_at.ensures (continues _ c.in-Other.is)) ∙ c.loop-i.invariant
 
 pub loop-i-smaller : goal.loop-i-smaller
 loop-i-smaller c =
-    let ahead = skip-ahead _ _ c.loop-i-test.true _ c.comment_end.ensures _ c.in-At.is in
+    let found = ok-found _ _ c.in_ok-i-in-Open.ensures.value in
+    let ahead = skip-ahead _ _ c.loop-i-test.true _ c.comment_end.ensures _ found in
     omega arith
 
 pub loop-i-preserved : goal.loop-i-preserved
 loop-i-preserved c =
-    sym (item-skips _ _ c.loop-i-test.true _ c.symbol_at.ensures c.in-Open.is _ c.comment_end.ensures _ c.in-At.is) ∙ c.loop-i.invariant
+    let found = ok-found _ _ c.in_ok-i-in-Open.ensures.value in
+    sym (item-skips _ _ c.loop-i-test.true _ c.symbol_at.ensures c.in-Open.is _ c.comment_end.ensures _ found) ∙ c.loop-i.invariant
 
-pub returns-in-Open-comment_end : goal.returns-in-Open-comment_end
-returns-in-Open-comment_end c =
-    sym (item-open _ _ c.loop-i-test.true _ c.symbol_at.ensures c.in-Open.is _ c.comment_end.ensures _ c.in-Open-comment_end.is) ∙ c.loop-i.invariant
+pub returns-in_err-i-in-Open : goal.returns-in_err-i-in-Open
+returns-in_err-i-in-Open c =
+    let unended = err-found _ c.in_err-i-in-Open.ensures.value in
+    rw c.from_residual.ensures (sym (item-open _ _ c.loop-i-test.true _ c.symbol_at.ensures c.in-Open.is _ c.comment_end.ensures _ unended.1) ∙ c.loop-i.invariant)
 
 pub returns-in_default : goal.returns-in_default
 returns-in_default c =
-    sym (item-over _ _ c.loop-i-test.true _ c.symbol_at.ensures (tags-stop _ (opened c.in_default.in_default-own.keys3))) ∙ c.loop-i.invariant
+    sym (item-over _ _ c.loop-i-test.true _ c.symbol_at.ensures (stops _ c.in_default.not-Other c.in_default.not-Part c.in_default.not-Open)) ∙ c.loop-i.invariant
 
 pub returns : goal.returns
 returns c = sym (item-last _ _ c.loop-i-test.false) ∙ c.loop-i.invariant

@@ -6,7 +6,16 @@ use native.Mathlib.Omega.{arith}
 use Rattle.lexer.proofs.utf8.is_utf8.Goals as goal
 
 pub loop-i-init : goal.loop-i-init
-loop-i-init c = checking-start _
+loop-i-init c = let f = c.follows_by-f.ensures in rw (f.0, f.1, f.2) (checking-start _)
+
+pub returns-then-b-f : goal.returns-then-b-f
+returns-then-b-f c =
+    checking-refused _ _ _ _ _ c.loop-i.invariant c.loop-i-test.true (from-no-later _ _ _ _ c.loop-i.f.more c.if-f-ne0.true c.if-b-f.true)
+
+pub loop-i-preserved-then-f-ne0 : goal.loop-i-preserved-then-f-ne0
+loop-i-preserved-then-f-ne0 c =
+    let f = c.follows_by-f-then-f-ne0.ensures in
+    rw (f.0, f.1, f.2) (checking-turn _ _ _ _ _ c.loop-i.invariant c.loop-i-test.true _ _ _ (from-later _ _ _ _ c.loop-i.f.more c.if-f-ne0.true c.if-b-f.false))
 
 pub loop-i-smaller-then-b-lt128 : goal.loop-i-smaller-then-b-lt128
 loop-i-smaller-then-b-lt128 c =
@@ -14,27 +23,17 @@ loop-i-smaller-then-b-lt128 c =
 
 pub loop-i-preserved-then-b-lt128 : goal.loop-i-preserved-then-b-lt128
 loop-i-preserved-then-b-lt128 c =
-    checking-ascii _ _ _ _ _ _ c.loop-i.invariant c.loop-i-test.true c.if-more-eq0.true c.if-b-lt128.true c.ascii_run-i.ensures
+    checking-ascii _ _ _ _ _ _ c.loop-i.invariant c.loop-i-test.true c.if-f-ne0.false c.if-b-lt128.true c.ascii_run-i.ensures
 
 pub returns-then-b : goal.returns-then-b
 returns-then-b c =
-    checking-refused _ _ _ _ _ c.loop-i.invariant c.loop-i-test.true (rw c.if-more-eq0.true (from-no-lead _ _ _ _ c.if-b-lt128.false c.if-b.true))
-
-pub loop-i-preserved-else-b-lt128 : goal.loop-i-preserved-else-b-lt128
-loop-i-preserved-else-b-lt128 c =
-    checking-turn _ _ _ _ _ c.loop-i.invariant c.loop-i-test.true _ _ _
-    (rw (c.if-more-eq0.true, c.after_lead-f.ensures.0, c.after_lead-f.ensures.1, c.after_lead-f.ensures.2) (from-lead _ _ _ _ c.if-b-lt128.false c.if-b.false))
-
-pub returns-then-b-low : goal.returns-then-b-low
-returns-then-b-low c =
-    checking-refused _ _ _ _ _ c.loop-i.invariant c.loop-i-test.true (from-no-later _ _ _ _ c.loop-i.more c.if-more-eq0.false c.if-b-low.true)
-
-pub overflow_sub-more : goal.overflow_sub-more
-overflow_sub-more c = omega (arith, c.if-more-eq0.false)
+    checking-refused _ _ _ _ _ c.loop-i.invariant c.loop-i-test.true (rw c.if-f-ne0.false (from-no-lead _ _ _ _ c.if-b-lt128.false c.if-b.true))
 
 pub loop-i-preserved : goal.loop-i-preserved
 loop-i-preserved c =
-    checking-turn _ _ _ _ _ c.loop-i.invariant c.loop-i-test.true _ _ _ (from-later _ _ _ _ c.loop-i.more c.if-more-eq0.false c.if-b-low.false)
+    let f = c.after_lead-f.ensures in
+    checking-turn _ _ _ _ _ c.loop-i.invariant c.loop-i-test.true _ _ _
+    (rw (c.if-f-ne0.false, f.0, f.1, f.2) (from-lead _ _ _ _ c.if-b-lt128.false c.if-b.false))
 
 pub returns : goal.returns
 returns c = checking-end _ _ _ _ _ c.loop-i.invariant c.loop-i-test.false

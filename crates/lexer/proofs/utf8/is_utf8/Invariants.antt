@@ -6,7 +6,7 @@ use lib.ListN.{length}
 use Rattle.lexer.proofs.utf8.is_utf8.Given as goal
 
 abbrev pub invariant-loop-i : goal.invariant-loop-i
-invariant-loop-i l = Checking l.text l.more l.low l.high l.i
+invariant-loop-i l = Checking l.text l.f.more l.f.low l.f.high l.i
 
 abbrev pub decreases-loop-i : goal.decreases-loop-i
 decreases-loop-i l = length l.text - l.i

@@ -1,11 +1,7 @@
-use Rattle.matrix.proofs.CellWalk.{running-start, running-turn, running-wrong, running-end}
-use borrow.Author.Rules.{rules}
+use Rattle.matrix.proofs.CellWalk.{running-turn, running-wrong, running-end}
 use mathlib.Core.Path.{sym, ◌∙◌}
 use native.Mathlib.Omega.{arith}
 use Rattle.matrix.proofs.cells.run_cells.Goals as goal
-
-pub loop-i-init : goal.loop-i-init
-loop-i-init c = running-start _ _ _ _ _ _ (search rules) (search rules)
 
 pub returns-then-code : goal.returns-then-code
 returns-then-code c =

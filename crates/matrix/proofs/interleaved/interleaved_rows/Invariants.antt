@@ -5,7 +5,7 @@ use Rattle.matrix.proofs.PageWalk.{Paging}
 use Rattle.matrix.proofs.interleaved.interleaved_rows.Given as goal
 
 abbrev pub invariant-loop-i : goal.invariant-loop-i
-invariant-loop-i l = Paging l.text l.codes l.initial.work l.at l.from l.to l.taxa.0 l.characters.0 l.head l.table l.work l.rows l.page l.i
+invariant-loop-i l = Paging l.text l.codes l.initial.work l.at l.from l.to l.shape.taxa.0 l.shape.characters.0 l.shape.head l.table l.work l.count l.page l.i
 
 abbrev pub decreases-loop-i : goal.decreases-loop-i
 decreases-loop-i l = l.to - l.i

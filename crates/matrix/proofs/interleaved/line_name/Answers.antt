@@ -8,11 +8,6 @@ use Rattle.matrix.proofs.interleaved.line_name.Goals as goal
 pub returns-then-not-named : goal.returns-then-not-named
 returns-then-not-named c = name-none _ _ _ _ _ _ (sym c.named.ensures ∙ not-true _ c.if-not-named.true-raw)
 
-pub known_row-requires : goal.known_row-requires
-known_row-requires c =
-    let p = c.requires in
-    record { room = p.0; sound = p.2; indexed = p.3 c.if-page.true }
-
 pub returns-then-known_row : goal.returns-then-known_row
 returns-then-known_row c =
     name-twice _ _ _ _ _ _ (sym c.named.ensures ∙ not-false _ c.if-not-named.false-raw) c.if-page.true (sym c.known_row.ensures ∙ c.if-known_row.true)

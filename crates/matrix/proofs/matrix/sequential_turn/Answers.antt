@@ -6,11 +6,8 @@ use Rattle.matrix.proofs.matrix.sequential_turn.Goals as goal
 
 pub row_turn-requires : goal.row_turn-requires
 unfolding cells_of_row
-row_turn-requires c = (search rules, rw c.in-Inside.is at c.requires.1)
+row_turn-requires c = (search rules, rw c.in-Some.is at c.requires.1)
 
-pub returns-in-Between : goal.returns-in-Between
+pub returns-in-None : goal.returns-in-None
 unfolding turn_shape
-returns-in-Between c = rw c.in-Between.is (last refl c.row_begins.ensures)
-
-pub returns-in-Inside : goal.returns-in-Inside
-returns-in-Inside c = rw c.in-Inside.is (c.row_turn.ensures _ _)
+returns-in-None c = rw c.in-None.is (last refl c.row_begins.ensures)

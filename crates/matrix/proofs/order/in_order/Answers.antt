@@ -20,13 +20,6 @@ loop-i-preserved-then-newline c =
     let w = word-here _ _ _ _ _ _ _ _ c.requires _ _ _ a c.loop-i-test.true in
     arranging-newline _ _ _ _ _ _ _ _ c.requires _ _ _ a c.loop-i-test.true (rw (← w) (sym c.newline.ensures ∙ c.if-newline.true))
 
-pub row_named-requires : goal.row_named-requires
-row_named-requires c =
-    omega (arith, c.requires.1, c.requires.2, (c.loop-i.invariant 0).size)
-
-pub shape_of-work-then-not-row_named : goal.shape_of-work-then-not-row_named
-shape_of-work-then-not-row_named c = (c.loop-i.invariant 0).size
-
 pub returns-then-not-row_named : goal.returns-then-not-row_named
 returns-then-not-row_named c =
     let a = c.loop-i.invariant 0 in
@@ -68,9 +61,6 @@ loop-i-preserved c =
     rw next
     (arranging-turn _ _ _ _ _ _ _ _ c.requires _ _ _ a c.loop-i-test.true (rw (← w) (sym c.newline.ensures ∙ c.if-newline.false)) _
     (row-place _ _ _ _ _ _ _ _ c.requires _ _ _ a _ c.loop-i-test.true named))
-
-pub shape_of-work : goal.shape_of-work
-shape_of-work c = (c.loop-i.invariant 0).size
 
 pub returns : goal.returns
 unfolding judged

@@ -3,8 +3,8 @@ use Prim.Native.Nat.{◌-◌}
 use Rattle.matrix.specs.SequentialShape.{CellsPassed}
 use Rattle.matrix.proofs.passing.pass_told.Given as goal
 
-abbrev pub invariant-loop-i : goal.invariant-loop-i
-invariant-loop-i l = CellsPassed l.text l.work l.codes l.to l.characters l.count l.from l.n l.i
+abbrev pub invariant-loop-told : goal.invariant-loop-told
+invariant-loop-told l = CellsPassed l.text l.work l.codes l.to l.characters.0 l.count l.from l.passed.cells l.passed.next
 
-abbrev pub decreases-loop-i : goal.decreases-loop-i
-decreases-loop-i l = l.to - l.i
+abbrev pub decreases-loop-told : goal.decreases-loop-told
+decreases-loop-told l = l.to - l.passed.next

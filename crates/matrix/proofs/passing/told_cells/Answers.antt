@@ -2,7 +2,8 @@
 use Rattle.lexer.proofs.WordsTold.{stop-told}
 use Rattle.matrix.proofs.SetLaws.{closes-told}
 use Rattle.matrix.proofs.SetTurns.{word-cells-told}
-use Rattle.matrix.specs.SequentialShape.{nothing_told, set_told}
+use Rattle.matrix.specs.SequentialShape.{set_told}
+use mathlib.Core.Path.{sym, ◌∙◌}
 use native.Mathlib.Omega.{arith}
 use Rattle.matrix.proofs.passing.told_cells.Goals as goal
 
@@ -17,16 +18,10 @@ overflow_add-result c =
     omega (arith, c.requires, c.well_formed)
 
 pub returns-then-all_cells : goal.returns-then-all_cells
-returns-then-all_cells c = word-cells-told _ _ _ _ _ _ c.start_of-start.ensures (stop-told _ _ _ c.word_stop_by-end.ensures c.if-start-end.true) _ _ (rw c.if-all_cells.true at c.all_cells.ensures)
-
-pub returns-then-start-end : goal.returns-then-start-end
-returns-then-start-end c = nothing_told
+returns-then-all_cells c = word-cells-told _ _ _ _ _ _ c.start_of-start.ensures (stop-told _ _ _ c.word_stop_by-end.ensures c.if-start-end.true) _ _ (sym c.all_cells.ensures ∙ c.if-all_cells.true)
 
 pub overflow_add-result-then-set_closes-ne0-2 : goal.overflow_add-result-then-set_closes-ne0-2
 overflow_add-result-then-set_closes-ne0-2 c = let whole = (closes-told _ _ _ _ _ _ c.set_closes.ensures c.if-set_closes-ne0.true).whole in omega (arith, whole.room)
 
 pub returns-then-set_closes-ne0 : goal.returns-then-set_closes-ne0
 returns-then-set_closes-ne0 c = set_told (closes-told _ _ _ _ _ _ c.set_closes.ensures c.if-set_closes-ne0.true).whole
-
-pub returns : goal.returns
-returns c = nothing_told

@@ -1,6 +1,4 @@
--- The function `rises` meets its contract: the states from here on rise from the least number on if all do. The measure is what is left. Assumes
--- nothing.
-use Prim.Native.Nat.{◌-◌}
+-- The function `rises` meets its contract: the states from here on rise from the least number on if all do. Assumes nothing.
 use Rattle.lexer.specs.PlainWords.{part}
 use Rattle.matrix.specs.WholeSets.{rising}
 use mathlib.Core.Path.{◌≡◌}
@@ -8,6 +6,3 @@ use Rattle.matrix.proofs.sets.rises.Given as goal
 
 abbrev pub invariant-loop-i : goal.invariant-loop-i
 invariant-loop-i l = rising l.codes l.least (part l.text l.i l.end) ≡ rising l.codes 0 (part l.text l.from l.end)
-
-abbrev pub decreases-loop-i : goal.decreases-loop-i
-decreases-loop-i l = l.end - l.i

@@ -1,16 +1,10 @@
 -- The function `escape_like` meets its contract, test by test. Assumes nothing.
-use Rattle.naming.proofs.EscapeLike.{escape-lf, escape-slash, plain-unlike, plain-like}
+use Rattle.naming.proofs.EscapeLike.{escape-lf, escape-slash, plain-unlike, plain-like, plain-within}
 use native.Mathlib.Omega.{arith}
 use Rattle.naming.proofs.lines.escape_like.Goals as goal
 
-pub slash_like-requires : goal.slash_like-requires
-slash_like-requires c = λ e. omega arith
-
 pub returns-then-c-eq10 : goal.returns-then-c-eq10
 returns-then-c-eq10 c = rw (escape-lf c.args.c c.if-c-eq10.true) c.slash_like.ensures
-
-pub slash_like-requires-then-c-eq92 : goal.slash_like-requires-then-c-eq92
-slash_like-requires-then-c-eq92 c = λ e. omega arith
 
 pub returns-then-c-eq92 : goal.returns-then-c-eq92
 returns-then-c-eq92 c = rw (escape-slash c.args.c c.if-c-eq92.true) c.slash_like-then-c-eq92.ensures
@@ -22,3 +16,9 @@ returns-then-lower-lower_byte c =
 pub returns : goal.returns
 returns c =
     plain-like _ _ _ c.if-c-eq10.false c.if-c-eq92.false c.lower.ensures c.lower_byte.ensures c.if-lower-lower_byte.false
+
+pub overflow_add-result : goal.overflow_add-result
+overflow_add-result c =
+    let a = c.args in
+    let h = plain-within a.source.now a.i a.c c.if-c-eq10.false c.if-c-eq92.false c.lower.ensures c.lower_byte.ensures c.if-lower-lower_byte.false in
+    omega arith

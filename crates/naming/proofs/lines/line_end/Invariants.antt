@@ -4,8 +4,8 @@ use Rattle.naming.proofs.LineLaws.{Ending}
 use lib.ListN.{length}
 use Rattle.naming.proofs.lines.line_end.Given as goal
 
-abbrev pub invariant-loop-from : goal.invariant-loop-from
-invariant-loop-from l = Ending l.source l.from l.at
+abbrev pub invariant-loop-at : goal.invariant-loop-at
+invariant-loop-at l = Ending l.source l.from l.at
 
-abbrev pub decreases-loop-from : goal.decreases-loop-from
-decreases-loop-from l = length l.source - l.at
+abbrev pub decreases-loop-at : goal.decreases-loop-at
+decreases-loop-at l = length l.source - l.at

@@ -1,10 +1,6 @@
 use Rattle.naming.proofs.LikeLaws.{comparing-unlike, comparing-ended, comparing-within, comparing-turn}
-use mathlib.Core.Path.{refl}
 use native.Mathlib.Omega.{arith}
 use Rattle.naming.proofs.lines.lines_alike.Goals as goal
-
-pub loop-first-init : goal.loop-first-init
-loop-first-init c = record { rest = refl }
 
 pub returns-then-x-lower_byte : goal.returns-then-x-lower_byte
 returns-then-x-lower_byte c =

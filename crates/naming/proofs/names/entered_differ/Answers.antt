@@ -1,9 +1,6 @@
 -- The function `entered_differ` meets its contract. Assumes nothing.
-use Rattle.naming.proofs.EnteredRows.{all-entered, all-twice}
+use Rattle.naming.proofs.EnteredRows.{entered-told}
 use Rattle.naming.proofs.names.entered_differ.Goals as goal
 
-pub returns-in-Behind : goal.returns-in-Behind
-returns-in-Behind c = all-entered _ _ _ _ _ _ _ _ _ c.enter_names.ensures _ c.in-Behind.is
-
-pub returns-in-Twice : goal.returns-in-Twice
-returns-in-Twice c = all-twice _ _ _ _ _ _ _ _ _ c.enter_names.ensures c.in-Twice.is
+pub returns : goal.returns
+returns c = rw c.is_some.ensures (entered-told _ _ _ _ _ _ _ _ _ c.enter_names.ensures)

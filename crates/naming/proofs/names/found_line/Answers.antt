@@ -1,14 +1,10 @@
 use Rattle.naming.proofs.EntryLaws.{sought-found, sought-turn, sought-none}
+use Rattle.naming.proofs.EntryLaws.{any-known}
+use mathlib.Core.Path.{◌∙◌}
 use Rattle.naming.proofs.names.found_line.Goals as goal
-
-pub loop-p-init : goal.loop-p-init
-loop-p-init c = c.requires
 
 pub returns-then-value-eq0 : goal.returns-then-value-eq0
 returns-then-value-eq0 c = sought-none _ _ _ _ _ _ _ c.loop-p.invariant c.loop-p-test.true c.start_of-value.ensures c.if-value-eq0.true
-
-pub slot_like-requires : goal.slot_like-requires
-slot_like-requires c = c.loop-p.invariant.room
 
 pub returns-then-slot_like : goal.returns-then-slot_like
 returns-then-slot_like c = sought-found _ _ _ _ _ _ _ c.loop-p.invariant c.slot_like.ensures c.if-slot_like.true
@@ -17,8 +13,5 @@ pub loop-p-preserved : goal.loop-p-preserved
 loop-p-preserved c =
     sought-turn _ _ _ _ _ _ _ c.loop-p.invariant c.loop-p-test.true c.start_of-value.ensures c.slot_like.ensures c.if-slot_like.false
 
-pub known_line-requires : goal.known_line-requires
-known_line-requires c = c.loop-p.invariant.room
-
 pub returns : goal.returns
-returns c = c.known_line.ensures
+returns c = c.known_line.ensures ∙ any-known _ _ _

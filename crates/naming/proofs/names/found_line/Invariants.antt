@@ -1,10 +1,6 @@
--- The function `found_line` meets its contract: a turn passes one slot. The measure is what is left of the table. Assumes nothing.
-use Prim.Native.Nat.{◌-◌}
+-- The function `found_line` meets its contract: a turn passes one slot. Assumes nothing.
 use Rattle.naming.specs.Entries.{LineSought}
 use Rattle.naming.proofs.names.found_line.Given as goal
 
 abbrev pub invariant-loop-p : goal.invariant-loop-p
 invariant-loop-p l = LineSought l.source l.at l.slots l.places l.count.0 l.p l.end
-
-abbrev pub decreases-loop-p : goal.decreases-loop-p
-decreases-loop-p l = l.end - l.p

@@ -8,12 +8,6 @@ loop-at-init c = hashing-start _ _
 pub returns-then-b-eq10 : goal.returns-then-b-eq10
 returns-then-b-eq10 c = hashing-end _ _ _ _ c.loop-at.invariant c.lower_byte-b.ensures c.if-b-eq10.true
 
-pub overflow_add-h : goal.overflow_add-h
-overflow_add-h c = let h = c.loop-at.invariant.small in omega arith
-
-pub overflow_mul-h : goal.overflow_mul-h
-overflow_mul-h c = let h = c.loop-at.invariant.small in omega arith
-
 pub overflow_add-i : goal.overflow_add-i
 overflow_add-i c = let h = hashing-within _ _ _ _ c.loop-at.invariant c.lower_byte-b.ensures c.if-b-eq10.false in omega arith
 

@@ -1,10 +1,6 @@
 use Rattle.naming.proofs.BeforeLaws.{ordering-told, ordering-ended, ordering-within, ordering-turn}
-use mathlib.Core.Path.{refl}
 use native.Mathlib.Omega.{arith}
 use Rattle.naming.proofs.ordered.line_before.Goals as goal
-
-pub loop-first-init : goal.loop-first-init
-loop-first-init c = record { rest = refl }
 
 pub returns-then-x-y : goal.returns-then-x-y
 returns-then-x-y c =

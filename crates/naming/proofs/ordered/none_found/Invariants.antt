@@ -1,11 +1,10 @@
--- The function `none_found` meets its contract: a turn looks for the name of one row. The measure is how many are left. Assumes nothing.
+-- The function `none_found` meets its contract: a turn looks for the name of one row. Assumes nothing.
+use Prim.Native.Nat.{◌-◌}
 use Rattle.naming.proofs.EnteredRows.{Looking}
 use Rattle.naming.specs.Entries.{lines_at}
 use lib.ListN.{take}
 use Rattle.naming.proofs.ordered.none_found.Given as goal
 
-abbrev pub invariant-loop-left : goal.invariant-loop-left
-invariant-loop-left l = Looking l.source l.characters.0 l.at l.initial.left (lines_at l.source (take l.count.0 l.places)) 0 l.here l.left 0
-
-abbrev pub decreases-loop-left : goal.decreases-loop-left
-decreases-loop-left l = l.left
+abbrev pub invariant-loop-row : goal.invariant-loop-row
+invariant-loop-row l =
+    Looking l.rows.source.now l.rows.characters.0 l.rows.at l._row-end (lines_at l.rows.source.now (take l.count.0 l.places)) 0 l.here (l._row-end - l._row) 0

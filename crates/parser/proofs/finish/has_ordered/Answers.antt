@@ -1,8 +1,5 @@
-use Rattle.parser.proofs.OrderedLaws.{yet-start, yet-turn, yet-found, yet-end}
+use Rattle.parser.proofs.OrderedLaws.{yet-turn, yet-found, yet-end}
 use Rattle.parser.proofs.finish.has_ordered.Goals as goal
-
-pub loop-k-init : goal.loop-k-init
-loop-k-init c = yet-start _ _ _ _
 
 pub returns-then-number-default : goal.returns-then-number-default
 returns-then-number-default c = yet-found _ _ _ _ _ c.loop-k.invariant c.loop-k-test.true c.if-number-default.true

@@ -12,9 +12,9 @@ returns-then-count-header c = parse-refused _ _ _ _ _ (no_header _ _ _ _ c.skip_
 pub returns-then-not-is : goal.returns-then-not-is
 unfolding bytes
 returns-then-not-is c =
-    parse-refused _ _ _ _ _ (other-header _ _ _ _ c.skip_newlines-header.ensures c.if-count-header.false _ c.is.ensures c.if-not-is.true-raw)
+    parse-refused _ _ _ _ _ (other-header _ _ _ _ c.skip_newlines-header.ensures c.if-count-header.false _ c.is.ensures c.if-not-is.true)
 
 pub returns : goal.returns
 unfolding bytes
 returns c =
-    parse-read _ _ _ _ _ _ (behind-header _ _ _ _ c.skip_newlines-header.ensures c.if-count-header.false _ c.is.ensures c.if-not-is.false-raw) c.read_commands.ensures
+    parse-read _ _ _ _ _ _ (behind-header _ _ _ _ c.skip_newlines-header.ensures c.if-count-header.false _ c.is.ensures c.if-not-is.false) c.read_commands.ensures

@@ -5,5 +5,5 @@ use Rattle.parser.proofs.reading.format_of.Goals as goal
 pub returns-in-None : goal.returns-in-None
 returns-in-None c = λ few. default-meant _ _ _ c.in-None.is _ c.default.ensures
 
-pub returns-in-Given : goal.returns-in-Given
-returns-in-Given c = given-meant _ _ _ _ c.in-Given.is _ c.of.ensures
+pub returns-in-Some : goal.returns-in-Some
+returns-in-Some c = given-meant _ _ _ _ c.in-Some.is _ c.of.ensures

@@ -3,7 +3,6 @@ use Rattle.commands.specs.MatrixHeld.{format_held}
 use Rattle.commands.specs.StateHeld.{data_of}
 use Rattle.parser.proofs.ShapeLaws.{shape-absent, shape-differs, shape-new, shape-whole}
 use Rattle.parser.specs.Storing.{shape_of}
-use borrow.Author.Tests.{not-true, not-false}
 use mathlib.Core.Path.{refl, sym, ◌∙◌}
 use Rattle.parser.proofs.reading.matrix_shape.Goals as goal
 
@@ -15,16 +14,16 @@ pub returns-then-not-names_agree : goal.returns-then-not-names_agree
 unfolding shape_of data_of
 returns-then-not-names_agree c =
     λ m head.
-    shape-differs _ _ head _ c.declared_count-taxa.ensures c.if-dims-taxa.false (sym c.names_agree.ensures ∙ not-true _ c.if-not-names_agree.true-raw)
+    shape-differs _ _ head _ c.declared_count-taxa.ensures c.if-dims-taxa.false (sym c.names_agree.ensures ∙ c.if-not-names_agree.true)
 
 pub returns-then-dims : goal.returns-then-dims
 unfolding shape_of data_of
 returns-then-dims c =
     λ m head.
-    shape-new _ _ head _ c.declared_count-taxa.ensures c.if-dims-taxa.false (sym c.names_agree.ensures ∙ not-false _ c.if-not-names_agree.false-raw) c.if-dims.true
+    shape-new _ _ head _ c.declared_count-taxa.ensures c.if-dims-taxa.false (sym c.names_agree.ensures ∙ c.if-not-names_agree.false) c.if-dims.true
 
 pub returns : goal.returns
 unfolding shape_of data_of format_held
 returns c =
     λ m head.
-    shape-whole _ _ head _ c.declared_count-taxa.ensures c.if-dims-taxa.false (sym c.names_agree.ensures ∙ not-false _ c.if-not-names_agree.false-raw) _ refl c.if-dims.false
+    shape-whole _ _ head _ c.declared_count-taxa.ensures c.if-dims-taxa.false (sym c.names_agree.ensures ∙ c.if-not-names_agree.false) _ refl c.if-dims.false

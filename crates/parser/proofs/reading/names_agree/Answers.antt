@@ -5,5 +5,5 @@ use Rattle.parser.proofs.reading.names_agree.Goals as goal
 pub returns-in-None : goal.returns-in-None
 returns-in-None c = agrees-none _ _ (names-none _ _ _ c.in-None.is)
 
-pub returns-in-Words : goal.returns-in-Words
-returns-in-Words c = rw c.count_words.ensures (agrees-named _ _ (names-words _ _ _ _ _ c.in-Words.is) _ c.ranges.taxa.fits)
+pub returns-in-Some : goal.returns-in-Some
+returns-in-Some c = rw c.count_words.ensures (agrees-named _ _ (names-words _ _ _ _ _ c.in-Some.is) _ c.ranges.taxa.fits)

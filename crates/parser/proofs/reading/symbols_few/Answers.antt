@@ -5,5 +5,5 @@ use Rattle.parser.proofs.reading.symbols_few.Goals as goal
 pub returns-in-None : goal.returns-in-None
 returns-in-None c = default-few _ _ _ c.in-None.is
 
-pub returns-in-Given : goal.returns-in-Given
-returns-in-Given c = given-few _ _ _ _ c.in-Given.is _ c.of-format.ensures
+pub returns-in-Some : goal.returns-in-Some
+returns-in-Some c = given-few _ _ _ _ c.in-Some.is _ c.of-format.ensures

@@ -1,11 +1,6 @@
 -- The function `command_step` meets its contract: by whether a block is open. Assumes nothing.
 use Rattle.parser.proofs.BlockMade.{open_made, top-made}
-use lib.Seq.{length-take-le}
-use mathlib.Core.Path.{sym}
 use Rattle.parser.proofs.step.command_step.Goals as goal
-
-pub slice_bounds-begin_words-end-then-is_outside : goal.slice_bounds-begin_words-end-then-is_outside
-slice_bounds-begin_words-end-then-is_outside c = sym (length-take-le _ _ c.requires.0)
 
 pub returns-then-is_outside : goal.returns-then-is_outside
 returns-then-is_outside c =

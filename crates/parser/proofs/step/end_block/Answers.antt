@@ -5,40 +5,34 @@ use Rattle.parser.proofs.StepLaws.{data-placed, ends-assumptions, ends-data, end
 use mathlib.Core.Path.{ap, ◌∙◌}
 use Rattle.parser.proofs.step.end_block.Goals as goal
 
--- the parts of a fact as the clauses of the contract
-both : {A B : Type 0} → A × B → record { step : A; placed : B }
-both p = record { step = p.0; placed = p.1 }
-
-pub returns-in-Outside : goal.returns-in-Outside
+pub returns-in-Outside-clause-step : goal.returns-in-Outside-clause-step
 unfolding stepped
-returns-in-Outside c = both ((λ m h. ends-outside m _ _ _ _ _ _ c.in-Outside.is, λ size p. p))
+returns-in-Outside-clause-step c = λ m h. ends-outside m _ _ _ _ _ _ c.in-Outside.is
 
-pub returns-in-Taxa : goal.returns-in-Taxa
-returns-in-Taxa c =
-    let told = c.in-Taxa.is in
-    let args = c.args in both ((
-      λ m h. c.taxa_end.ensures.step m ∙ ends-taxa m _ _ _ _ _ _ _ _ _ told,
-      λ size p. c.taxa_end.ensures.placed size p (taxa-placed args.text.now args.starts.now size args.s _ _ _ _ told p.phase),
-    ))
+pub returns-in-Taxa-clause-step : goal.returns-in-Taxa-clause-step
+returns-in-Taxa-clause-step c = λ m h. c.taxa_end.ensures.step m ∙ ends-taxa m _ _ _ _ _ _ _ _ _ c.in-Taxa.is
 
-pub returns-in-Data : goal.returns-in-Data
-returns-in-Data c =
-    let told = c.in-Data.is in both ((
-      λ m h. c.data_end.ensures.step m _ _ ∙ ends-data m _ _ _ _ _ _ _ told,
-      λ size p. c.data_end.ensures.placed _ _ size p (data-placed _ _ size c.args.s _ _ told p.phase).0,
-    ))
+pub returns-in-Taxa-clause-placed : goal.returns-in-Taxa-clause-placed
+returns-in-Taxa-clause-placed c =
+    λ size p. c.taxa_end.ensures.placed size p (taxa-placed c.args.text.now c.args.starts.now size c.args.s _ _ _ _ c.in-Taxa.is p.phase)
 
-pub returns-in-Assumptions : goal.returns-in-Assumptions
+pub returns-in-Data-clause-step : goal.returns-in-Data-clause-step
+returns-in-Data-clause-step c = λ m h. c.data_end.ensures.step m _ _ ∙ ends-data m _ _ _ _ _ _ _ c.in-Data.is
+
+pub returns-in-Data-clause-placed : goal.returns-in-Data-clause-placed
+returns-in-Data-clause-placed c = λ size p. c.data_end.ensures.placed _ _ size p (data-placed _ _ size c.args.s _ _ c.in-Data.is p.phase).0
+
+pub returns-in-Assumptions-clause-step : goal.returns-in-Assumptions-clause-step
 unfolding state_of
-returns-in-Assumptions c =
-    let told = c.in-Assumptions.is in both ((
-      λ m h. c.end_assumptions.ensures.step m _ _ h ∙ ends-assumptions m _ _ _ _ _ _ _ _ _ told,
-      λ size p. c.end_assumptions.ensures.placed _ _ size p,
-    ))
+returns-in-Assumptions-clause-step c =
+    λ m h. c.end_assumptions.ensures.step m _ _ h ∙ ends-assumptions m _ _ _ _ _ _ _ _ _ c.in-Assumptions.is
 
-pub returns-in-Trees : goal.returns-in-Trees
+pub returns-in-Assumptions-clause-placed : goal.returns-in-Assumptions-clause-placed
+returns-in-Assumptions-clause-placed c = λ size p. c.end_assumptions.ensures.placed _ _ size p
+
+pub returns-in-Trees-clause-step : goal.returns-in-Trees-clause-step
 unfolding stepped phase_of
-returns-in-Trees c = both ((
-  λ m h. ap done (c.in_phase.ensures.step m _ _) ∙ ends-trees m _ _ _ _ _ _ _ c.in-Trees.is,
-  λ size p. c.in_phase.ensures.placed _ _ size p tt,
-))
+returns-in-Trees-clause-step c = λ m h. ap done (c.in_phase.ensures.step m _ _) ∙ ends-trees m _ _ _ _ _ _ _ c.in-Trees.is
+
+pub returns-in-Trees-clause-placed : goal.returns-in-Trees-clause-placed
+returns-in-Trees-clause-placed c = λ size p. c.in_phase.ensures.placed _ _ size p tt

@@ -1,14 +1,9 @@
 -- The function `step` meets its contract: by what was found. Assumes nothing.
-use Rattle.parser.proofs.CutMade.{apart-made, command-made, empty-made, in-order, none_made, unended-made}
+use Rattle.parser.proofs.CutMade.{apart-made, command-made, empty-made, none_made, unended-made}
 use Rattle.parser.proofs.step.step.Goals as goal
 
 pub returns-then-end-head : goal.returns-then-end-head
 returns-then-end-head c = apart-made _ _ _ _ _ _ _ c.in-Command.is c.if-end-head.true
-
-pub command_step-requires : goal.command_step-requires
-command_step-requires c =
-    let found = in-order _ _ _ c.if-end-head.false in
-    (c.requires, found.0, found.1)
 
 pub returns-in-None : goal.returns-in-None
 returns-in-None c = none_made _ _ _ _ _ c.in-None.is

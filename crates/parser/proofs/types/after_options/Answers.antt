@@ -1,18 +1,17 @@
 -- The function `after_options` meets its contract. Assumes nothing.
-use Rattle.assumptions.specs.TypesHeld.{options_answer, type_word}
-use Rattle.block.specs.Outcome.{done, then}
+use Rattle.std.proofs.lemmas.Result.{err_from_is_err_and}
+use Rattle.block.specs.Outcome.{outcome, done, then}
+use Rattle.lexer.specs.Base.{option_of}
 use Rattle.commands.specs.StateHeld.{stepped}
 use mathlib.Core.Path.{ap}
 use Rattle.parser.proofs.types.after_options.Goals as goal
 
--- the parts of a fact as the clauses of the contract
-both : {A B : Type 0} → A × B → record { step : A; placed : B }
-both p = record { step = p.0; placed = p.1 }
+pub returns-clause-step : goal.returns-clause-step
+unfolding stepped then outcome option_of
+returns-clause-step c = λ m text work. rw c.in_ok-o.was (ap done (c.in_assumptions.ensures.step m text work))
 
-pub returns-in-Type : goal.returns-in-Type
-unfolding stepped then options_answer type_word
-returns-in-Type c = both ((λ m text work. rw c.in-Type.is (ap done (c.in_assumptions.ensures.step m text work)), c.in_assumptions.ensures.placed))
-
-pub returns-in-Refused : goal.returns-in-Refused
-unfolding stepped then options_answer
-returns-in-Refused c = both ((λ m text work. rw c.in-Refused.is, λ text front size p u. tt))
+pub returns-in_err-o-clause-step : goal.returns-in_err-o-clause-step
+unfolding stepped then outcome
+returns-in_err-o-clause-step c =
+    let p = err_from_is_err_and c.from_residual.result c.from_residual.ensures.1 in
+    λ m text work. rw (p.1, p.2, c.in_err-o.was)

@@ -7,16 +7,16 @@ use Rattle.parser.proofs.types.typeset_step.Goals as goal
 
 pub parse_typeset-answer-requires : goal.parse_typeset-answer-requires
 parse_typeset-answer-requires c =
-    let room = roomy c.args.text.now _ _ c.requires.0 c.args.s.matrix _ _ (sym c.types_room.ensures ∙ c.in-At.is) in
+    let room = roomy c.args.text.now _ _ c.requires.0 c.args.s.matrix _ _ (sym c.types_room.ensures ∙ c.in-Some.is) in
     (le_trans c.requires.2 room.behind, room.room)
 
-pub returns-in-At : goal.returns-in-At
-returns-in-At c =
+pub returns : goal.returns
+returns c =
     λ e.
-    typeset-made _ _ _ _ _ _ _ _ c.requires.0 c.requires.2 e _ _ _ (sym c.types_room.ensures ∙ c.in-At.is)
+    typeset-made _ _ _ _ _ _ _ _ c.requires.0 c.requires.2 e _ _ _ (sym c.types_room.ensures ∙ c.in-Some.is)
     c.parse_typeset-answer.ensures.front c.parse_typeset-answer.ensures.size _ c.parse_typeset-answer.ensures.answer _ c.after_typeset.ensures.step c.after_typeset.ensures.placed
 
-pub returns-in-Short : goal.returns-in-Short
-returns-in-Short c =
+pub returns-in_default : goal.returns-in_default
+returns-in_default c =
     λ e.
-    typeset-short _ _ _ _ _ _ _ _ c.requires.0 c.requires.2 e (sym c.types_room.ensures ∙ c.in-Short.is)
+    typeset-short _ _ _ _ _ _ _ _ c.requires.0 c.requires.2 e (sym c.types_room.ensures ∙ c.in_default.is)

@@ -1,21 +1,16 @@
--- The function `cell_byte` meets its contract, test by test. Assumes nothing.
-use Rattle.lexer.specs.Base.{pick}
-use Rattle.reading.specs.CodedCells.{cell_byte}
-use borrow.Author.Tests.{le-ltb, lt-ltb, ne_eqb}
+-- The function `cell_byte` meets its contract, arm by arm. Assumes nothing.
+use Rattle.reading.proofs.ShortLaws.{byte-gap, byte-missing, byte-other, byte-state}
+use native.Mathlib.Omega.{arith}
 use Rattle.reading.proofs.cells.cell_byte.Goals as goal
 
-pub returns-then-code-lt10 : goal.returns-then-code-lt10
-unfolding cell_byte pick
-returns-then-code-lt10 c = rw (lt-ltb _ 10 c.if-code-lt10.true)
+pub returns-in-0-to-9 : goal.returns-in-0-to-9
+returns-in-0-to-9 c = byte-state c.args.code (omega arith)
 
-pub returns-then-code-eq126 : goal.returns-then-code-eq126
-unfolding cell_byte pick
-returns-then-code-eq126 c = rw c.if-code-eq126.true
+pub returns-in-126 : goal.returns-in-126
+returns-in-126 c = byte-missing c.args.code c.in-126.is
 
-pub returns-then-code-eq127 : goal.returns-then-code-eq127
-unfolding cell_byte pick
-returns-then-code-eq127 c = rw c.if-code-eq127.true
+pub returns-in-127 : goal.returns-in-127
+returns-in-127 c = byte-gap c.args.code c.in-127.is
 
-pub returns : goal.returns
-unfolding cell_byte pick
-returns c = rw (le-ltb _ 10 c.if-code-lt10.false, ne_eqb _ 126 c.if-code-eq126.false, ne_eqb _ 127 c.if-code-eq127.false)
+pub returns-in_default : goal.returns-in_default
+returns-in_default c = byte-other c.args.code (omega arith) (λ e. omega arith) (λ e. omega arith)

@@ -1,15 +1,16 @@
 -- The function `has_cell` meets its contract, by the ranges of codes. Assumes nothing.
-use Rattle.lexer.specs.Base.{given}
-use Rattle.reading.proofs.DecodedLaws.{cell-high, cell-low, decoded-missing}
-use mathlib.Core.Path.{sym}
+use Rattle.reading.proofs.DecodedLaws.{cell-none, cell-some}
+use native.Mathlib.Omega.{arith}
 use Rattle.reading.proofs.cells.has_cell.Goals as goal
 
-pub returns-then-code-lt112 : goal.returns-then-code-lt112
-returns-then-code-lt112 c = sym (cell-low _ c.if-code-lt112.true)
+pub returns-in-0-to-111 : goal.returns-in-0-to-111
+returns-in-0-to-111 c = cell-some c.args.code (λ h m. omega arith)
 
-pub returns-then-code-eq126 : goal.returns-then-code-eq126
-unfolding given
-returns-then-code-eq126 c = rw (decoded-missing _ c.if-code-eq126.true)
+pub returns-in-0-to-111-2 : goal.returns-in-0-to-111-2
+returns-in-0-to-111-2 c = cell-some c.args.code (λ h m. omega arith)
 
-pub returns : goal.returns
-returns c = cell-high _ c.if-code-lt112.false c.if-code-eq126.false
+pub returns-in_default : goal.returns-in_default
+returns-in_default c = cell-none c.args.code (omega arith) (λ e. omega arith) (λ e. omega arith)
+
+pub returns-in_default-2 : goal.returns-in_default-2
+returns-in_default-2 c = cell-none c.args.code (omega arith) (λ e. omega arith) (λ e. omega arith)

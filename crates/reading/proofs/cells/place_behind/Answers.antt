@@ -3,10 +3,6 @@ use Rattle.emit.specs.Puts.{last_place}
 use native.Mathlib.Omega.{arith}
 use Rattle.reading.proofs.cells.place_behind.Goals as goal
 
-pub returns-then-n-cells : goal.returns-then-n-cells
-unfolding last_place
-returns-then-n-cells c = omega arith
-
 pub returns : goal.returns
 unfolding last_place
-returns c = omega arith
+returns c = omega (arith, c.saturating_mul.ensures, c.saturating_add.ensures)

@@ -14,7 +14,7 @@ put_run-row-requires c = let run = run-left _ _ _ c.plain_run-run.ensures in (ru
 
 pub loop-b-smaller : goal.loop-b-smaller
 loop-b-smaller c =
-    let y = (yielded _ _ _ c.next_byte.ensures).byte _ _ c.in-Byte.is in
+    let y = (yielded _ _ _ c.next_byte.ensures).byte _ _ c.in-Some.is in
     let run = run-left _ _ _ c.plain_run-run.ensures in
     omega (arith, y.ahead, y.within, run.ahead)
 
@@ -22,14 +22,10 @@ pub loop-b-preserved : goal.loop-b-preserved
 loop-b-preserved c =
     let a = c.args in
     let ran = cells-run a.codes.now a.text.now a.start c.loop-b.c c.plain_run-run.result c.loop-b.invariant.1 (run-left _ _ _ c.plain_run-run.ensures) c.put_run-row.ensures in
-    (c.put_cell-row.ensures.put.kept ∙ c.put_run-row.ensures.put.kept ∙ c.loop-b.invariant.0, cells-turn _ _ _ _ ran _ _ ((yielded _ _ _ c.next_byte.ensures).byte _ _ c.in-Byte.is) (rw c.entry_of.ensures at c.put_cell-row.ensures))
+    (c.put_cell-row.ensures.put.kept ∙ c.put_run-row.ensures.put.kept ∙ c.loop-b.invariant.0, cells-turn _ _ _ _ ran _ _ ((yielded _ _ _ c.next_byte.ensures).byte _ _ c.in-Some.is) (rw c.entry_of.ensures at c.put_cell-row.ensures))
 
-pub shape_of-buffer-in-End : goal.shape_of-buffer-in-End
-shape_of-buffer-in-End c =
-    c.put_run-row.ensures.put.kept ∙ c.loop-b.invariant.0
-
-pub returns-in-End : goal.returns-in-End
-returns-in-End c =
+pub returns-in_default : goal.returns-in_default
+returns-in_default c =
     let a = c.args in
     let ran = cells-run a.codes.now a.text.now a.start c.loop-b.c c.plain_run-run.result c.loop-b.invariant.1 (run-left _ _ _ c.plain_run-run.ensures) c.put_run-row.ensures in
-    cells-end _ _ _ _ ran ((yielded _ _ _ c.next_byte.ensures).end c.in-End.is)
+    cells-end _ _ _ _ ran ((yielded _ _ _ c.next_byte.ensures).end c.in_default.is)

@@ -27,27 +27,6 @@ returns-then-buffer-at-2 c =
     let a = c.args in
     record { ahead = omega arith; within = search rules; put = part_none a.codes.now a.text.now a.from }
 
-pub write_short-next-requires : goal.write_short-next-requires
-write_short-next-requires c = (c.requires.0, c.requires.1, omega (arith, c.if-buffer-at-2.false))
-
-pub overflow_sub-cells : goal.overflow_sub-cells
-overflow_sub-cells c = let w = c.write_short-next.ensures in omega (arith, w.ahead)
-
-pub overflow_mul-cells : goal.overflow_mul-cells
-overflow_mul-cells c =
-    let w = c.write_short-next.ensures in
-    let room = c.if-buffer-at-2.false in
-    omega (arith, w.ahead, w.within, room, c.if-buffer-at.false)
-
-pub overflow_add-at : goal.overflow_add-at
-overflow_add-at c =
-    let w = c.write_short-next.ensures in
-    let room = c.if-buffer-at-2.false in
-    omega (arith, w.ahead, w.within, room, c.if-buffer-at.false)
-
-pub shape_of-buffer : goal.shape_of-buffer
-shape_of-buffer c = c.write_short-next.ensures.written.kept
-
 pub returns : goal.returns
 returns c =
     let a = c.args in

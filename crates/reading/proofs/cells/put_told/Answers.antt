@@ -1,7 +1,7 @@
 use Prim.Native.Nat.{ℕ, ◌<◌}
 use Rattle.lexer.proofs.WordsTold.{stop-told}
 use Rattle.matrix.proofs.SetLaws.{closes-told}
-use Rattle.reading.proofs.ToldRows.{told-kept, told-set, told-word}
+use Rattle.reading.proofs.ToldRows.{told-set, told-word}
 use Rattle.reading.specs.RowWalk.{none_told}
 use Rattle.lexer.proofs.Basics.{and_left, and_right}
 use borrow.Author.Tests.{ltb-true}
@@ -18,15 +18,6 @@ going i to left h = (ltb-true i to (and_left (ltb i to) (ltb 1 left) h), ltb-tru
 pub loop-i-init : goal.loop-i-init
 loop-i-init c = none_told
 
-pub word_stop_by-end-requires : goal.word_stop_by-end-requires
-word_stop_by-end-requires c = c.word_bytes-table.ensures
-
-pub shape_of-buffer-then-last-end : goal.shape_of-buffer-then-last-end
-shape_of-buffer-then-last-end c = (told-kept c.loop-i.invariant).0
-
-pub returns-then-last-end : goal.returns-then-last-end
-returns-then-last-end c = c.loop-i.invariant
-
 pub put_run-last-requires : goal.put_run-last-requires
 put_run-last-requires c =
     let within = (stop-told _ _ _ c.word_stop_by-end.ensures c.if-start-end.true).within in
@@ -38,29 +29,11 @@ overflow_add-i c =
     let g = going l.i c.args.to l.last.left c.loop-i-test.true in
     omega (arith, g.0, c.well_formed)
 
-pub loop-i-smaller-then-start-end : goal.loop-i-smaller-then-start-end
-loop-i-smaller-then-start-end c =
-    let l = c.loop-i in
-    let g = going l.i c.args.to l.last.left c.loop-i-test.true in
-    omega (arith, g.0)
-
 pub loop-i-preserved-then-start-end : goal.loop-i-preserved-then-start-end
 loop-i-preserved-then-start-end c =
     let l = c.loop-i in
     let g = going l.i c.args.to l.last.left c.loop-i-test.true in
     told-word l.invariant g.0 _ _ c.start_of-start.ensures (stop-told _ _ _ c.word_stop_by-end.ensures c.if-start-end.true) c.if-last-end.false c.put_run-last.ensures
-
-pub set_closes-close-requires : goal.set_closes-close-requires
-set_closes-close-requires c =
-    let l = c.loop-i in
-    let g = going l.i c.args.to l.last.left c.loop-i-test.true in
-    g.0
-
-pub shape_of-buffer-then-close-eq0 : goal.shape_of-buffer-then-close-eq0
-shape_of-buffer-then-close-eq0 c = (told-kept c.loop-i.invariant).0
-
-pub returns-then-close-eq0 : goal.returns-then-close-eq0
-returns-then-close-eq0 c = c.loop-i.invariant
 
 pub put_whole_set-last-requires : goal.put_whole_set-last-requires
 put_whole_set-last-requires c =
@@ -71,22 +44,9 @@ overflow_add-i-in-loop-i c =
     let whole = (closes-told _ _ _ _ _ _ c.set_closes-close.ensures c.if-close-eq0.false).whole in
     omega (arith, whole.room, c.well_formed)
 
-pub loop-i-smaller : goal.loop-i-smaller
-loop-i-smaller c =
-    let whole = (closes-told _ _ _ _ _ _ c.set_closes-close.ensures c.if-close-eq0.false).whole in
-    let l = c.loop-i in
-    let g = going l.i c.args.to l.last.left c.loop-i-test.true in
-    omega (arith, whole.room, g.0)
-
 pub loop-i-preserved : goal.loop-i-preserved
 loop-i-preserved c =
     let closed = closes-told _ _ _ _ _ _ c.set_closes-close.ensures c.if-close-eq0.false in
     let l = c.loop-i in
     let g = going l.i c.args.to l.last.left c.loop-i-test.true in
     told-set l.invariant g.0 _ closed g.1 (rw c.start_of-start.ensures at c.put_whole_set-last.ensures)
-
-pub shape_of-buffer : goal.shape_of-buffer
-shape_of-buffer c = (told-kept c.loop-i.invariant).0
-
-pub returns : goal.returns
-returns c = c.loop-i.invariant

@@ -3,7 +3,6 @@ use Rattle.emit.proofs.PutLaws.{puts-as, puts_then}
 use Rattle.lexer.proofs.Basics.{and_right}
 use Rattle.lexer.specs.Base.{bytes}
 use Rattle.reading.proofs.CharacterPuts.{character-lines, plain-past, plain-put}
-use Rattle.reading.proofs.PutWalks.{room-and}
 use borrow.Author.Tests.{leb-true}
 use lib.Dec.{eqb}
 use mathlib.Core.Bool.{◌&&◌}
@@ -14,11 +13,6 @@ returns-then-plain-buffer c =
     let a = c.args in
     let past = leb-true _ _ (and_right (eqb a.label 0 && eqb a.states 0) _ c.if-plain-buffer.true) in
     plain-past _ _ _ _ _ _ _ c.if-plain-buffer.true _ _ _ _ past c.plain_size.ensures.value c.further.ensures
-
-pub put_plain-requires : goal.put_plain-requires
-put_plain-requires c =
-    let a = c.args in
-    room-and (eqb a.label 0 && eqb a.states 0) _ _ _ c.has_room.ensures c.if-plain-has_room.true
 
 pub returns-then-plain-has_room : goal.returns-then-plain-has_room
 returns-then-plain-has_room c = plain-put _ _ _ _ _ _ _ c.if-plain-has_room.true c.put_plain.ensures

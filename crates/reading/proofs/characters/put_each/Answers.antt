@@ -5,17 +5,11 @@ use Rattle.reading.proofs.PutWalks.{room-or}
 use Rattle.reading.proofs.TenPlain.{ten-told}
 use Rattle.reading.proofs.TenWalk.{spelling-ten}
 use lib.ListN.{length}
-use lib.Seq.{length-take-le}
-use mathlib.Core.Path.{sym}
 use native.Mathlib.Omega.{arith}
 use Rattle.reading.proofs.characters.put_each.Goals as goal
 
 pub loop-k-init : goal.loop-k-init
 loop-k-init c = spelling-start _ _ _ _ _ _ _ _ _
-
-pub ten_plain-requires : goal.ten_plain-requires
-ten_plain-requires c =
-    (c.requires, c.loop-k.invariant.below)
 
 pub put_ten-m-requires : goal.put_ten-m-requires
 put_ten-m-requires c =
@@ -24,24 +18,10 @@ put_ten-m-requires c =
     let either = and_right c.ten_plain.result _ c.if-ten_plain-room.true in
     (room-or c.has_room.result l.m (l.m + 640) (length l.buffer) c.has_room.ensures either, omega arith, t.round)
 
-pub overflow_add-k-then-ten_plain-room : goal.overflow_add-k-then-ten_plain-room
-overflow_add-k-then-ten_plain-room c =
-    let t = ten-told _ _ _ _ _ _ _ c.ten_plain.ensures c.if-ten_plain-room.true in
-    omega (arith, t.within)
-
-pub loop-k-smaller-then-ten_plain-room : goal.loop-k-smaller-then-ten_plain-room
-loop-k-smaller-then-ten_plain-room c =
-    let t = ten-told _ _ _ _ _ _ _ c.ten_plain.ensures c.if-ten_plain-room.true in
-    omega (arith, t.within)
-
 pub loop-k-preserved-then-ten_plain-room : goal.loop-k-preserved-then-ten_plain-room
 loop-k-preserved-then-ten_plain-room c =
     let t = ten-told _ _ _ _ _ _ _ c.ten_plain.ensures c.if-ten_plain-room.true in
     spelling-ten _ _ _ _ _ _ _ _ _ _ c.loop-k.invariant t c.type_at-ordering.ensures c.put_ten-m.ensures
-
-pub slice_bounds-put_character-end : goal.slice_bounds-put_character-end
-slice_bounds-put_character-end c =
-    sym (length-take-le _ c.args.work.now (omega (arith, c.requires)))
 
 pub loop-k-preserved : goal.loop-k-preserved
 loop-k-preserved c =

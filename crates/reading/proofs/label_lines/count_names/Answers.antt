@@ -1,12 +1,6 @@
-use Rattle.reading.proofs.FewNames.{counting-end, counting-full, counting-newline, counting-start, counting-turn}
+use Rattle.reading.proofs.FewNames.{counting-end, counting-newline, counting-turn}
 use mathlib.Core.Path.{sym, ◌∙◌}
 use Rattle.reading.proofs.label_lines.count_names.Goals as goal
-
-pub loop-j-init : goal.loop-j-init
-loop-j-init c = counting-start _ _ _ _
-
-pub returns-then-most-count : goal.returns-then-most-count
-returns-then-most-count c = counting-full _ _ _ _ _ _ c.loop-j.invariant c.if-most-count.true
 
 pub loop-j-preserved-then-newline : goal.loop-j-preserved-then-newline
 loop-j-preserved-then-newline c =

@@ -1,10 +1,7 @@
 use Rattle.lexer.specs.Base.{bytes}
-use Rattle.reading.proofs.FewNames.{listing-end, listing_full, listing-newline, listing_start, listing-turn}
+use Rattle.reading.proofs.FewNames.{listing-end, listing_full, listing-newline, listing-turn}
 use mathlib.Core.Path.{sym, ◌∙◌}
 use Rattle.reading.proofs.label_lines.put_states.Goals as goal
-
-pub loop-j-init : goal.loop-j-init
-loop-j-init c = listing_start _ _ _ _ _ _
 
 pub returns-then-left-eq0 : goal.returns-then-left-eq0
 returns-then-left-eq0 c = listing_full _ _ _ _ _ _ _ _ _ c.loop-j.invariant c.if-left-eq0.true

@@ -6,7 +6,7 @@ use native.Mathlib.Omega.{arith}
 use Rattle.reading.proofs.lines.put_next.Goals as goal
 
 pub returns-then-end-eq0 : goal.returns-then-end-eq0
-returns-then-end-eq0 c = λ none set. one_word refl (c.put_plain-next.ensures none set)
+returns-then-end-eq0 c = λ none set. one_word refl (c.put_plain.ensures none set)
 
 pub put_whole_set-row-requires : goal.put_whole_set-row-requires
 put_whole_set-row-requires c = rw c.start_of.ensures (closes-told _ _ _ _ _ _ c.set_closes-end.ensures c.if-end-eq0.false).bytes

@@ -16,4 +16,4 @@ returns-then-punct-2 c =
 pub returns : goal.returns
 returns c =
     λ none set.
-    plain_word _ c.requires none (sym c.punct.ensures ∙ c.if-punct.false) (sym c.punct-2.ensures ∙ c.if-punct-2.false) c.put_word-next.ensures
+    plain_word _ c.requires none (sym c.punct.ensures ∙ c.if-punct.false) (sym c.punct-2.ensures ∙ c.if-punct-2.false) c.put_word-row.ensures

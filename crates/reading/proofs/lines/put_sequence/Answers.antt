@@ -1,7 +1,8 @@
-use Rattle.reading.proofs.RowWalks.{rowing-as, rowing-end, rowing_start, step-ahead, step_kept, step-on, step-stop, words-over, words-pass}
+use Rattle.reading.proofs.RowWalks.{rowing-as, rowing-end, rowing_start, step-ahead, step-on, step-stop, words-over, words-pass}
 use Rattle.reading.proofs.ToldRows.{ahead-on, ahead-rowing}
 use mathlib.Core.Path.{sym, ◌∙◌}
 use native.Mathlib.Omega.{arith}
+use borrow.Author.Rules.{rules}
 use Rattle.reading.proofs.lines.put_sequence.Goals as goal
 
 pub loop-i-init : goal.loop-i-init
@@ -11,31 +12,22 @@ pub loop-i-preserved-then-newline : goal.loop-i-preserved-then-newline
 loop-i-preserved-then-newline c =
     rowing-as c.loop-i.invariant (λ f row g. words-pass _ _ _ _ c.loop-i-test.true _ (sym c.newline.ensures ∙ c.if-newline.true) f row)
 
-pub put_step-step-requires : goal.put_step-step-requires
-put_step-step-requires c = (c.loop-i.invariant.low, c.loop-i-test.true)
-
-pub shape_of-buffer-then-is_full : goal.shape_of-buffer-then-is_full
-shape_of-buffer-then-is_full c = step_kept c.put_step-step.ensures ∙ c.loop-i.invariant.kept
-
 pub returns-then-is_full : goal.returns-then-is_full
 returns-then-is_full c =
-    step-stop c.loop-i-test.true (λ b. (c.shared_slice_known-1.given b).fits) (sym c.newline.ensures ∙ c.if-newline.false)
-    c.put_step-step.ensures c.loop-i.invariant (sym c.is_full.ensures ∙ c.if-is_full.true)
+    step-stop c.loop-i-test.true (λ b. search rules) (sym c.newline.ensures ∙ c.if-newline.false)
+    c.put_step.ensures c.loop-i.invariant (sym c.is_full.ensures ∙ c.if-is_full.true)
 
 pub loop-i-smaller : goal.loop-i-smaller
 loop-i-smaller c =
-    let a = step-ahead c.put_step-step.ensures in
-    let b = ahead-on c.put_ahead-ahead.ensures in
+    let a = step-ahead c.put_step.ensures in
+    let b = ahead-on c.put_ahead.ensures in
     omega (arith, c.loop-i-test.true)
 
 pub loop-i-preserved : goal.loop-i-preserved
 loop-i-preserved c =
-    ahead-rowing (λ b. (c.shared_slice_known-1.given b).fits) c.put_ahead-ahead.ensures
-    (step-on c.loop-i-test.true (λ b. (c.shared_slice_known-1.given b).fits) (sym c.newline.ensures ∙ c.if-newline.false)
-    c.put_step-step.ensures c.loop-i.invariant (sym c.is_full.ensures ∙ c.if-is_full.false))
-
-pub shape_of-buffer : goal.shape_of-buffer
-shape_of-buffer c = c.loop-i.invariant.kept
+    ahead-rowing (λ b. search rules) c.put_ahead.ensures
+    (step-on c.loop-i-test.true (λ b. search rules) (sym c.newline.ensures ∙ c.if-newline.false)
+    c.put_step.ensures c.loop-i.invariant (sym c.is_full.ensures ∙ c.if-is_full.false))
 
 pub returns : goal.returns
 returns c = rowing-end c.loop-i.invariant (λ f row g. words-over _ _ _ _ _ c.loop-i-test.false f row)

@@ -3,8 +3,5 @@ use Rattle.reading.specs.RowWalk.{one_word}
 use mathlib.Core.Path.{refl}
 use Rattle.reading.proofs.lines.put_step.Goals as goal
 
-pub returns-in-None : goal.returns-in-None
-returns-in-None c = c.put_next.ensures c.in-None.is _
-
-pub returns-in-Set : goal.returns-in-Set
-returns-in-Set c = one_word refl (c.put_within-next.ensures c.in-Set.is)
+pub returns-in-Some : goal.returns-in-Some
+returns-in-Some c = one_word refl (c.put_within.ensures c.in-Some.is)

@@ -5,10 +5,6 @@ use mathlib.Core.List.{[]}
 use native.Mathlib.Omega.{arith}
 use Rattle.reading.proofs.plain.plain_size.Goals as goal
 
--- the parts of a fact as the clauses of the contract
-both : {A B : Type 0} → A × B → record { value : A; upper_bound : B }
-both p = record { value = p.0; upper_bound = p.1 }
-
 pub overflow_add-result : goal.overflow_add-result
 overflow_add-result c = omega (arith, c.digits_of-digits.ensures, digits-most 19 c.args.number (omega arith))
 
@@ -19,10 +15,10 @@ pub returns-in-Unordered : goal.returns-in-Unordered
 returns-in-Unordered c =
     let d = c.digits_of-digits in
     let number = c.args.number in
-    both ((omega (arith, d.ensures, plain-unordered number _ c.in-Unordered.is []), omega (arith, d.ensures, digits-most 19 number (omega arith))))
+    record { value = omega (arith, d.ensures, plain-unordered number _ c.in-Unordered.is []); upper_bound = omega (arith, d.ensures, digits-most 19 number (omega arith)) }
 
 pub returns-in-Ordered : goal.returns-in-Ordered
 returns-in-Ordered c =
     let d = c.digits_of-digits in
     let number = c.args.number in
-    both ((omega (arith, d.ensures, plain-ordered number _ c.in-Ordered.is []), omega (arith, d.ensures, digits-most 19 number (omega arith))))
+    record { value = omega (arith, d.ensures, plain-ordered number _ c.in-Ordered.is []); upper_bound = omega (arith, d.ensures, digits-most 19 number (omega arith)) }

@@ -3,22 +3,9 @@ use Rattle.emit.proofs.PutLaws.{puts-as, puts_then}
 use Rattle.lexer.specs.Base.{bytes}
 use Rattle.reading.proofs.CharacterPuts.{bare-ordered, bare-unordered}
 use Rattle.reading.proofs.PutWalks.{puts-from}
-use lib.ListN.{length}
-use mathlib.Core.Path.{ap}
 use native.Mathlib.Omega.{arith}
 use Rattle.reading.proofs.plain.put_bare.Goals as goal
 use Rattle.reading.proofs.plain.put_bare.Goals.{in-Unordered, in-Ordered}
-
-pub put_whole-requires : goal.put_whole-requires
-put_whole-requires c =
-    let room = c.requires in
-    let first = c.put_whole-m.ensures in
-    elim c.match-ordering.branch [
-      | in-Unordered w ↦
-          let second = w.put_whole-m-in-Unordered.ensures in
-          omega (arith, room, ap length w.buffer-is, w.m-is, second.puts.kept, second.value, first.puts.kept, first.value)
-      | in-Ordered w ↦ omega (arith, room, ap length w.buffer-is, w.m-is, first.puts.kept, first.value)
-    ]
 
 pub returns : goal.returns
 unfolding bytes
@@ -40,6 +27,3 @@ returns c =
             upper_bound = omega (arith, w.m-is, first.value, last.value);
           }
     ]
-
-pub shape_of-buffer : goal.shape_of-buffer
-shape_of-buffer c = (returns c).puts.kept

@@ -7,7 +7,3 @@ pub returns-then-buffer-n : goal.returns-then-buffer-n
 returns-then-buffer-n c =
     let size = c.plain_size.ensures.value in
     counted-past _ _ _ _ _ c.if-buffer-n.true (λ behind. rw size (ten-size c.args.number c.requires.1 c.requires.2 c.args.ordering behind)) c.further.ensures
-
-pub write_ten-requires : goal.write_ten-requires
-write_ten-requires c =
-    (c.requires.0 c.if-buffer-n.false, c.requires.1, c.requires.2)

@@ -1,6 +1,5 @@
 -- The function `ten_plain` meets its contract, test by test. Assumes nothing.
 use Rattle.reading.proofs.TenPlain.{ten-odd, ten-short, ten-typed, ten-untyped}
-use borrow.Author.Tests.{not-false, not-true}
 use Rattle.reading.proofs.plain.ten_plain.Goals as goal
 
 pub returns-then-k-ne0 : goal.returns-then-k-ne0
@@ -11,8 +10,8 @@ returns-then-characters-k c = ten-short _ _ _ _ _ c.if-k-ne0.false c.if-characte
 
 pub returns-then-not-typed : goal.returns-then-not-typed
 returns-then-not-typed c =
-    ten-untyped _ _ _ _ _ c.if-k-ne0.false c.if-characters-k.false c.ten_same.ensures c.ten_same-2.ensures (not-true _ c.if-not-typed.true-raw)
+    ten-untyped _ _ _ _ _ c.if-k-ne0.false c.if-characters-k.false c.ten_same.ensures c.ten_same-2.ensures c.if-not-typed.true
 
 pub returns : goal.returns
 returns c =
-    ten-typed _ _ _ _ _ c.if-k-ne0.false c.if-characters-k.false c.ten_same.ensures c.ten_same-2.ensures (not-false _ c.if-not-typed.false-raw) c.ten_same-3.ensures
+    ten-typed _ _ _ _ _ c.if-k-ne0.false c.if-characters-k.false c.ten_same.ensures c.ten_same-2.ensures c.if-not-typed.false c.ten_same-3.ensures

@@ -7,6 +7,3 @@ use Rattle.reading.proofs.plain.ten_same.Given as goal
 
 abbrev pub invariant-loop-i : goal.invariant-loop-i
 invariant-loop-i l = (l.i ≤ 10) × (l.all && all_same l.work l.number (l.at + l.i) (10 - l.i) ≡ all_same l.work l.number l.at 10)
-
-abbrev pub decreases-loop-i : goal.decreases-loop-i
-decreases-loop-i l = 10 - l.i

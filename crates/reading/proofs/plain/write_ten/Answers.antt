@@ -1,31 +1,14 @@
 use Prim.Native.Nat.{◌+◌, ◌/◌}
 use Rattle.emit.proofs.PutLaws.{byte-written, puts_then}
 use Rattle.lexer.specs.Base.{bytes}
-use Rattle.reading.proofs.PutWalks.{putting-as, putting-end, putting-start, putting-turn}
+use Rattle.reading.proofs.PutWalks.{putting-end, putting-turn}
 use Rattle.reading.proofs.PutsOver.{puts-over}
-use Rattle.reading.proofs.TenPlain.{bare-least, from_digit, front-made, ten-end, ten-next, ten-start}
+use Rattle.reading.proofs.TenPlain.{bare-least, from_digit, front-made, ten-end, ten-next}
 use Rattle.reading.specs.CharactersHeld.{bare_piece}
-use lib.ListN.{length-set}
 use mathlib.Core.List.{◌∷◌, ◌++◌}
 use mathlib.Core.Path.{refl, sym, ap, ◌∙◌}
 use native.Mathlib.Omega.{arith}
 use Rattle.reading.proofs.plain.write_ten.Goals as goal
-
-pub loop-digit-init : goal.loop-digit-init
-loop-digit-init c =
-    (omega arith, omega arith, omega arith, putting-as putting-start (λ behind. sym (ten-start c.args.number c.args.ordering behind)))
-
-pub put_bare-m-requires : goal.put_bare-m-requires
-put_bare-m-requires c =
-    omega (
-      arith,
-      length-set c.put_whole.new.buffer (c.loop-digit.m + c.put_digits-last.result) c.loop-digit.digit,
-      c.put_whole.ensures.puts.kept,
-      c.loop-digit.invariant.2,
-      c.loop-digit.invariant.3.kept,
-      c.put_digits-last.ensures.upper_bound,
-      c.requires.0,
-    )
 
 pub loop-digit-preserved : goal.loop-digit-preserved
 unfolding bytes

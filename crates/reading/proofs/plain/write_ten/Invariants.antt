@@ -12,6 +12,3 @@ abbrev pub invariant-loop-digit : goal.invariant-loop-digit
 invariant-loop-digit l =
     (48 ≤ l.digit) × (l.digit ≤ 58) × (l.m ≤ l.n + 64 * (l.digit - 48))
     × Putting l.initial.buffer l.n (spell_characters l.number (replicate 10 (plain_character l.ordering))) l.buffer l.m (from_digit l.number l.ordering l.digit)
-
-abbrev pub decreases-loop-digit : goal.decreases-loop-digit
-decreases-loop-digit l = 58 - l.digit

@@ -1,12 +1,12 @@
-use Rattle.reading.proofs.MarkLaws.{cleared-all, cleared_more, cleared-none}
+-- The function `clear` meets its contract: the marks up to the end are filled with 0. Assumes nothing.
+use Rattle.reading.proofs.MarkLaws.{cleared-filled}
+use Rattle.std.proofs.Common.{rules}
+use lib.ListN.{replicate}
+use mathlib.Core.Path.{◌≡◌}
 use native.Mathlib.Omega.{arith}
 use Rattle.reading.proofs.sets.clear.Goals as goal
 
-pub loop-i-init : goal.loop-i-init
-loop-i-init c = (omega arith, cleared-none c.args.set.now)
-
-pub loop-i-preserved : goal.loop-i-preserved
-loop-i-preserved c = (omega (arith, c.loop-i-test.true), cleared_more c.args.set.now c.loop-i.set c.loop-i.i c.loop-i.invariant.1)
-
 pub returns : goal.returns
-returns c = cleared-all c.args.set.now c.loop-i.set c.loop-i.i c.args.top c.loop-i.invariant.0 c.loop-i-test.false c.loop-i.invariant.1
+returns c =
+    let filled : c.fill.new.self ≡ replicate c.args.top 0 = search rules in
+    cleared-filled c.args.set.now c.fill.new.self c.args.top (omega (arith, c.requires)) filled

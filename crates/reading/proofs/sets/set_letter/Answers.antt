@@ -8,6 +8,6 @@ pub returns-then-b-eq123 : goal.returns-then-b-eq123
 unfolding letter_of pick
 returns-then-b-eq123 c = rw (eq-eqb _ _ c.if-b-eq123.true)
 
-pub returns : goal.returns
+pub returns-else-b-eq123 : goal.returns-else-b-eq123
 unfolding letter_of pick
-returns c = rw (ne_eqb _ _ c.if-b-eq123.false)
+returns-else-b-eq123 c = rw (ne_eqb _ _ c.if-b-eq123.false)

@@ -11,6 +11,6 @@ returns-in-None c =
       omega (arith, rows, count_most c.args.interleave c.args.held.lines c.args.held.taxa 1048576 c.requires.0 c.requires.1),
     )
 
-pub returns-in-Words : goal.returns-in-Words
-returns-in-Words c =
-    (λ text front. names-few text front c.args.held _ _ _ c.in-Words.is, c.requires.1)
+pub returns-in-Some : goal.returns-in-Some
+returns-in-Some c =
+    (λ text front. names-few text front c.args.held _ _ _ c.in-Some.is, c.requires.1)

@@ -9,20 +9,17 @@ order_place-order-requires c = order-few _ _ _ _ _ c.requires
 
 pub loop-k-init : goal.loop-k-init
 loop-k-init c =
-    (refl, words-start _ _ _ _ c.args.held c.requires _ _ _ _ _ _ c.order_place-order.ensures)
+    (refl, words-start _ _ _ _ c.args.matrix.held c.requires _ _ _ _ _ _ c.order_place-order.ensures)
 
-pub slice_bounds-next_word-end : goal.slice_bounds-next_word-end
-slice_bounds-next_word-end c =
+pub slice_bounds-word_ahead-end : goal.slice_bounds-word_ahead-end
+slice_bounds-word_ahead-end c =
     sym (length-take-le _ c.args.work.now (tokens-room _ _ _ _ _ c.requires))
 
-pub shape_of-buffer-then-to-word : goal.shape_of-buffer-then-to-word
-shape_of-buffer-then-to-word c = c.loop-k.invariant.0
-
-pub returns-then-to-word : goal.returns-then-to-word
-returns-then-to-word c =
+pub returns-in_default : goal.returns-in_default
+returns-in_default c =
     record {
       kept = c.loop-k.invariant.0;
-      put = words-over _ _ _ _ c.args.held c.requires _ _ _ _ _ _ c.order_place-order.ensures _ _ c.loop-k.invariant.1 _ c.next_word-word.ensures c.if-to-word.true;
+      put = words-over _ _ _ _ c.args.matrix.held c.requires _ _ _ _ _ _ c.order_place-order.ensures _ _ c.loop-k.invariant.1 (c.word_ahead.ensures.none c.in_default.is);
     }
 
 pub overflow_add-order : goal.overflow_add-order
@@ -32,12 +29,9 @@ overflow_add-order c =
 pub loop-k-preserved : goal.loop-k-preserved
 loop-k-preserved c = (
   c.put_taxon-m.ensures.kept ∙ c.loop-k.invariant.0,
-  words-turn _ _ _ _ c.args.held c.requires _ _ _ _ _ _ c.order_place-order.ensures _ _ c.loop-k.invariant.1 _ c.next_word-word.ensures c.if-to-word.false c.loop-k-test.true _ c.start_of-row.ensures c.put_taxon-m.ensures.put,
+  words-turn _ _ _ _ c.args.matrix.held c.requires _ _ _ _ _ _ c.order_place-order.ensures _ _ c.loop-k.invariant.1 _ (c.word_ahead.ensures.some _ c.in-Some.is) c.loop-k-test.true _ c.start_of-row.ensures c.put_taxon-m.ensures.put,
 )
-
-pub shape_of-buffer : goal.shape_of-buffer
-shape_of-buffer c = c.loop-k.invariant.0
 
 pub returns : goal.returns
 returns c =
-    record { kept = c.loop-k.invariant.0; put = words-end _ _ _ _ c.args.held c.requires _ _ _ _ _ _ c.order_place-order.ensures _ _ c.loop-k.invariant.1 c.loop-k-test.false }
+    record { kept = c.loop-k.invariant.0; put = words-end _ _ _ _ c.args.matrix.held c.requires _ _ _ _ _ _ c.order_place-order.ensures _ _ c.loop-k.invariant.1 c.loop-k-test.false }

@@ -9,7 +9,7 @@ use Rattle.reading.proofs.taxa.put_pages.Given as goal
 
 abbrev pub invariant-loop-at : goal.invariant-loop-at
 invariant-loop-at l =
-    (length l.buffer ≡ length l.initial.buffer) × (l.m ≤ last_place) × Lining l.text l.work l.codes l.count l.lines l.taxa l.to l.first l.initial.buffer l.n l.buffer l.m l.at
+    (length l.buffer ≡ length l.initial.buffer) × (l.m ≤ last_place) × Lining l.text l.work l.codes l.matrix.count l.matrix.held.lines l.matrix.held.taxa l.matrix.held.to l.first l.initial.buffer l.n l.buffer l.m l.at
 
 abbrev pub decreases-loop-at : goal.decreases-loop-at
-decreases-loop-at l = l.lines - l.at
+decreases-loop-at l = l.matrix.held.lines - l.at

@@ -8,29 +8,25 @@ use Rattle.reading.proofs.taxa.put_row.Goals as goal
 
 pub returns-then-row_count-row : goal.returns-then-row_count-row
 returns-then-row_count-row c =
-    record { kept = refl; put = row-none _ _ _ _ c.args.held c.requires _ _ _ c.row_count.ensures c.if-row_count-row.true }
+    record { kept = refl; put = row-none _ _ _ _ c.args.matrix.held c.requires _ _ _ c.row_count.ensures c.if-row_count-row.true }
 
 pub first_line-first-requires : goal.first_line-first-requires
 first_line-first-requires c = first-few _ _ _ _ _ c.requires _ _ _ c.row_count.ensures c.if-row_count-row.false
 
 pub put_pages-requires : goal.put_pages-requires
 put_pages-requires c =
-    lines-room _ _ _ _ _ c.requires _ _ _ c.row_count.ensures c.if-row_count-row.false _ c.first_line-first.ensures c.if-interleave.true
+    lines-room _ _ _ _ _ c.requires _ _ _ c.row_count.ensures c.if-row_count-row.false _ c.first_line-first.ensures c.if-matrix.true
 
-pub returns-then-interleave : goal.returns-then-interleave
-returns-then-interleave c =
+pub returns-then-matrix : goal.returns-then-matrix
+returns-then-matrix c =
     record {
       kept = c.put_pages.ensures.kept;
-      put = row-pages _ _ _ _ c.args.held c.requires _ _ _ c.row_count.ensures c.if-row_count-row.false _ c.first_line-first.ensures c.if-interleave.true c.put_pages.ensures.put;
+      put = row-pages _ _ _ _ c.args.matrix.held c.requires _ _ _ c.row_count.ensures c.if-row_count-row.false _ c.first_line-first.ensures c.if-matrix.true c.put_pages.ensures.put;
     }
 
-pub overflow_add-count : goal.overflow_add-count
-overflow_add-count c =
+pub overflow_add-matrix : goal.overflow_add-matrix
+overflow_add-matrix c =
     omega (arith, line-few _ _ _ _ _ c.requires _ _ _ c.row_count.ensures c.if-row_count-row.false _ c.first_line-first.ensures)
-
-pub overflow_add-from : goal.overflow_add-from
-overflow_add-from c =
-    omega (arith, c.start_of-from.ensures, c.shared_slice_known-2-1.given (c.args.count + c.first_line-first.result))
 
 pub slice_bounds-put_sequence-end : goal.slice_bounds-put_sequence-end
 slice_bounds-put_sequence-end c =
@@ -40,5 +36,5 @@ pub returns : goal.returns
 returns c =
     record {
       kept = c.put_sequence.ensures.kept;
-      put = row-sequence _ _ _ _ c.args.held c.requires _ _ _ c.row_count.ensures c.if-row_count-row.false _ c.first_line-first.ensures _ c.if-interleave.false (ap (λ x. x + 1) c.start_of-from.ensures) c.put_sequence.ensures.put;
+      put = row-sequence _ _ _ _ c.args.matrix.held c.requires _ _ _ c.row_count.ensures c.if-row_count-row.false _ c.first_line-first.ensures _ c.if-matrix.false (ap (λ x. x + 1) c.start_of-from.ensures) c.put_sequence.ensures.put;
     }

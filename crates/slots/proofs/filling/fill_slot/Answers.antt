@@ -3,9 +3,16 @@ use Rattle.slots.proofs.FillingLaws.{filled-set, filled_none}
 use native.Mathlib.Omega.{arith}
 use Rattle.slots.proofs.filling.fill_slot.Goals as goal
 
-pub returns-then-p-end : goal.returns-then-p-end
-returns-then-p-end c =
-    filled-set _ _ _ _ _ c.free_slot-p.ensures c.requires.1 c.if-p-end.true (omega (arith, c.requires.0, c.if-p-end.true))
+pub offset_bounds-work-p : goal.offset_bounds-work-p
+offset_bounds-work-p c = omega (arith, c.in-Some.ensures.1, c.requires.0)
 
-pub returns-else-p-end : goal.returns-else-p-end
-returns-else-p-end c = filled_none _ _ _ _ _ c.free_slot-p.ensures c.if-p-end.false
+pub bounds-work-p : goal.bounds-work-p
+bounds-work-p c = omega (arith, c.in-Some.ensures.1, c.requires.0)
+
+pub returns-in-Some : goal.returns-in-Some
+returns-in-Some c =
+    let found = c.in-Some.ensures in
+    filled-set _ _ _ _ _ found.0 c.requires.1 found.1 (omega (arith, found.1, c.requires.0))
+
+pub returns-in_default : goal.returns-in_default
+returns-in_default c = filled_none _ _ _ _ c.in_default.ensures

@@ -4,16 +4,15 @@ use mathlib.Core.Path.{refl}
 use native.Mathlib.Omega.{arith}
 use Rattle.slots.proofs.hashes.hash_run.Goals as goal
 
-pub loop-i-init : goal.loop-i-init
+pub loop-b-init : goal.loop-b-init
 unfolding hash
-loop-i-init c = record { small = omega arith; ahead = c.requires.0; rest = refl }
+loop-b-init c = record { small = omega arith; rest = refl }
 
 pub mixed-h-requires : goal.mixed-h-requires
-mixed-h-requires c = c.loop-i.invariant.small
+mixed-h-requires c = c.loop-b.invariant.small
 
-pub loop-i-preserved : goal.loop-i-preserved
-loop-i-preserved c =
-    run-turn _ _ _ _ _ c.loop-i.invariant c.loop-i-test.true c.requires.1 _ (rw c.blank_for.ensures at c.mixed-h.ensures)
+pub loop-b-preserved : goal.loop-b-preserved
+loop-b-preserved c = run-turn _ _ _ c.loop-b.invariant c.loop-b-test.true _ c.mixed-h.ensures
 
 pub returns : goal.returns
-returns c = run-end _ _ _ _ _ c.loop-i.invariant c.loop-i-test.false
+returns c = run-end _ _ _ c.loop-b.invariant c.loop-b-test.false

@@ -1,11 +1,7 @@
--- The function `hash_run` meets its contract. A turn takes one byte more, and keeps what all of them come to. The measure is how many are left.
--- Assumes nothing.
-use Prim.Native.Nat.{◌-◌}
+-- The function `hash_run` meets its contract. A turn takes one byte more, and keeps what all of them come to. Assumes nothing.
+use Rattle.lexer.specs.PlainWords.{part}
 use Rattle.slots.proofs.HashLaws.{HashingRun}
 use Rattle.slots.proofs.hashes.hash_run.Given as goal
 
-abbrev pub invariant-loop-i : goal.invariant-loop-i
-invariant-loop-i l = HashingRun l.text l.from l.end l.i l.h
-
-abbrev pub decreases-loop-i : goal.decreases-loop-i
-decreases-loop-i l = l.end - l.i
+abbrev pub invariant-loop-b : goal.invariant-loop-b
+invariant-loop-b l = HashingRun (part l.text l.from l.end) l.b-index l.h

@@ -15,14 +15,14 @@ mixed-h-requires c = c.loop-b.invariant.small
 
 pub loop-b-smaller : goal.loop-b-smaller
 loop-b-smaller c =
-    let read = (yielded _ _ _ c.next_byte.ensures).byte _ _ c.in-Byte.is in
+    let read = (yielded _ _ _ c.next_byte.ensures).byte _ _ c.in-Some.is in
     omega arith
 
 pub loop-b-preserved : goal.loop-b-preserved
 loop-b-preserved c =
-    let read = (yielded _ _ _ c.next_byte.ensures).byte _ _ c.in-Byte.is in
-    hashing-turn _ _ _ _ c.loop-b.invariant _ _ read _ (rw c.blank_for.ensures at c.mixed-h.ensures)
+    let read = (yielded _ _ _ c.next_byte.ensures).byte _ _ c.in-Some.is in
+    hashing-turn _ _ _ _ c.loop-b.invariant _ _ read _ c.mixed-h.ensures
 
-pub returns-in-End : goal.returns-in-End
-returns-in-End c =
-    hashing-end _ _ _ _ c.loop-b.invariant ((yielded _ _ _ c.next_byte.ensures).end c.in-End.is) ∙ ap (λ t. hash (spaced t)) (front-left _ _ _ c.text_start-c.ensures)
+pub returns : goal.returns
+returns c =
+    hashing-end _ _ _ _ c.loop-b.invariant ((yielded _ _ _ c.next_byte.ensures).end c.in_default.is) ∙ ap (λ t. hash (spaced t)) (front-left _ _ _ c.text_start-c.ensures)

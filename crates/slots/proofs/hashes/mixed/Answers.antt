@@ -6,4 +6,4 @@ use Rattle.slots.proofs.hashes.mixed.Goals as goal
 
 pub returns : goal.returns
 unfolding mixed
-returns c = (rw c.lower-c.ensures, mod-lt _ (omega arith))
+returns c = (rw (c.from.ensures, c.folded.ensures), mod-lt _ (omega arith))

@@ -3,4 +3,4 @@ use native.Mathlib.Omega.{arith}
 use Rattle.slots.proofs.trie.letter_of.Goals as goal
 
 pub returns : goal.returns
-returns c = (rw (c.lower-c.ensures, c.blank_for.ensures), omega arith)
+returns c = (rw (c.from.ensures, c.folded.ensures), omega arith)

@@ -11,20 +11,20 @@ loop-n-init c = leads-same _ _ _ _ _
 pub branch_of-requires : goal.branch_of-requires
 branch_of-requires c = c.letter_at-l.ensures.some
 
-pub returns-then-l-eq257 : goal.returns-then-l-eq257
+pub returns-then-l-eq-END : goal.returns-then-l-eq-END
 unfolding letters_left
-returns-then-l-eq257 c =
+returns-then-l-eq-END c =
     rw (← front-left _ _ _ c.text_start-c.ensures)
-    (reach-whole c.loop-n.invariant c.letter_at-l.ensures c.if-l-eq257.true (rw c.in-Behind.is at c.branch_of.ensures))
+    (reach-whole c.loop-n.invariant c.letter_at-l.ensures c.if-l-eq-END.true (rw c.in-Behind.is at c.branch_of.ensures))
 
 pub loop-n-smaller : goal.loop-n-smaller
 loop-n-smaller c =
-    let m = c.letter_at-l.ensures.more c.if-l-eq257.false in
+    let m = c.letter_at-l.ensures.more c.if-l-eq-END.false in
     omega (arith, m.ahead, m.within)
 
 pub loop-n-preserved : goal.loop-n-preserved
 loop-n-preserved c =
-    reach-more c.loop-n.invariant c.letter_at-l.ensures c.if-l-eq257.false (rw c.in-Behind.is at c.branch_of.ensures)
+    reach-more c.loop-n.invariant c.letter_at-l.ensures c.if-l-eq-END.false (rw c.in-Behind.is at c.branch_of.ensures)
 
 pub returns-in-Last : goal.returns-in-Last
 unfolding letters_left

@@ -4,10 +4,10 @@ use borrow.Author.Tests.{le-leb, lt-leb}
 use mathlib.Core.Path.{refl}
 use Rattle.slots.proofs.trie.node_room.Goals as goal
 
-pub returns-then-top-gt4294967292 : goal.returns-then-top-gt4294967292
+pub returns-then-top-le4294967292 : goal.returns-then-top-le4294967292
 unfolding node_room
-returns-then-top-gt4294967292 c = rw (lt-leb _ _ c.if-top-gt4294967292.true) refl
+returns-then-top-le4294967292 c = rw (le-leb _ _ c.if-top-le4294967292.true) refl
 
-pub returns : goal.returns
+pub returns-else-top-le4294967292 : goal.returns-else-top-le4294967292
 unfolding node_room
-returns c = rw (le-leb _ _ c.if-top-gt4294967292.false) refl
+returns-else-top-le4294967292 c = rw (lt-leb _ _ c.if-top-le4294967292.false) refl

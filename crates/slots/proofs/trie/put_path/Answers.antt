@@ -29,28 +29,13 @@ put_letters-requires c =
     let e = rw c.in-Part.is at c.name_reach.ensures in
     (record { behind = omega (arith, e.0.ahead); below = e.0.below room.0; free = sym c.start_of.ensures ∙ c.if-start_of-eq0.true; space = room.1 }, c.requires)
 
-pub offset_bounds-work-head-else-start_of-eq0 : goal.offset_bounds-work-head-else-start_of-eq0
-offset_bounds-work-head-else-start_of-eq0 c =
-    let room = head-room c.args.work.now c.args.head c.start_of-top.result c.start_of-top.ensures (sym c.given_up.ensures ∙ c.if-given_up.false) in
-    omega (arith, room.1)
-
-pub bounds-work-head-else-start_of-eq0 : goal.bounds-work-head-else-start_of-eq0
-bounds-work-head-else-start_of-eq0 c =
-    let room = head-room c.args.work.now c.args.head c.start_of-top.result c.start_of-top.ensures (sym c.given_up.ensures ∙ c.if-given_up.false) in
-    omega (arith, room.1)
-
-pub returns-in-Whole : goal.returns-in-Whole
-returns-in-Whole c =
+pub returns-in_default : goal.returns-in_default
+returns-in_default c =
     let room = head-room c.args.work.now c.args.head c.start_of-top.result c.start_of-top.ensures (sym c.given_up.ensures ∙ c.if-given_up.false) in
     put-lost _ _ _ _ room.1
 
-pub returns-then-start_of-eq0 : goal.returns-then-start_of-eq0
-returns-then-start_of-eq0 c =
+pub returns-in-Part : goal.returns-in-Part
+returns-in-Part c =
     let room = head-room c.args.work.now c.args.head c.start_of-top.result c.start_of-top.ensures (sym c.given_up.ensures ∙ c.if-given_up.false) in
     let e = rw c.in-Part.is at c.name_reach.ensures in
     put-grown c.start_of-top.ensures room.0 e.0 c.put_letters.ensures
-
-pub returns-else-start_of-eq0 : goal.returns-else-start_of-eq0
-returns-else-start_of-eq0 c =
-    let room = head-room c.args.work.now c.args.head c.start_of-top.result c.start_of-top.ensures (sym c.given_up.ensures ∙ c.if-given_up.false) in
-    put-lost _ _ _ _ room.1

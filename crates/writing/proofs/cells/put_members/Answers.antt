@@ -1,29 +1,12 @@
-use Rattle.lexer.proofs.ListLaws.{some-within}
-use Rattle.writing.proofs.MembersPut.{members-end, members-none, members-start, members-turn}
+use Rattle.writing.proofs.MembersPut.{members-end, members-none, members-turn}
 use Rattle.writing.proofs.SignsRead.{sign-ahead}
-use mathlib.Core.Path.{refl, sym, ◌∙◌}
+use mathlib.Core.Path.{sym, ◌∙◌}
 use native.Mathlib.Omega.{arith}
 use Rattle.writing.proofs.cells.put_members.Goals as goal
-
-pub loop-at-init : goal.loop-at-init
-loop-at-init c = (omega arith, refl, members-start _ _ _ _ _)
-
-pub shape_of-buffer-then-byte_or_zero-ne46 : goal.shape_of-buffer-then-byte_or_zero-ne46
-shape_of-buffer-then-byte_or_zero-ne46 c = c.put-m.ensures.kept ∙ c.loop-at.invariant.1
 
 pub returns-then-byte_or_zero-ne46 : goal.returns-then-byte_or_zero-ne46
 returns-then-byte_or_zero-ne46 c =
     (omega (arith, sign-ahead _ _ _ _ c.sign_at-s.ensures), members-end _ _ _ _ _ _ _ _ c.loop-at.invariant.2 _ c.sign_at-s.ensures _ _ c.put-m.ensures (λ e. c.if-byte_or_zero-ne46.true (c.byte_or_zero.ensures ∙ e)))
-
-pub overflow_add-at : goal.overflow_add-at
-overflow_add-at c =
-    let dot = sym c.byte_or_zero.ensures ∙ c.if-byte_or_zero-ne46.false in
-    omega (arith, some-within c.args.source.now c.sign_at-s.result.at (λ z. omega arith))
-
-pub loop-at-smaller : goal.loop-at-smaller
-loop-at-smaller c =
-    let dot = sym c.byte_or_zero.ensures ∙ c.if-byte_or_zero-ne46.false in
-    omega (arith, some-within c.args.source.now c.sign_at-s.result.at (λ z. omega arith), sign-ahead _ _ _ _ c.sign_at-s.ensures)
 
 pub loop-at-preserved : goal.loop-at-preserved
 loop-at-preserved c = (
@@ -31,9 +14,6 @@ loop-at-preserved c = (
   c.put-m.ensures.kept ∙ c.loop-at.invariant.1,
   members-turn _ _ _ _ _ _ _ _ c.loop-at.invariant.2 _ c.sign_at-s.ensures _ _ c.put-m.ensures (sym c.byte_or_zero.ensures ∙ c.if-byte_or_zero-ne46.false),
 )
-
-pub shape_of-buffer : goal.shape_of-buffer
-shape_of-buffer c = c.loop-at.invariant.1
 
 pub returns : goal.returns
 returns c = (c.loop-at.invariant.0, members-none _ _ _ _ _ _ _ _ c.loop-at.invariant.2 c.loop-at-test.false)

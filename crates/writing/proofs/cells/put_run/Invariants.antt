@@ -5,8 +5,8 @@ use lib.ListN.{length}
 use mathlib.Core.Path.{◌≡◌}
 use Rattle.writing.proofs.cells.put_run.Given as goal
 
-abbrev pub invariant-loop-from : goal.invariant-loop-from
-invariant-loop-from l = (l.from ≤ l.at) × (length l.buffer ≡ length l.initial.buffer) × RunPut l.source l.signs l.from l.initial.buffer l.n l.buffer (record { at = l.at; n = l.m })
+abbrev pub invariant-loop-s : goal.invariant-loop-s
+invariant-loop-s l = (l.from ≤ l.at) × (length l.buffer ≡ length l.initial.buffer) × RunPut l.source l.signs l.from l.initial.buffer l.n l.buffer (record { at = l.at; n = l.m })
 
-abbrev pub decreases-loop-from : goal.decreases-loop-from
-decreases-loop-from l = length l.source - l.at
+abbrev pub decreases-loop-s : goal.decreases-loop-s
+decreases-loop-s l = length l.source - l.at

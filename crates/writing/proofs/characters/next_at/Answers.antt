@@ -1,14 +1,14 @@
-use Rattle.writing.proofs.LinePlaces.{next_here, next-on, next_past}
+use Rattle.lexer.proofs.ListLaws.{some-within}
+use Rattle.writing.proofs.LinePlaces.{next_here, next-on}
+use mathlib.Core.Path.{sym, ◌∙◌}
+use native.Mathlib.Omega.{arith}
 use Rattle.writing.proofs.characters.next_at.Goals as goal
 
-pub loop-i-init : goal.loop-i-init
-loop-i-init c = λ r p. p
-
-pub returns-then-source-i-ne115 : goal.returns-then-source-i-ne115
-returns-then-source-i-ne115 c = c.loop-i.invariant _ (next_here _ _ c.if-source-i-ne115.true)
-
 pub loop-i-preserved : goal.loop-i-preserved
-loop-i-preserved c = λ r p. c.loop-i.invariant r (next-on _ _ c.loop-i-test.true c.if-source-i-ne115.false _ c.behind_line-i.ensures.found r p)
+loop-i-preserved c =
+    let first = sym c.byte_or_zero.ensures ∙ c.loop-i-test.true in
+    let within = some-within c.args.source.now c.loop-i.i (λ z. omega arith) in
+    λ r p. c.loop-i.invariant r (next-on _ _ within first _ c.behind_line-i.ensures.found r p)
 
 pub returns : goal.returns
-returns c = c.loop-i.invariant _ (next_past _ _ c.loop-i-test.false)
+returns c = c.loop-i.invariant _ (next_here _ _ (λ e. c.loop-i-test.false (c.byte_or_zero.ensures ∙ e)))

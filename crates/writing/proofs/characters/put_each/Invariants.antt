@@ -6,8 +6,8 @@ use Rattle.writing.specs.CharacterLines.{StatesPut}
 use lib.ListN.{length}
 use Rattle.writing.proofs.characters.put_each.Given as goal
 
-abbrev pub invariant-loop-i : goal.invariant-loop-i
-invariant-loop-i l = Going l.initial.buffer (StatesPut form_each l.source l.initial.i l.initial.buffer l.initial.m) l.buffer (StatesPut form_each l.source l.i l.buffer l.m)
+abbrev pub invariant-loop-buffer : goal.invariant-loop-buffer
+invariant-loop-buffer l = Going l.initial.buffer (StatesPut form_each l.source l.initial.i l.initial.buffer l.initial.m) l.buffer (StatesPut form_each l.source l.i l.buffer l.m)
 
-abbrev pub decreases-loop-i : goal.decreases-loop-i
-decreases-loop-i l = length l.source - l.i
+abbrev pub decreases-loop-buffer : goal.decreases-loop-buffer
+decreases-loop-buffer l = length l.source - l.i

@@ -8,4 +8,4 @@ pub returns : goal.returns
 unfolding form_standard bytes
 returns c =
     puts_then c.put_all-command.ensures
-    (puts_then c.put-sign.ensures (puts_then c.put_gap-option.ensures (puts_then c.put_all-list.ensures (puts_then c.put_symbols-end.ensures c.put_all.ensures))))
+    (puts_then c.put-sign.ensures (puts_then c.put_gap-option.ensures (puts_then c.put_all-list.ensures (puts_then (rw c.symbols_at.ensures at c.put_all-end.ensures) c.put_all.ensures))))

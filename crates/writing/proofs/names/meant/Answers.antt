@@ -7,6 +7,6 @@ pub returns-then-b-eq48 : goal.returns-then-b-eq48
 unfolding pick
 returns-then-b-eq48 c = rw (eq-eqb _ _ c.if-b-eq48.true)
 
-pub returns : goal.returns
+pub returns-else-b-eq48 : goal.returns-else-b-eq48
 unfolding pick
-returns c = rw (ne_eqb _ _ c.if-b-eq48.false)
+returns-else-b-eq48 c = rw (ne_eqb _ _ c.if-b-eq48.false)

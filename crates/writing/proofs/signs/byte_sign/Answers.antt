@@ -1,30 +1,29 @@
 -- The function `byte_sign` meets its contract. Assumes nothing.
-use Rattle.lexer.proofs.Basics.{and_left}
 use Rattle.lexer.specs.Base.{pick}
+use Rattle.record.specs.Form.{sign}
+use Rattle.writing.proofs.SymbolsTaken.{digit-signed, index-signed, none-signed}
 use Rattle.writing.specs.Signs.{sign_by}
-use borrow.Author.Tests.{eq-eqb, leb-true, ne_eqb, lt-leb, le-leb}
-use lib.Dec.{leb}
+use native.Mathlib.Omega.{arith}
 use Rattle.writing.proofs.signs.byte_sign.Goals as goal
 
-pub overflow_sub-b : goal.overflow_sub-b
-overflow_sub-b c = let b = c.args.b in leb-true 48 b (and_left (leb 48 b) (leb b 57) c.if-b.true)
-
-pub returns-then-b : goal.returns-then-b
+pub returns-in-109 : goal.returns-in-109
 unfolding sign_by pick
-returns-then-b c = rw c.if-b.true c.symbol_at.ensures
+returns-in-109 c = rw c.in-109.is
 
-pub returns-then-b-eq109 : goal.returns-then-b-eq109
+pub returns-in-103 : goal.returns-in-103
 unfolding sign_by pick
-returns-then-b-eq109 c = rw (c.if-b.false, eq-eqb _ _ c.if-b-eq109.true)
+returns-in-103 c = rw c.in-103.is
 
-pub returns-then-b-eq103 : goal.returns-then-b-eq103
-unfolding sign_by pick
-returns-then-b-eq103 c = rw (c.if-b.false, ne_eqb _ _ c.if-b-eq109.false, eq-eqb _ _ c.if-b-eq103.true)
+pub returns-in-48-to-57 : goal.returns-in-48-to-57
+unfolding sign
+returns-in-48-to-57 c = rw c.byte_or_zero.ensures (digit-signed _ _ _ _ (omega arith) (omega arith))
 
-pub returns-then-b-ge128 : goal.returns-then-b-ge128
-unfolding sign_by pick
-returns-then-b-ge128 c = rw (c.if-b.false, ne_eqb _ _ c.if-b-eq109.false, ne_eqb _ _ c.if-b-eq103.false, le-leb 128 _ c.if-b-ge128.true) c.symbol_at-then-b-ge128.ensures
+pub returns-in-128-to-255 : goal.returns-in-128-to-255
+unfolding sign
+returns-in-128-to-255 c = rw c.byte_or_zero-in-128-to-255.ensures (index-signed _ _ _ _ (omega arith))
 
-pub returns : goal.returns
-unfolding sign_by pick
-returns c = rw (c.if-b.false, ne_eqb _ _ c.if-b-eq109.false, ne_eqb _ _ c.if-b-eq103.false, lt-leb 128 _ c.if-b-ge128.false)
+pub returns-in_default : goal.returns-in_default
+returns-in_default c = none-signed _ _ _ _ (λ low. omega arith) (λ e. omega arith) (λ e. omega arith) (omega arith)
+
+pub returns-in_default-2 : goal.returns-in_default-2
+returns-in_default-2 c = none-signed _ _ _ _ (λ low. omega arith) (λ e. omega arith) (λ e. omega arith) (omega arith)

@@ -1,5 +1,4 @@
--- The function `sign_table` meets its contract. A turn stores the sign of the next byte. The measure is what is left of the table. Assumes nothing.
-use Prim.Native.Nat.{◌-◌}
+-- The function `sign_table` meets its contract. A turn stores the sign of the next byte. Assumes nothing.
 use Rattle.lexer.proofs.TableLaws.{Filled}
 use Rattle.writing.specs.Signs.{sign_by, symbols_at}
 use lib.ListN.{length}
@@ -7,7 +6,4 @@ use mathlib.Core.Path.{◌≡◌}
 use Rattle.writing.proofs.signs.sign_table.Given as goal
 
 abbrev pub invariant-loop-i : goal.invariant-loop-i
-invariant-loop-i l = (length l.table ≡ 256) × Filled (sign_by l.missing l.gap (symbols_at l.source l.shape)) 0 l.table l.i
-
-abbrev pub decreases-loop-i : goal.decreases-loop-i
-decreases-loop-i l = 256 - l.i
+invariant-loop-i l = (length l.table ≡ 256) × Filled (sign_by l.marks.missing l.marks.gap (symbols_at l.source l.fn.shape)) 0 l.table l.i

@@ -1,6 +1,6 @@
 use Prim.Native.Nat.{◌<◌}
 use Rattle.block.proofs.SymbolWalk.{seeking-start, seeking-turn, seeking-found, seeking-end, symbol-meant}
-use Rattle.block.specs.Cells.{index_of}
+use Rattle.lexer.specs.Base.{option_of}
 use Rattle.block.specs.Formats.{meant}
 use lib.ListN.{length}
 use mathlib.Core.Path.{sym, ◌∙◌}
@@ -10,11 +10,8 @@ use Rattle.block.proofs.formats.Format.state.Goals as goal
 pub loop-i-init : goal.loop-i-init
 loop-i-init c = seeking-start _ _
 
-pub bounds-symbols-i : goal.bounds-symbols-i
-bounds-symbols-i c = omega (arith, c.loop-i-test.true, c.states-count.ensures.1)
-
 pub returns-then-equal : goal.returns-then-equal
-unfolding index_of
+unfolding option_of
 returns-then-equal c =
     let below : c.loop-i.i < length (meant c.args.self).symbols = omega (arith, c.loop-i-test.true, c.states-count.ensures.0) in
     seeking-found _ _ _ c.loop-i.invariant below (rw (symbol-meant _ _ below) (sym c.equal.ensures ∙ c.if-equal.true))
@@ -25,5 +22,5 @@ loop-i-preserved c =
     seeking-turn _ _ _ c.loop-i.invariant below (rw (symbol-meant _ _ below) (sym c.equal.ensures ∙ c.if-equal.false))
 
 pub returns : goal.returns
-unfolding index_of
+unfolding option_of
 returns c = seeking-end _ _ _ c.loop-i.invariant (omega (arith, c.loop-i-test.false, c.states-count.ensures.0))
