@@ -91,6 +91,7 @@ pub fn ordering(text: &[u8], work: &[u32], i: usize) -> Option<CharacterOrdering
 }
 
 // A type word, or 27 there.
+#[tactic(auto, unfolding(block::specs::Outcome::need, block::specs::Outcome::outcome, lexer::specs::Base::option_of))]
 pub fn type_word(text: &[u8], work: &[u32], i: usize) -> Result<CharacterOrdering, Fault<usize>>
     ensures { outcome result ≡ need (ordering (word_of text.now work.now i)) R.Refusal.TypeSet i }
 {

@@ -32,6 +32,7 @@ pub struct Listed {
 }
 
 // Types a range that is complete, unless a character was typed twice before: was one now?
+#[tactic(auto, unfolding(block::specs::Typeset::on_types, crate::specs::TypesHeld::unless_twice, lexer::specs::Base::pick))]
 fn type_next(
     work: &mut [u32],
     held: Held,

@@ -25,6 +25,7 @@ pub struct Part {
 }
 
 // The number of a character, from 1 to the count: `.` is the last, and quoted text is none.
+#[tactic(auto, unfolding(lexer::specs::Base::pick))]
 fn character(count: u64, quoted: bool, dot: bool, n: u64) -> u64
     ensures { result ≡ pick quoted 0 (pick dot count (pick (leb n count) n 0)) }
 {
@@ -86,6 +87,7 @@ fn part_end(text: &[u8], c: Cursor) -> Cursor
 }
 
 // The number of a part that begins with the byte b at a cursor, with a `+` in front or without; d is behind the byte.
+#[tactic(auto, unfolding(lexer::specs::Base::pick))]
 fn part_number(text: &[u8], b: u8, c: Cursor, d: Cursor) -> u64
     ensures { result ≡ pick (eqb b 43) (digits_value (left text.now d)) (digits_value (left text.now c)) }
 {

@@ -16,6 +16,7 @@ pub struct Held {
 }
 
 // The number that stands for a type. It is no `From`, since the type and the trait are both of other crates.
+#[tactic(auto, unfolding(crate::specs::TypesHeld::type_number))]
 pub fn type_number(ordering: CharacterOrdering) -> u32
     ensures { result ≡ type_number ordering }
 {

@@ -25,9 +25,6 @@ module _ (test : Numbered → Bool) (text work : List ℕ) where
     pub until : to < i → i ≤ from
     pub rest : first_where test text work i (to - i) ≡ first_where test text work from (to - from)
 
-  pub seeking-start : (from to : ℕ) → Seeking from to from
-  seeking-start from to = record { since = omega arith; until = λ l. omega arith; rest = refl }
-
   module _ (from to i : ℕ) (k : Seeking from to i) where
     pub seeking-turn : i < to → test (word_of text work i) ≡ false → Seeking from to (i + 1)
     unfolding first_where pick

@@ -1,25 +1,25 @@
 -- The codes of a format's cells are numbers of eight bits: a state is one of the symbols, or one of the four of DNA, and a set is four bits.
 -- Assumes nothing.
-use Prim.Native.Nat.{ℕ, ◌+◌, ◌%◌, ◌≤◌, ◌<◌}
+use Prim.Native.Nat.{ℕ, ◌%◌, ◌≤◌, ◌<◌}
 use Rattle.block.proofs.FormatCells.{cell-each}
 use Rattle.block.specs.Cell as C
 use Rattle.block.specs.Cells.{bits, bit}
 use Rattle.block.specs.Chunk.{cell}
-use Rattle.block.specs.Codes.{Coded, code_of, bit_of, bits_of}
+use Rattle.block.specs.Codes.{code_of, bit_of, bits_of}
 use Rattle.block.specs.Dna.{dna_cell, dna_letter}
 use Rattle.block.specs.Format.{Format}
 use Rattle.block.specs.Formats.{meant}
 use Rattle.block.specs.declared.formats.Format as Code
 use Rattle.lexer.proofs.Basics.{chosen, all_under, under_at}
-use Rattle.lexer.proofs.TableLaws.{Filled, filled-start, filled-turn}
+use Rattle.lexer.proofs.TableLaws.{Filled}
 use Rattle.lexer.specs.Base.{pick, lower}
 use borrow.Author.Tests.{eqb-true}
 use lib.Dec.{eqb}
-use lib.ListN.{length, set, length-take, length-set}
+use lib.ListN.{length, length-take}
 use mathlib.Core.Bool.{Bool, true}
 use mathlib.Core.List.{List}
 use mathlib.Core.Option.{Option, none, some}
-use mathlib.Core.Path.{◌≡◌, refl, ◌∙◌}
+use mathlib.Core.Path.{◌≡◌, refl}
 use native.Mathlib.Omega.{arith}
 
 -- A cell that is a state has an index below a number.
@@ -77,19 +77,3 @@ pub record Coding (f : Format) (table : List ℕ) (i : ℕ) : Type 0 where
   pub below : i ≤ 256
   pub whole : length table ≡ 256
   pub entries : Filled (λ b. code_of (cell f b)) 0 table i
-
-module _ (f : Format) (table : List ℕ) where
-  pub coding-start : length table ≡ 256 → Coding f table 0
-  coding-start h = record { below = omega arith; whole = h; entries = filled-start (λ b. code_of (cell f b)) 0 table }
-
-  module _ (i : ℕ) (k : Coding f table i) where
-    pub coding-turn : (v : ℕ) → i < 256 → v ≡ code_of (cell f i) → Coding f (set table i v) (i + 1)
-    coding-turn v h e =
-        record {
-          below = omega arith;
-          whole = length-set table i v ∙ k.whole;
-          entries = rw e (filled-turn (λ b. code_of (cell f b)) 0 table i k.entries (omega (arith, k.whole)));
-        }
-
-    pub coding-end : 256 ≤ i → Coded f table
-    coding-end h = record { code = λ b lt. k.entries.entry b (omega arith) }

@@ -13,9 +13,9 @@ use mathlib.Core.List.{List, [], ◌∷◌}
 use mathlib.Core.Path.{◌≡◌}
 
 -- What is left at the front of a word is its text.
-pub word-left : (text work : List ℕ) (i : ℕ) {start : ℕ} {front : Cursor} → front ≡ front_at text start → start ≡ get_or work i 0 → left text front ≡ (word_of text work i).token.text
+pub word_left : (text work : List ℕ) (i : ℕ) {start : ℕ} {front : Cursor} → front ≡ front_at text start → start ≡ get_or work i 0 → left text front ≡ (word_of text work i).token.text
 unfolding word_of
-word-left text work i {start} {front} e at = rw (← at) (front-left text start front e)
+word_left text work i {start} {front} e at = rw (← at) (front-left text start front e)
 
 -- The one symbol that a text is, by its first bytes.
 module _ (l : List ℕ) (b : ℕ) (r : List ℕ) (e : l ≡ b ∷ r) where

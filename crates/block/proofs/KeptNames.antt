@@ -7,7 +7,7 @@ use Rattle.block.specs.Judged.{judged}
 use Rattle.block.specs.Names.{known, unique_names}
 use Rattle.block.specs.NamesHeld.{name_of, names_of}
 use Rattle.block.specs.NamesKept.{SameName, SlotAlike, NamesKept, NamePut, NamesRoom, NamesJudged}
-use Rattle.lexer.proofs.Basics.{by-test, not-both, or_left, or_right}
+use Rattle.lexer.proofs.Basics.{by-test, not-both}
 use Rattle.lexer.proofs.RangeLaws.{range-kept, word_kept}
 use Rattle.lexer.specs.Base.{alike, given}
 use Rattle.lexer.specs.Stored.{word_of, range}
@@ -15,17 +15,17 @@ use Rattle.lexer.specs.Words.{label}
 use Rattle.slots.proofs.EnteringLaws.{slot-behind, window-within}
 use Rattle.slots.proofs.HashLaws.{alike-hash}
 use Rattle.slots.proofs.LetterLaws.{alike-letters}
-use Rattle.slots.proofs.SoughtLaws.{entered-next, none-entered}
+use Rattle.slots.proofs.SoughtLaws.{none-entered}
 use Rattle.slots.specs.Entering.{Entered, EnteredFrom, NameEntered, window_end}
 use Rattle.slots.specs.Filling.{Cleared, TableFits, slot_of}
 use Rattle.slots.specs.Hashes.{hash}
 use Rattle.slots.specs.Trie.{Led, letters}
 use Rattle.slots.specs.declared.Table.{Table}
 use Rattle.lexer.specs.declared.Fault.{Fault}
-use borrow.Author.Tests.{eqb-true, eqb-false, leb-true, leb-false, ltb-true, ltb-false}
-use lib.Dec.{eqb, leb, ltb}
+use borrow.Author.Tests.{eqb-true, eqb-false, ltb-true, ltb-false}
+use lib.Dec.{eqb, ltb}
 use lib.ListN.{length, get_or, take, get_or-eq_default}
-use mathlib.Core.Bool.{Bool, true, false, ◌||◌, false≢true}
+use mathlib.Core.Bool.{Bool, true, false}
 use mathlib.Core.List.{List}
 use lib.Seq.{take-take}
 use mathlib.Core.Path.{◌≡◌, refl, sym, ap, ◌∙◌}
@@ -67,9 +67,6 @@ pub record Passing (text work : List ℕ) (from i stop head first p : ℕ) : Typ
       → (j : ℕ) → SameName text work from i j → EnteredFrom work p stop head (letters (name_of (word_of text work i))) (j + 1)
 
 module _ (text work : List ℕ) (from i stop head first : ℕ) where
-  pub passing-start : Passing text work from i stop head first first
-  passing-start = record { rest = λ all. all }
-
   -- The word that a slot or the trie holds has the name.
   pub passing-found : {v : ℕ} {r : Bool} → SlotAlike text work from i v r → r ≡ true → (v ≡ 0 → ⊥) → true ≡ known (name_of (word_of text work i)) (names_of (words (range text work from i)))
   passing-found {v} a t some =
@@ -78,9 +75,6 @@ module _ (text work : List ℕ) (from i stop head first : ℕ) where
       known-one text work (name_of (word_of text work i)) from i (v - 1) s.since s.before s.word s.same
 
   module _ {p : ℕ} (k : Passing text work from i stop head first p) where
-    pub passing-turn : p < stop → {v : ℕ} → v ≡ get_or work p 0 → {r : Bool} → SlotAlike text work from i v r → r ≡ false → Passing text work from i stop head first (p + 1)
-    passing-turn h is a f = record { rest = λ all j s. entered-next h (λ e. a.miss f j (is ∙ e) s) (k.rest all j s) }
-
     -- All words of the name are entered from the first slot on.
     module _ (t : Table) (e : first ≡ slot_of t (hash (name_of (word_of text work i)))) (w : stop ≡ window_end t.end first) (same : t.end ≡ head) (x : NamesKept text work from i t) where
       entered-first : (j : ℕ) → SameName text work from i j → EnteredFrom work first stop head (letters (name_of (word_of text work i))) (j + 1)
@@ -154,9 +148,9 @@ all-entered work t name v none order within =
     }
 
 -- The index of a word was put into the table, where it has 32 bits.
-pub name-put : (text before after : List ℕ) (i : ℕ) (t : Table) (v : ℕ) → (0 < v) × (i < 4294967295 → v ≡ i + 1) → t.base ≤ t.end → t.end ≤ length before
+pub name_put : (text before after : List ℕ) (i : ℕ) (t : Table) (v : ℕ) → (0 < v) × (i < 4294967295 → v ≡ i + 1) → t.base ≤ t.end → t.end ≤ length before
     → NameEntered before after t (name_of (word_of text before i)) v → NamePut text before after i t
-name-put text before after i t v is order within f =
+name_put text before after i t v is order within f =
     record {
       size = f.size;
       front = f.front;
@@ -165,42 +159,6 @@ name-put text before after i t v is order within f =
           (λ e. all-entered after t (name_of (word_of text before i)) (i + 1) (omega (arith, f.size, ltb-false t.base (length before) e)) order (omega (arith, f.size)));
       old = f.old;
     }
-
--- The word that a slot holds, by its index with 1 added: it is none of the words, or a newline, or has a name.
-module _ (text work : List ℕ) (from i value : ℕ) where
-  pub slot-outside : leb value from || ltb i value ≡ true → SlotAlike text work from i value false
-  slot-outside e =
-      record {
-        hit = λ t. absurd (false≢true t);
-        miss = λ _ j is s. by-test (leb value from)
-            (λ t. omega (arith, leb-true value from t, s.since))
-            (λ f. omega (arith, ltb-true i value (rw f at e), s.before));
-      }
-
-  module _ (inside : leb value from || ltb i value ≡ false) where
-    pub slot-some : from < value
-    slot-some = leb-false value from (or_left (leb value from) (ltb i value) inside)
-
-    pub slot-newline : newline (word_of text work (value - 1)) ≡ true → SlotAlike text work from i value false
-    slot-newline e =
-        record {
-          hit = λ t. absurd (false≢true t);
-          miss = λ _ j is s. let same : value - 1 ≡ j = omega arith in not-both s.word (rw same at e);
-        }
-
-    pub slot-name : newline (word_of text work (value - 1)) ≡ false → (r : Bool) → r ≡ alike (name_of (word_of text work i)) (name_of (word_of text work (value - 1))) → SlotAlike text work from i value r
-    slot-name w r e =
-        record {
-          hit = λ t j is.
-              let same : value - 1 ≡ j = omega arith in
-              record {
-                since = omega (arith, slot-some);
-                before = omega (arith, ltb-false i value (or_right (leb value from) (ltb i value) inside));
-                word = rw same at w;
-                same = rw same at (sym e ∙ t);
-              };
-          miss = λ f j is s. let same : value - 1 ≡ j = omega arith in not-both (rw same at (sym e ∙ f)) s.same;
-        }
 
 -- The names up to here are different, and a table behind them has them; in front of it work memory is as it was.
 pub record KeptNaming (text before : List ℕ) (from to : ℕ) (t : Table) (work : List ℕ) (i : ℕ) : Type 0 where
@@ -234,16 +192,6 @@ module _ {text before : List ℕ} {from to : ℕ} {t : Table} (room : NamesRoom 
 
 -- A table was cleared behind the words: it has room, and what was judged with it was judged by the words that were there.
 module _ {before work : List ℕ} {to base place : ℕ} {t : Table} (behind : to ≤ base) (ahead : base ≤ place) (clear : Cleared before work place) (fits : TableFits place (length before) t) where
-  pub cleared-room : (place < length before → to ≤ 1048576) → NamesRoom work to t
-  cleared-room few =
-      record {
-        front = omega (arith, fits.begins);
-        order = omega (arith, fits.begins, fits.ahead);
-        table = omega (arith, fits.within, clear.size);
-        sound = fits.sound;
-        few = λ l. few (omega (arith, fits.begins, clear.size));
-      }
-
   pub cleared-judged : {text after : List ℕ} {from : ℕ} {r : Result ⊤ (Fault ℕ)} → NamesJudged text work after from to t.base r → NamesJudged text before after from to base r
   cleared-judged {text} {after} {from} k =
       let front : take place after ≡ take place before = rw fits.begins at k.front ∙ clear.front in

@@ -9,7 +9,6 @@ pub mod CutLaws
 pub mod DeclaredFaults
 pub mod DeclaredHeld
 pub mod DimensionsFew
-pub mod DimensionsLaws
 pub mod EntriesCut
 pub mod EntriesFollow
 pub mod EntryWords

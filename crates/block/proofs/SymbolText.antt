@@ -11,7 +11,7 @@ use lib.ListN.{length, take, set, length-append, length-set, length-take}
 use lib.Seq.{append_snoc, take-suc-set}
 use mathlib.Core.Bool.{Bool, true, false, ◌||◌}
 use mathlib.Core.List.{List, [], ◌∷◌, ◌++◌, append-nil}
-use mathlib.Core.Path.{◌≡◌, refl, sym, ap, ◌∙◌}
+use mathlib.Core.Path.{◌≡◌, sym, ap, ◌∙◌}
 use native.Mathlib.Numerals.{add-one}
 use native.Mathlib.Omega.{arith}
 
@@ -21,9 +21,6 @@ pub record Unspacing (text : List ℕ) (c : Cursor) (bytes : List ℕ) (count : 
   pub rest : take count bytes ++ unspaced (left text d) ≡ unspaced (left text c)
 
 module _ (text : List ℕ) (c : Cursor) (bytes : List ℕ) where
-  pub unspacing-start : length bytes ≡ 74 → Unspacing text c bytes 0 c
-  unspacing-start h = record { few = omega arith; whole = h; rest = refl }
-
   module _ (count : ℕ) (d : Cursor) (k : Unspacing text c bytes count d) where
     module _ (b : ℕ) (e : Cursor) (y : YieldsByte text d.at (left text d) b e) (p : Bool) (is : p ≡ (is_space (symbol b (left text e)) || is_part (symbol b (left text e)))) where
       -- a blank byte is dropped

@@ -1,15 +1,14 @@
 -- Walks over the symbols of a format that ask one thing of all: what is asked of those from an index on is what is asked of the whole.
 -- Assumes nothing.
 use Prim.Native.Nat.{ℕ, zero, suc, ◌+◌, ◌≤◌, ◌<◌}
-use Rattle.block.specs.Format.{Format, equal, valid_symbol, all_valid, clashes, all_differ, signs}
+use Rattle.block.specs.Format.{Format, equal, valid_symbol, all_valid, clashes, all_differ}
 use Rattle.block.specs.Formats.{meant}
 use Rattle.block.specs.declared.formats.Format as Code
 use Rattle.lexer.proofs.ListLaws.{drop-next}
 use lib.ListN.{length, get_or, take, drop, drop_of_length-le, length-take}
 use lib.Seq.{get_or-take}
-use mathlib.Core.Bool.{Bool, true, false, ◌&&◌, ◌||◌, not}
+use mathlib.Core.Bool.{Bool, true, false}
 use mathlib.Core.List.{List, [], ◌∷◌}
-use mathlib.Core.Option.{Option, none, some}
 use mathlib.Core.Path.{◌≡◌, refl, sym, ap, ◌∙◌}
 use native.Mathlib.Omega.{arith}
 
@@ -70,14 +69,3 @@ module _ (b : ℕ) (r : List ℕ) where
     pub differ-more : clashes f b r ≡ false → all_differ f (b ∷ r) ≡ all_differ f r
     unfolding all_differ
     differ-more e = rw e
-
--- The signs in front of the states
-module _ (f : Format) (gap : Option ℕ) where
-  pub differ-ungapped : gap ≡ none → not (clashes f f.missing f.symbols) && all_differ f f.symbols ≡ all_differ f (signs f gap)
-  unfolding signs all_differ
-  differ-ungapped e = rw e
-
-  pub differ-gapped : (g : ℕ) → gap ≡ some g
-      → not (equal f g f.missing || clashes f g f.symbols) && (not (clashes f f.missing f.symbols) && all_differ f f.symbols) ≡ all_differ f (signs f gap)
-  unfolding signs all_differ clashes
-  differ-gapped g e = rw e

@@ -15,9 +15,6 @@ pub record Counting (text work : List ℕ) (from to count i : ℕ) : Type 0 wher
   pub rest : count + length (words (range text work i to)) ≡ length (words (range text work from to))
 
 module _ (text work : List ℕ) (from to : ℕ) where
-  pub counting-start : Counting text work from to 0 from
-  counting-start = record { below = omega arith; rest = omega arith }
-
   module _ (count i : ℕ) (c : Counting text work from to count i) where
     pub counting-newline : i < to → newline (word_of text work i) ≡ true → Counting text work from to count (i + 1)
     counting-newline h e = record { below = omega (arith, c.below); rest = rw (words-newline text work i to h e) at c.rest }

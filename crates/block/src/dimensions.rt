@@ -12,6 +12,7 @@ use super::words::{is, newline, number, punct};
 use lexer::{Fault, Refusal};
 
 // A count that was given already is refused before its `=` is looked for.
+#[tactic(auto, unfolding(crate::specs::Dimensions::count_option, crate::specs::Outcome::outcome, lexer::specs::Stored::word_of))]
 fn count_option(
     d: Dimensions,
     c: Count,
@@ -73,6 +74,7 @@ fn with_count(c: Count, n: u64, d: Dimensions) -> Dimensions
 }
 
 // A value is a positive number.
+#[tactic(auto, unfolding(crate::specs::Dimensions::dimension_value, crate::specs::Outcome::outcome, lexer::specs::Stored::word_of))]
 fn dimension_value(
     text: &[u8],
     work: &[u32],

@@ -58,6 +58,7 @@ pub enum Formatting {
 }
 
 // Is the byte one of the 74 that may stand for a state, for missing or for a gap?
+#[tactic(auto, unfolding(crate::specs::Format::invalid, crate::specs::Format::valid_symbol, lexer::specs::Base::among, lexer::specs::Base::bytes))]
 pub fn valid_symbol(b: u8) -> bool
     ensures { result ≡ valid_symbol b }
 {
@@ -210,6 +211,7 @@ fn type_value(
 }
 
 // Is the word a text in double quotes?
+#[tactic(auto, unfolding(lexer::specs::Stored::word_of, lexer::specs::Words::is_string))]
 fn is_string(text: &[u8], work: &[u32], i: usize) -> bool
     ensures { result ≡ is_string (word_of text.now work.now i).token.kind }
 {

@@ -148,6 +148,7 @@ impl Format {
     }
 
     // The state that a symbol is, or for DNA the states that a code allows.
+    #[tactic(auto, unfolding(crate::specs::Cells::cell_of, crate::specs::Chunk::state_cell, crate::specs::Chunk::state_or_code, crate::specs::Formats::meant, lexer::specs::Base::option_of))]
     fn state_or_code(self, b: u8) -> Option<Cell>
         ensures { cell_of result ≡ state_or_code (meant self).data_type (meant self) b }
     {
@@ -158,6 +159,7 @@ impl Format {
     }
 
     // The cell of one symbol: missing's comes first, then the gap's, then those of the states.
+    #[tactic(auto, unfolding(crate::specs::Cells::cell_of, crate::specs::Chunk::cell, crate::specs::Chunk::gap_or, crate::specs::Formats::meant, lexer::specs::Base::option_of, lexer::specs::Base::pick))]
     pub fn cell(self, b: u8) -> Option<Cell>
         ensures { cell_of result ≡ cell (meant self) b }
     {

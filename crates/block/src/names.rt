@@ -30,6 +30,7 @@ fn known_name(text: &[u8], work: &[u32], from: usize, to: usize, i: usize) -> bo
 }
 
 // Is the word that a slot holds, by its index with 1 added, one of those from an index up to a word, and has it the name of that word?
+#[tactic(auto, unfolding(crate::specs::NamesHeld::name_of))]
 fn slot_alike(text: &[u8], work: &[u32], from: usize, i: usize, value: usize) -> bool
     ensures { SlotAlike text.now work.now from i value result }
 {
@@ -76,6 +77,7 @@ fn slot_value(i: usize) -> u32
 }
 
 // A word is put into the table by its name.
+#[tactic(auto, using(crate::proofs::KeptNames::name_put), unfolding(crate::specs::NamesHeld::name_of))]
 fn keep_name(text: &[u8], work: &mut [u32], i: usize, table: Table, slot: usize)
     requires { (slot ≡ slot_of table (hash (spaced (word_of text.now work.old i).token.text))) × (table.base ≤ table.end) × (table.end ≤ length work.old) }
     ensures { NamePut text.now work.old work.new i table }

@@ -72,6 +72,7 @@ fn unspaced(text: &[u8], c: Cursor) -> Symbols
 }
 
 // The symbols that were given, or others.
+#[tactic(auto, using(crate::proofs::FormatSigns::word_left), unfolding(crate::specs::Format::options, crate::specs::Formats::options_of, crate::specs::Formats::symbols_of))]
 pub fn given_symbols(text: &[u8], work: &[u32], o: Options, other: Symbols) -> Symbols
     ensures { (l : List ℕ) → Listed other.bytes other.count l → Listed result.bytes result.count (get_or (options_of text.now work.now o).symbols l) }
 {
@@ -124,6 +125,7 @@ fn states_differ(f: Format) -> bool
 }
 
 // Do the symbols differ, those for missing and for a gap among them?
+#[tactic(auto, unfolding(crate::specs::Format::all_differ, crate::specs::Format::clashes, crate::specs::Format::signs, crate::specs::Formats::meant, lexer::specs::Base::option_of))]
 fn all_differ(f: Format) -> bool
     ensures { result ≡ all_differ (meant f) (signs (meant f) (meant f).gap) }
 {
@@ -136,6 +138,7 @@ fn all_differ(f: Format) -> bool
 }
 
 // Is the byte a code of DNA?
+#[tactic(auto, using(crate::proofs::FormatCells::is_cell), unfolding(crate::specs::Dna::dna_code))]
 fn dna_code(b: u8) -> bool
     ensures { result ≡ dna_code b }
 {

@@ -9,6 +9,7 @@ ghost use Rattle.std.specs.Prelude.{length, ◌≡◌};
 use lexer::{is_at, is_label, labels_alike, newline_at, number_at, punct_at, start_of};
 
 // Is the word this keyword?
+#[tactic(auto, unfolding(lexer::specs::Lexing::word_at, lexer::specs::Stored::word_of, lexer::specs::Words::is))]
 pub fn is(text: &[u8], work: &[u32], i: usize, keyword: &[u8]) -> bool
     ensures { result ≡ is keyword.now (word_of text.now work.now i) }
 {
@@ -16,6 +17,7 @@ pub fn is(text: &[u8], work: &[u32], i: usize, keyword: &[u8]) -> bool
 }
 
 // Is it this punctuation mark?
+#[tactic(auto, unfolding(lexer::specs::Lexing::word_at, lexer::specs::Stored::word_of, lexer::specs::Words::punct))]
 pub fn punct(text: &[u8], work: &[u32], i: usize, b: u8) -> bool
     ensures { result ≡ punct b (word_of text.now work.now i) }
 {
@@ -31,6 +33,7 @@ pub fn newline(text: &[u8], work: &[u32], i: usize) -> bool
 }
 
 // Is it a name?
+#[tactic(auto, unfolding(lexer::specs::Lexing::word_at, lexer::specs::Stored::word_of, lexer::specs::Words::label))]
 pub fn named(text: &[u8], work: &[u32], i: usize) -> bool
     ensures { result ≡ given (label (word_of text.now work.now i)) }
 {
@@ -38,6 +41,7 @@ pub fn named(text: &[u8], work: &[u32], i: usize) -> bool
 }
 
 // The positive number that it spells, or 0.
+#[tactic(auto, unfolding(lexer::specs::Lexing::word_at, lexer::specs::Stored::word_of, lexer::specs::Words::number))]
 pub fn number(text: &[u8], work: &[u32], i: usize) -> u64
     ensures { result ≡ number (word_of text.now work.now i) }
 {

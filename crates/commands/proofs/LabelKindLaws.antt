@@ -14,7 +14,6 @@ use Rattle.lexer.proofs.Basics.{or_assoc, or-false}
 use Rattle.lexer.specs.Base.{pick}
 use Rattle.lexer.specs.Words.{Numbered}
 use Rattle.std.specs.List.{list_any}
-use lib.Dec.{eqb}
 use denote.Enum.Bare.{sameb}
 use lib.ListN.{length, take}
 use mathlib.Core.Bool.{Bool, true, false, ◌||◌}

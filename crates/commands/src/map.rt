@@ -1,6 +1,6 @@
 // The map of work memory behind the tokens: where what is stored of a matrix begins, and whether all of it fits.
 
-ghost use Rattle.std.specs.Prelude.{◌*◌, ◌+◌, ◌≤◌, leb, ◌&&◌, ◌≡◌};
+ghost use Rattle.std.specs.Prelude.{◌≤◌, ◌≡◌};
 ghost use Rattle.commands.specs.WorkMap.{labels_place, map_fits, order_place, types_place};
 
 use block::{CharacterNumber, TaxonNumber};

@@ -1,9 +1,8 @@
 -- A record written and read again, by what the two calls answer and leave. Assumes nothing.
-use Rattle.std.specs.Prelude.{Ok, Err, Result}
+use Rattle.std.specs.Prelude.{Ok, Result}
 use Prim.Native.Nat.{ℕ, ◌+◌, ◌*◌, ◌≤◌, ◌<◌}
 use Rattle.demands.specs.Again.{WrittenAgain}
 use Rattle.lexer.specs.declared.Place.{Place}
-use Rattle.lexer.specs.declared.refusal.Refusal.{Refusal}
 use Rattle.read.specs.Call.{ReadCall}
 use Rattle.record.proofs.CallLaws.{length-refused}
 use Rattle.record.proofs.Demands.{buffers-are-kept, calls-give-back-records, read-gives-records, read-refuses-in-order, what-is-left-is-given}
@@ -11,10 +10,9 @@ use Rattle.record.specs.Calls.{read_answer, read_leaves, write_answer}
 use Rattle.record.specs.Demands.{Left, ReadGives, Refuses}
 use Rattle.write.specs.Call.{WriteCall}
 use Rattle.lexer.specs.declared.Fault.{Fault}
-use Rattle.lexer.specs.Refusals.{fault}
 use lib.ListN.{length, take, drop, length-take, take-append-drop}
 use mathlib.Core.List.{List, ◌++◌}
-use mathlib.Core.Path.{◌≡◌, refl, sym, ap, ◌∙◌}
+use mathlib.Core.Path.{◌≡◌, sym, ap, ◌∙◌}
 use native.Mathlib.Omega.{arith}
 
 -- A call that is lent this buffer leaves these bytes in front of what was behind them.
@@ -35,20 +33,6 @@ kept-refused text work buffer a n told (why, number, e) =
     ((why, number, told ∙ e), (buffers-are-kept.0 text work buffer).refused why _ e)
 
 module _ (b form form_after : List ℕ) (w : Result ℕ (Fault Place)) (written : WriteCall b form form_after w) where
-  -- Write refuses: nothing is read.
-  pub refused-again : (work again : List ℕ) (n : Refusal) (p : Place) → w ≡ Err (fault n p)
-      → WrittenAgain b work work form form_after again again (Err (fault n p))
-  refused-again work again n p e =
-      let none : (m : ℕ) → write_answer b (length form) ≡ Ok m → ⊥ = λ m h. length-refused (sym h ∙ sym written.answer ∙ e) in
-      record {
-        written = written.left;
-        size = refl;
-        refused = λ m q h. (sym e ∙ written.answer ∙ h, refl, refl);
-        given_back = λ m h. absurd (none m h);
-        memory_short = λ m h. absurd (none m h);
-        no_room = λ m h. absurd (none m h);
-      }
-
   module _ (n : ℕ) (e : w ≡ Ok n) where
     told : write_answer b (length form) ≡ Ok n
     told = sym written.answer ∙ e

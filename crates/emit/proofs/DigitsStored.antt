@@ -82,8 +82,11 @@ module _ (before : List ℕ) (n value : ℕ) (buffer : List ℕ) (rest at : ℕ)
   pub storing-size : length buffer ≡ length before
   storing-size = ap length s.held ∙ length-sets before at s.digits
 
-  pub storing-room : (10 ≤ rest) → n + 2 ≤ at
+  storing-room : 10 ≤ rest → n + 2 ≤ at
   storing-room h = omega (arith, s.begins, digits-next rest h, digits-some (rest / 10))
+
+  pub storing-fits : 10 ≤ rest → (2 ≤ at) × (at ≤ length buffer)
+  storing-fits h = (omega (arith, storing-room h), omega (arith, storing-size, s.room))
 
   stored : 1 ≤ at → set buffer (at - 1) (digit rest) ≡ sets before (at - 1) (digit rest ∷ s.digits)
   stored h =

@@ -19,6 +19,7 @@ pub fn put(buffer: &mut [u8], n: usize, b: u8) -> usize
 }
 
 // The place that is so many bytes further on; behind the largest place there is none, and it answers that place.
+#[tactic(auto, unfolding(crate::specs::Puts::last_place))]
 pub fn further(n: usize, count: usize) -> usize
     ensures { (result ≡ min last_place (n + count)) × (n ≤ result) }
 {
@@ -68,6 +69,7 @@ pub fn put_all(buffer: &mut [u8], n: usize, bytes: &[u8]) -> usize
 }
 
 // The last digit of a number.
+#[tactic(auto, unfolding(record::specs::Decimal::digit))]
 fn last_digit(value: u64) -> u8
     ensures { result ≡ digit value }
 {

@@ -43,6 +43,7 @@ fn ends_cell(mode: Mode) -> bool
 }
 
 // The mode behind a blank.
+#[tactic(auto, unfolding(crate::specs::CellModes::next, lexer::specs::Base::pick))]
 fn next_cell(mode: Mode) -> Mode
     ensures { result ≡ next mode }
 {
@@ -53,6 +54,7 @@ fn next_cell(mode: Mode) -> Mode
 }
 
 // The mode behind the first digit of an index.
+#[tactic(auto, unfolding(crate::specs::CellModes::begun, lexer::specs::Base::pick))]
 fn begin_index(set: bool, low: usize, digit: u8, symbols: usize) -> Mode
     requires { 48 ≤ digit }
     ensures { result ≡ begun symbols set low digit }
@@ -83,6 +85,7 @@ fn grow_index(set: bool, low: usize, n: usize, digit: u8, symbols: usize) -> Mod
 }
 
 // The mode behind the first byte of a cell.
+#[tactic(auto, unfolding(crate::specs::CellModes::is_digit, crate::specs::CellModes::step_fresh, lexer::specs::Base::pick))]
 fn fresh_step(b: u8, symbols: usize) -> Mode
     ensures { result ≡ step_fresh symbols b }
 {
@@ -95,6 +98,7 @@ fn fresh_step(b: u8, symbols: usize) -> Mode
 }
 
 // The mode behind the first byte of an index of a set.
+#[tactic(auto, unfolding(crate::specs::CellModes::is_digit, crate::specs::CellModes::step_opened, lexer::specs::Base::pick))]
 fn opened_step(low: usize, b: u8, symbols: usize) -> Mode
     ensures { result ≡ step_opened symbols low b }
 {
@@ -105,6 +109,7 @@ fn opened_step(low: usize, b: u8, symbols: usize) -> Mode
 }
 
 // The mode behind a further byte of an index, or behind the dot that ends it.
+#[tactic(auto, unfolding(crate::specs::CellModes::is_digit, crate::specs::CellModes::step_index, lexer::specs::Base::pick))]
 fn index_step(set: bool, low: usize, n: usize, b: u8, symbols: usize) -> Mode
     ensures { result ≡ step_index symbols set low n b }
 {
@@ -131,6 +136,7 @@ fn cell_step(mode: Mode, b: u8, symbols: usize) -> Mode
 }
 
 // The state that a cell of one byte names, by how far the byte is above `0`: a digit its value; `m` and `g` name none, which is taken as 0.
+#[tactic(auto, unfolding(lexer::specs::Base::pick))]
 fn index_of(d: u8) -> usize
     ensures { result ≡ pick (ltb 9 d) 0 d }
 {
@@ -173,6 +179,7 @@ fn whole_at(source: &[u8], at: usize, symbols: usize) -> bool
 }
 
 // One more if the byte is a blank.
+#[tactic(auto, unfolding(lexer::specs::Base::pick))]
 fn count_blank(blanks: usize, b: u8) -> usize
     requires { blanks < 18446744073709551615 }
     ensures { result ≡ pick (eqb b 32) (blanks + 1) blanks }

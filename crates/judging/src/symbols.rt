@@ -1,8 +1,7 @@
 // The symbols of a record: valid, and all different.
 
-ghost use Rattle.std.specs.Prelude.{◌+◌, ◌-◌, ◌≤◌, length, drop, take, [], ◌≡◌};
+ghost use Rattle.std.specs.Prelude.{◌+◌, drop, [], ◌≡◌};
 ghost use Rattle.judging.specs.Opening.{StandardTold, SymbolsTold, run_of};
-ghost use Rattle.lexer.specs.Base.{among};
 
 use super::keys::key_at;
 use block::DataType;

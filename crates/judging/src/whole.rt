@@ -1,9 +1,8 @@
 // A record judged as a whole: its first four lines, its rows, its characters, and nothing behind them.
 
-ghost use Rattle.std.specs.Prelude.{◌-◌, ◌<◌, ◌≡◌};
 ghost use Rattle.judging.specs.Opening.{OpeningTold};
 ghost use Rattle.judging.specs.Shapes.{RecordJudged};
-ghost use Rattle.judging.specs.Whole.{RowsFine, is_dna};
+ghost use Rattle.judging.specs.Whole.{RowsFine};
 
 use super::Shape;
 use super::characters::character_lines;

@@ -4,7 +4,7 @@
 ghost use Rattle.std.specs.Prelude.{ℕ, ◌+◌, ◌-◌, ◌*◌, ◌≤◌, ◌<◌, eqb, length, take, get_or, set, replicate, not, List, ◌≡◌};
 ghost use Rattle.block.specs.Commands.{words};
 ghost use Rattle.block.specs.Judged.{judged};
-ghost use Rattle.block.specs.Labels.{unlabelled, label_each, char_labels, label_command, apply_labels};
+ghost use Rattle.block.specs.Labels.{unlabelled, label_each, char_labels, apply_labels};
 ghost use Rattle.block.specs.Outcome.{fold};
 ghost use Rattle.labels.specs.LabelLists.{command_held, commands_held, command_step, Fits};
 ghost use Rattle.labels.specs.LabelSlots.{labels_held, label_one};

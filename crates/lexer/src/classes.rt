@@ -1,6 +1,6 @@
 // The class of each byte, by a table; its symbol, which also depends on what comes next; and a table of how each byte stands to a word.
 
-ghost use Rattle.std.specs.Prelude.{◌<◌, ◌≤◌, ◌+◌, ◌-◌, length, get_or, drop, [], ◌∷◌, ◌≡◌};
+ghost use Rattle.std.specs.Prelude.{◌<◌, ◌≤◌, ◌+◌, length, get_or, drop, [], ◌∷◌, ◌≡◌};
 ghost use Rattle.lexer.specs.ByteBlocks.{is_plain};
 ghost use Rattle.lexer.specs.Classes.{class, symbol_of, wide_blank};
 ghost use Rattle.lexer.specs.PlainWords.{word_bytes};
@@ -84,6 +84,7 @@ pub fn entry_of(table: &[u8; 256], b: u8) -> u8
 }
 
 // Is the byte a letter, a digit, or one of `-`, `.`, `?` and `_`? If it is, its class is other.
+#[tactic(auto, unfolding(crate::specs::ByteBlocks::is_plain))]
 pub fn plain(b: u8) -> bool
     ensures { result ≡ is_plain b }
 {
@@ -143,6 +144,7 @@ pub fn byte_or_zero(text: &[u8], i: usize) -> u8
 }
 
 // Do these three bytes begin with a character of White_Space beyond ASCII?
+#[tactic(auto, unfolding(crate::specs::Classes::general, crate::specs::Classes::general_blank, crate::specs::Classes::next1, crate::specs::Classes::next2, crate::specs::Classes::wide_blank))]
 pub fn wide_bytes(b: u8, x: u8, y: u8) -> bool
     ensures { result ≡ wide_blank b (x ∷ y ∷ []) }
 {
@@ -162,6 +164,7 @@ pub fn wide_blank(text: &[u8], b: u8, i: usize) -> bool
 }
 
 // The symbol of a byte that is part of a longer character.
+#[tactic(auto, unfolding(crate::specs::Base::pick, crate::specs::Classes::symbol_of))]
 fn part_symbol(text: &[u8], i: usize) -> Symbol
     requires { i < length text.now }
     ensures { result ≡ symbol_of Class.Part (get_or text.now i 0) (drop (i + 1) text.now) }

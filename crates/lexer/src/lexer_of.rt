@@ -28,6 +28,7 @@ pub struct Lexer<'a> {
 }
 
 // What stands at `at`: its symbol, or the end behind the last byte.
+#[tactic(auto, unfolding(crate::specs::Base::pick, crate::specs::Positions::ahead))]
 fn ahead_at(text: &[u8], at: usize) -> Option<Symbol>
     ensures { result ≡ ahead text.now at }
 {
@@ -38,6 +39,7 @@ fn ahead_at(text: &[u8], at: usize) -> Option<Symbol>
 }
 
 // Behind the byte at `at`, or still there where that is the end.
+#[tactic(auto, unfolding(crate::specs::Base::pick, crate::specs::Positions::moved_on))]
 pub fn moved(text: &[u8], at: usize, line: usize, column: usize) -> Position
     requires { (line < 2097152) × (column < 2097152) }
     ensures { result ≡ moved_on text.now at line column }

@@ -1,6 +1,6 @@
 // One pass over a text that stores where each token begins.
 
-ghost use Rattle.std.specs.Prelude.{ℕ, ◌<◌, ◌≤◌, ◌+◌, length, drop, false, ◌≡◌};
+ghost use Rattle.std.specs.Prelude.{ℕ, ◌<◌, ◌≤◌, length, drop, ◌≡◌};
 ghost use Rattle.lexer.specs.Lexing.{lexed};
 ghost use Rattle.lexer.specs.Places.{first_byte};
 ghost use Rattle.lexer.specs.PlainWords.{told_end, word_bytes};

@@ -6,6 +6,7 @@ ghost use Rattle.lexer.specs.Places.{nowhere, move};
 use super::{Place, Symbol};
 
 // The place of what has none.
+#[tactic(auto, unfolding(crate::specs::Places::nowhere))]
 pub fn no_place() -> Place
     ensures { result ≡ nowhere }
 {

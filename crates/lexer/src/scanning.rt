@@ -1,7 +1,6 @@
 // Where a comment, a quoted text and a word end, a loop for each; and words that are told by their bytes at once.
 
-ghost use Rattle.std.specs.Prelude.{◌<◌, ◌≤◌, ◌+◌, eqb, length, drop, false, ◌≡◌};
-ghost use Rattle.lexer.specs.Base.{pick};
+ghost use Rattle.std.specs.Prelude.{◌<◌, ◌≤◌, ◌+◌, length, drop, false, ◌≡◌};
 ghost use Rattle.lexer.specs.ByteBlocks.{all_first, blocks_end, comment_blocks, count_in, is_plain, plain_end};
 ghost use Rattle.lexer.specs.PlainWords.{is_alone, is_ends, word_bytes, word_stop};
 ghost use Rattle.lexer.specs.Scanning.{comment_end, quote_end, string_end, word_end};
@@ -178,6 +177,7 @@ pub fn word_end(text: &[u8], from: usize) -> Result<usize, Fault<usize>>
 }
 
 // Is the byte LF, a bracket of a set, `,`, `;` or `=`? Such a byte is always a token by itself. Other marks are as well, but they are rare.
+#[tactic(auto, unfolding(crate::specs::PlainWords::is_alone))]
 fn stands_alone(b: u8) -> bool
     ensures { result ≡ is_alone b }
 {
@@ -187,6 +187,7 @@ fn stands_alone(b: u8) -> bool
 }
 
 // Is the byte a blank, CR, or one that stands alone? Such a byte always ends a word. Other marks do as well, but they are rare.
+#[tactic(auto, unfolding(crate::specs::PlainWords::is_ends))]
 pub fn ends_word(b: u8) -> bool
     ensures { result ≡ is_ends b }
 {

@@ -1,5 +1,5 @@
 -- The lookup's answer by what judging a record and the search among its rows answer. Assumes nothing.
-use Rattle.std.specs.Prelude.{Some, None, Result, Ok, Err}
+use Rattle.std.specs.Prelude.{Some, None, Ok, Err}
 use Prim.Native.Nat.{ℕ, ◌+◌, ◌-◌, ◌≤◌}
 use Rattle.block.specs.Reading.{Taxon, Reading}
 use Rattle.judging.specs.Shapes.{ShapeOf, RecordJudged}

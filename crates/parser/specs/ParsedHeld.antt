@@ -9,7 +9,6 @@ use Rattle.block.specs.declared.model.CharacterOrdering.{CharacterOrdering}
 use Rattle.commands.specs.MatrixHeld.{reading_held}
 use Rattle.std.proofs.Math.Option.{get_or}
 use Rattle.lexer.specs.declared.Fault.{Fault}
-use Rattle.lexer.specs.Refusals.{fault}
 use Rattle.commands.specs.declared.state.Held.{Held}
 
 -- The reading of the matrix that work memory holds, or the refusal.

@@ -29,7 +29,6 @@ use Rattle.matrix.specs.OrderHeld.{all_below}
 use Rattle.std.proofs.Math.Option.{Option}
 use Rattle.std.specs.Prelude as Std
 use Rattle.lexer.specs.declared.Fault.{Fault}
-use Rattle.lexer.specs.Refusals.{fault}
 use Rattle.block.specs.declared.data.CharacterNumber.{CharacterNumber}
 use Rattle.block.specs.declared.format_options.Options.{Options}
 use Rattle.lexer.specs.declared.refusal.Refusal.{Refusal}

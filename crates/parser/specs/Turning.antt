@@ -13,7 +13,6 @@ use Rattle.commands.specs.declared.state.State.{State}
 use Rattle.lexer.specs.Stored.{range}
 use Rattle.parser.specs.ParsedHeld.{parsed_held}
 use Rattle.lexer.specs.declared.Fault.{Fault}
-use Rattle.lexer.specs.Refusals.{fault}
 
 -- Where to go on behind what was found among so many tokens. Behind no command, and behind one that does not end, that is the end.
 unfoldable pub cut_end : ℕ → Cut → ℕ

@@ -2,7 +2,7 @@
 
 ghost use Rattle.std.specs.Prelude.{ℕ, ◌+◌, ◌<◌, ◌≤◌, length, take, false, true, List, ◌≡◌};
 ghost use Rattle.block.specs.Outcome.{outcome, done, then};
-ghost use Rattle.lexer.specs.Base.{option_of, given};
+ghost use Rattle.lexer.specs.Base.{option_of};
 ghost use Rattle.block.specs.Blocks.{assumption_step, characters_in, in_assumptions, in_phase, matrix_typed, outside};
 ghost use Rattle.block.specs.Commands.{words};
 ghost use Rattle.block.specs.Judged.{judged};

@@ -83,7 +83,7 @@ symbols-bound r s =
 -- What parsing leaves of tokens that lexing stored.
 module _ (text before after : List ℕ) (n : ℕ) (so : LexedSo text before n) (r : Std.Result Held (Fault ℕ)) (made : ParseMade text before after n r) where
   -- The tokens are stored still.
-  pub still-stored : Stored text after n
+  still-stored : Stored text after n
   still-stored = record { count = so.held.count; held = made.kept ∙ so.held.held }
 
   parsed-read : read text ≡ placed text (parsed_held text after n r)

@@ -50,9 +50,9 @@ count-below true lines taxa r h = go (ltb lines taxa) refl h
         let some : 1 ≤ taxa = omega arith in
         (rw (lt-ltb 0 taxa some) (omega arith), omega arith, λ _. some)
 
--- What a map that fits asks for is there.
-pub tokens-room : (size count lines taxa characters : ℕ) → map_fits size count lines taxa characters ≡ true → count ≤ size
-tokens-room size count lines taxa characters fit = omega (arith, (fitting size count lines taxa characters fit).order)
+-- Where a map fits, the starts of all tokens are there.
+pub tokens-taken : (work : List ℕ) (count lines taxa characters : ℕ) → map_fits (length work) count lines taxa characters ≡ true → count ≡ length (take count work)
+tokens-taken work count lines taxa characters fit = sym (length-take-le count work (omega (arith, (fitting (length work) count lines taxa characters fit).order)))
 
 module _ (size count lines taxa characters : ℕ) (fit : map_fits size count lines taxa characters ≡ true) (interleave : Bool) (rc r : ℕ) (e : rc ≡ row_count interleave lines taxa) (l : r < rc) where
   below : (first_line interleave lines taxa r < lines) × (r < lines) × (interleave ≡ true → 1 ≤ taxa)

@@ -107,6 +107,7 @@ fn short_end(text: &[u8], from: usize, end: usize, codes: &[u8; 256]) -> usize
 }
 
 // The place behind so many cells of a blank and a byte each, from a place on; it stops at the largest place.
+#[tactic(auto, unfolding(emit::specs::Puts::last_place))]
 fn place_behind(n: usize, cells: usize) -> usize
     ensures { result ≡ min last_place (n + 2 * cells) }
 {

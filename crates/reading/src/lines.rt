@@ -41,6 +41,7 @@ fn begin_row(n: usize, started: bool, left: usize) -> Walk
 }
 
 // Does a word end a set of this kind?
+#[tactic(auto, unfolding(block::specs::Chunk::closer))]
 fn closes(text: &[u8], starts: &[u32], i: usize, kind: Bracket) -> bool
     ensures { result ≡ punct (closer kind) (word_of text.now starts.now i) }
 {

@@ -78,6 +78,7 @@ pub fn put_set_cell(buffer: &mut [u8], row: Putting, kind: Bracket, set: &[u8]) 
 }
 
 // The letter of a set by its opening mark.
+#[tactic(auto, unfolding(crate::specs::CodedCells::letter_of, lexer::specs::Base::pick))]
 fn set_letter(b: u8) -> u8
     ensures { result ≡ letter_of b }
 {

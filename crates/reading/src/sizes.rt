@@ -23,6 +23,7 @@ fn widest(states: usize) -> usize
 }
 
 // A matrix that is held, but without the words of its cells.
+#[tactic(auto, unfolding(crate::specs::RecordSizes::bare))]
 fn bare(held: Held) -> Held
     ensures { result ≡ bare held }
 {

@@ -78,10 +78,6 @@ none_kept work p end v h free some k =
     (λ e. omega (arith, k.taken p (omega arith) (ltb-true p k.place e)))
     (λ e. let n = ltb-false p k.place e in let same : k.place ≡ p = omega (arith, k.ahead) in omega (arith, rw same at (k.holds (omega arith))))
 
--- A slot behind the front of a table is cleared.
-pub cleared_more : (before work : List ℕ) (base p v : ℕ) → Cleared before work base → base ≤ p → Cleared before (set work p v) base
-cleared_more before work base p v k h = record { size = length-set work p v ∙ k.size; front = take-set-le base work p v h ∙ k.front }
-
 -- What stands behind the front of a table is cleared next.
 pub cleared-then : (before work after : List ℕ) (base head : ℕ) → Cleared before work base → base ≤ head → Cleared work after head → Cleared before after base
 cleared-then before work after base head k h m =

@@ -48,9 +48,6 @@ module _ (work : List ℕ) (stop head : ℕ) (ls : List ℕ) (test : ℕ → Boo
     pub hit : found < count → test found ≡ true
     pub rest : (k : ℕ) → k < found → test k ≡ true → EnteredFrom work p stop head ls (k + 1)
 
-  pub sought-start : (p : ℕ) → ((k : ℕ) → k < count → test k ≡ true → EnteredFrom work p stop head ls (k + 1)) → Sought p count
-  sought-start p all = record { few = omega arith; hit = λ l. absurd (omega arith); rest = all }
-
   module _ {p found : ℕ} (s : Sought p found) where
     -- of the one that is nearer the test holds as well
     nearer-hit : {v r : ℕ} → Nearer test found v r → r < count → test r ≡ true

@@ -1,6 +1,6 @@
 // The slots of a table: where a search begins, the next free one, and a number put there.
 
-ghost use Rattle.std.specs.Prelude.{◌^◌, ◌≤◌, ◌<◌, min, length, ◌≡◌};
+ghost use Rattle.std.specs.Prelude.{◌^◌, ◌≤◌, ◌<◌, length, ◌≡◌};
 ghost use Rattle.lexer.specs.Stored.{word_of};
 ghost use Rattle.lexer.specs.Words.{spaced};
 ghost use Rattle.slots.specs.Entering.{NameEntered, window_end};

@@ -10,6 +10,7 @@ ghost use Rattle.slots.specs.Hashes.{mixed, hash};
 use lexer::{folded, next_byte, text_start, word_stop};
 
 // The number of a name with one byte more; `_` is a blank, and ASCII case is ignored.
+#[tactic(auto, unfolding(crate::specs::Hashes::mixed))]
 fn mixed(h: u64, b: u8) -> u64
     requires { h < 4294967296 }
     ensures { (result ≡ mixed h (pick (eqb b 95) 32 b)) × (result < 4294967296) }

@@ -118,6 +118,7 @@ fn given_up(head: usize, top: usize) -> bool
 }
 
 // The value behind all the letters of a name.
+#[tactic(auto, unfolding(crate::specs::Trie::entry_of, lexer::specs::Base::pick))]
 fn value_at(work: &[u32], link: usize) -> Entry
     ensures { result ≡ entry_of (get_or work.now link 0) }
 {
@@ -143,6 +144,7 @@ pub fn name_entry(text: &[u8], work: &[u32], i: usize, head: usize) -> Entry
 }
 
 // Has work memory of so many numbers room for a node at this place, and is the place behind it below 2^32, so that a number holds it?
+#[tactic(auto, unfolding(crate::specs::Trie::node_room))]
 fn node_room(memory: usize, top: usize) -> bool
     ensures { result ≡ node_room memory top }
 {

@@ -4,7 +4,6 @@ ghost use Rattle.emit.specs.Puts.{Puts};
 ghost use Rattle.record.specs.Form.{form_format, gap_option};
 ghost use Rattle.writing.specs.RowsPut.{form_counts, form_standard};
 ghost use Rattle.writing.specs.Signs.{SignsMade, symbols_at};
-ghost use Rattle.std.specs.Prelude.{drop, take, ◌++◌};
 
 use super::signs::{Marks, symbols_at};
 use block::{CharacterNumber, DataType, TaxonNumber};

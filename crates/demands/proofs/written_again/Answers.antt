@@ -1,6 +1,5 @@
 -- The function `written_again` meets its contract: what write answers is a length, and what was written is read; or a refusal. Assumes nothing.
-use Rattle.std.proofs.lemmas.Result.{err_from_is_err_and}
-use Rattle.demands.proofs.AgainLaws.{written-within, refused-again, read_again}
+use Rattle.demands.proofs.AgainLaws.{written-within, read_again}
 use lib.Seq.{length-take-le}
 use mathlib.Core.Path.{sym}
 use Rattle.demands.proofs.written_again.Goals as goal
@@ -14,8 +13,3 @@ slice_bounds-read-end-2 c = sym (length-take-le _ _ (written-within _ _ _ _ c.wr
 pub returns : goal.returns
 returns c =
     read_again _ _ _ _ c.write.ensures _ c.in_ok-n.was _ _ _ _ _ c.read.ensures
-
-pub returns-in_err-n : goal.returns-in_err-n
-returns-in_err-n c =
-    let p = err_from_is_err_and c.from_residual.result c.from_residual.ensures.1 in
-    rw (p.1, p.2) (refused-again _ _ _ _ c.write.ensures _ _ _ _ c.in_err-n.was)

@@ -1,22 +1,7 @@
 -- The function read_tokens meets its contract: what is parsed of stored tokens is what the text is read as. Assumes nothing.
 use Rattle.lexer.proofs.LexedAnswers.{tokens-lexed}
-use Rattle.lexer.proofs.StoredLaws.{stored-room}
-use Rattle.read.proofs.ReadLaws.{held-delivered, refused-delivered, still-stored}
-use lib.Seq.{length-take-le}
-use mathlib.Core.Path.{sym}
+use Rattle.read.proofs.ReadLaws.{held-delivered, refused-delivered}
 use Rattle.read.proofs.read_tokens.Goals as goal
-
-pub deliver-requires : goal.deliver-requires
-deliver-requires c =
-    c.parse.ensures.fits _ c.in-Ok.is
-
-pub slice_bounds-refused_at-end : goal.slice_bounds-refused_at-end
-slice_bounds-refused_at-end c =
-    stored-room _ _ _ (still-stored _ _ _ _ c.requires _ c.parse.ensures)
-
-pub slice_bounds-refused_at-end-in-Err : goal.slice_bounds-refused_at-end-in-Err
-slice_bounds-refused_at-end-in-Err c =
-    sym (length-take-le _ _ (stored-room _ _ _ (still-stored _ _ _ _ c.requires _ c.parse.ensures)))
 
 pub refused_at-requires : goal.refused_at-requires
 refused_at-requires c =

@@ -5,31 +5,36 @@ use Rattle.block.specs.CommandsCut.{cut_of}
 use mathlib.Core.Path.{sym, ◌∙◌}
 use Rattle.block.proofs.commands.next.Goals as goal
 
--- the parts of a fact as the clauses of the contract
-both : {A B : Type 0} → A × B → record { result_value : A; within : B }
-both p = record { result_value = p.0; within = p.1 }
-
-pub returns-then-count-head : goal.returns-then-count-head
+pub returns-then-count-head-clause-result_value : goal.returns-then-count-head-clause-result_value
 unfolding cut_of
-returns-then-count-head c = both ((cut-none _ _ _ _ _ c.skip_newlines-head.ensures c.if-count-head.true, tt))
+returns-then-count-head-clause-result_value c = cut-none _ _ _ _ _ c.skip_newlines-head.ensures c.if-count-head.true
 
-pub returns-then-punct : goal.returns-then-punct
+pub returns-then-punct-clause-result_value : goal.returns-then-punct-clause-result_value
 unfolding semicolon
-returns-then-punct c = both ((cut-empty _ _ _ _ _ c.skip_newlines-head.ensures c.if-count-head.false (sym c.punct.ensures ∙ c.if-punct.true), (head-since _ _ _ _ _ c.skip_newlines-head.ensures c.if-count-head.false, c.if-count-head.false)))
+returns-then-punct-clause-result_value c =
+    cut-empty _ _ _ _ _ c.skip_newlines-head.ensures c.if-count-head.false (sym c.punct.ensures ∙ c.if-punct.true)
 
-pub returns-then-count-end : goal.returns-then-count-end
-unfolding semicolon
-returns-then-count-end c =
-    both ((
-      cut-unended _ _ _ _ _ c.skip_newlines-head.ensures c.if-count-head.false (sym c.punct.ensures ∙ c.if-punct.false) _ c.semicolon_from-end.ensures c.if-count-end.true,
-      (head-since _ _ _ _ _ c.skip_newlines-head.ensures c.if-count-head.false, c.if-count-head.false),
-    ))
+pub returns-then-punct-clause-within : goal.returns-then-punct-clause-within
+returns-then-punct-clause-within c = (head-since _ _ _ _ _ c.skip_newlines-head.ensures c.if-count-head.false, c.if-count-head.false)
 
-pub returns : goal.returns
+pub returns-then-count-end-clause-result_value : goal.returns-then-count-end-clause-result_value
 unfolding semicolon
-returns c =
+returns-then-count-end-clause-result_value c =
+    cut-unended _ _ _ _ _ c.skip_newlines-head.ensures c.if-count-head.false (sym c.punct.ensures ∙ c.if-punct.false) _ c.semicolon_from-end.ensures
+    c.if-count-end.true
+
+pub returns-then-count-end-clause-within : goal.returns-then-count-end-clause-within
+returns-then-count-end-clause-within c = (head-since _ _ _ _ _ c.skip_newlines-head.ensures c.if-count-head.false, c.if-count-head.false)
+
+pub returns-clause-result_value : goal.returns-clause-result_value
+unfolding semicolon
+returns-clause-result_value c =
+    cut-command _ _ _ _ _ c.skip_newlines-head.ensures c.if-count-head.false (sym c.punct.ensures ∙ c.if-punct.false) _ c.semicolon_from-end.ensures
+    c.if-count-end.false
+
+pub returns-clause-within : goal.returns-clause-within
+unfolding semicolon
+returns-clause-within c =
+    let head = c.skip_newlines-head.ensures in
     let below = c.if-count-head.false in
-    let mark = sym c.punct.ensures ∙ c.if-punct.false in both ((
-      cut-command _ _ _ _ _ c.skip_newlines-head.ensures below mark _ c.semicolon_from-end.ensures c.if-count-end.false,
-      (head-since _ _ _ _ _ c.skip_newlines-head.ensures below, end-behind _ _ _ _ _ c.skip_newlines-head.ensures below mark _ c.semicolon_from-end.ensures, c.if-count-end.false),
-    ))
+    (head-since _ _ _ _ _ head below, end-behind _ _ _ _ _ head below (sym c.punct.ensures ∙ c.if-punct.false) _ c.semicolon_from-end.ensures, c.if-count-end.false)

@@ -3,7 +3,6 @@ use Rattle.block.proofs.NamesWalk.{naming-end, nameless, name-again}
 use Rattle.block.proofs.WalkLaws.{walking-refused}
 use Rattle.block.specs.Judged.{judged}
 use Rattle.lexer.specs.Stored.{word_of}
-use borrow.Author.Tests.{not-true, not-false}
 use mathlib.Core.Path.{sym, ◌∙◌}
 use Rattle.block.proofs.names.unique_by.Goals as goal
 
@@ -19,7 +18,7 @@ unfolding judged word_of
 returns-then-not-named c =
     let k = c.loop-i.invariant in
     names-judged c.requires k
-    (walking-refused _ _ _ _ k.naming.walk _ _ c.loop-i-test.true (sym c.newline.ensures ∙ c.if-newline.false) (nameless _ _ (sym c.named.ensures ∙ not-true _ c.if-not-named.true-raw)))
+    (walking-refused _ _ _ _ k.naming.walk _ _ c.loop-i-test.true (sym c.newline.ensures ∙ c.if-newline.false) (nameless _ _ (sym c.named.ensures ∙ c.if-not-named.true)))
 
 pub returns-then-found_name : goal.returns-then-found_name
 unfolding judged word_of
@@ -27,11 +26,11 @@ returns-then-found_name c =
     let k = c.loop-i.invariant in
     names-judged c.requires k
     (walking-refused _ _ _ _ k.naming.walk _ _ c.loop-i-test.true (sym c.newline.ensures ∙ c.if-newline.false)
-    (name-again _ _ (sym c.named.ensures ∙ not-false _ c.if-not-named.false-raw) (sym c.found_name.ensures ∙ c.if-found_name.true)))
+    (name-again _ _ (sym c.named.ensures ∙ c.if-not-named.false) (sym c.found_name.ensures ∙ c.if-found_name.true)))
 
 pub loop-i-preserved : goal.loop-i-preserved
 loop-i-preserved c =
-    kept-naming-turn c.requires c.loop-i.invariant c.loop-i-test.true (sym c.newline.ensures ∙ c.if-newline.false) (sym c.named.ensures ∙ not-false _ c.if-not-named.false-raw) (sym c.found_name.ensures ∙ c.if-found_name.false) c.keep_name.ensures
+    kept-naming-turn c.requires c.loop-i.invariant c.loop-i-test.true (sym c.newline.ensures ∙ c.if-newline.false) (sym c.named.ensures ∙ c.if-not-named.false) (sym c.found_name.ensures ∙ c.if-found_name.false) c.keep_name.ensures
 
 pub returns : goal.returns
 unfolding judged

@@ -1,7 +1,6 @@
 use Prim.Native.Nat.{◌<◌}
 use Rattle.block.proofs.SymbolsDiffer.{passing-turn, passing-over, passing-end, states-taken, valid-more, invalid-over}
 use Rattle.block.specs.Format.{all_valid}
-use borrow.Author.Tests.{not-true, not-false}
 use lib.ListN.{length, take}
 use mathlib.Core.Path.{sym, ap, ◌∙◌}
 use native.Mathlib.Omega.{arith}
@@ -12,14 +11,14 @@ returns-then-not-valid_symbol c =
     let f = c.args.f in
     let taken = states-taken f c.states-count.result c.states-count.ensures.0 in
     let below : c.loop-i.i < length (take c.states-count.result f.symbols) = omega (arith, c.loop-i-test.true, ap length taken, c.states-count.ensures.0) in
-    passing-over _ _ _ c.loop-i.invariant below _ (invalid-over _ _ (sym c.valid_symbol.ensures ∙ not-true _ c.if-not-valid_symbol.true-raw)) ∙ ap all_valid taken
+    passing-over _ _ _ c.loop-i.invariant below _ (invalid-over _ _ (sym c.valid_symbol.ensures ∙ c.if-not-valid_symbol.true)) ∙ ap all_valid taken
 
 pub loop-i-preserved : goal.loop-i-preserved
 loop-i-preserved c =
     let f = c.args.f in
     let taken = states-taken f c.states-count.result c.states-count.ensures.0 in
     let below : c.loop-i.i < length (take c.states-count.result f.symbols) = omega (arith, c.loop-i-test.true, ap length taken, c.states-count.ensures.0) in
-    passing-turn _ _ _ c.loop-i.invariant below (valid-more _ _ (sym c.valid_symbol.ensures ∙ not-false _ c.if-not-valid_symbol.false-raw))
+    passing-turn _ _ _ c.loop-i.invariant below (valid-more _ _ (sym c.valid_symbol.ensures ∙ c.if-not-valid_symbol.false))
 
 pub returns : goal.returns
 unfolding all_valid

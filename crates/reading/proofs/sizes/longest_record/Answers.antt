@@ -1,14 +1,11 @@
 -- The function `longest_record` meets its contract: what the record of names and characters measures, and the most that the cells take. Assumes nothing.
-use Rattle.reading.proofs.HeldRows.{characters-few, order-few, tokens-room}
+use Rattle.reading.proofs.HeldRows.{characters-few, order-few, tokens-taken}
 use Rattle.reading.proofs.RecordSizes.{as-bare, bare-fits, bytes-few, cells-few, longest-held}
-use lib.Seq.{length-take-le}
-use mathlib.Core.Path.{sym}
 use native.Mathlib.Omega.{arith}
 use Rattle.reading.proofs.sizes.longest_record.Goals as goal
 
 pub slice_bounds-format_of-end : goal.slice_bounds-format_of-end
-slice_bounds-format_of-end c =
-    sym (length-take-le _ c.args.work.now (tokens-room _ _ _ _ _ c.requires))
+slice_bounds-format_of-end c = tokens-taken _ _ _ _ _ c.requires
 
 pub most_taxa-requires : goal.most_taxa-requires
 most_taxa-requires c = let few = order-few _ _ _ _ _ c.requires in (few.1, few.2)

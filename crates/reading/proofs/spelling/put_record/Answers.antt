@@ -1,17 +1,14 @@
 -- The function `put_record` meets its contract: its pieces, one behind another. Assumes nothing.
-use Rattle.reading.proofs.HeldRows.{tokens-room}
+use Rattle.reading.proofs.HeldRows.{tokens-taken}
 use Rattle.reading.proofs.RecordPieces.{format-told, record-put}
-use lib.Seq.{length-take-le}
-use mathlib.Core.Path.{sym, ◌∙◌}
+use mathlib.Core.Path.{◌∙◌}
 use Rattle.reading.proofs.spelling.put_record.Goals as goal
 
 pub slice_bounds-format_of-end : goal.slice_bounds-format_of-end
-slice_bounds-format_of-end c =
-    sym (length-take-le _ c.args.work.now (tokens-room _ _ _ _ _ c.requires))
+slice_bounds-format_of-end c = tokens-taken _ _ _ _ _ c.requires
 
 pub slice_bounds-count_taxa-end : goal.slice_bounds-count_taxa-end
-slice_bounds-count_taxa-end c =
-    sym (length-take-le _ c.args.work.now (tokens-room _ _ _ _ _ c.requires))
+slice_bounds-count_taxa-end c = tokens-taken _ _ _ _ _ c.requires
 
 pub returns : goal.returns
 returns c =

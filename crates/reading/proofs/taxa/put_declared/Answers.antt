@@ -1,6 +1,5 @@
-use Rattle.reading.proofs.HeldRows.{order-at, order-few, tokens-room, words-end, words-over, words-start, words-turn}
-use lib.Seq.{length-take-le}
-use mathlib.Core.Path.{refl, sym, ◌∙◌}
+use Rattle.reading.proofs.HeldRows.{order-at, order-few, tokens-taken, words-end, words-over, words-start, words-turn}
+use mathlib.Core.Path.{refl, ◌∙◌}
 use native.Mathlib.Omega.{arith}
 use Rattle.reading.proofs.taxa.put_declared.Goals as goal
 
@@ -12,8 +11,7 @@ loop-k-init c =
     (refl, words-start _ _ _ _ c.args.matrix.held c.requires _ _ _ _ _ _ c.order_place-order.ensures)
 
 pub slice_bounds-word_ahead-end : goal.slice_bounds-word_ahead-end
-slice_bounds-word_ahead-end c =
-    sym (length-take-le _ c.args.work.now (tokens-room _ _ _ _ _ c.requires))
+slice_bounds-word_ahead-end c = tokens-taken _ _ _ _ _ c.requires
 
 pub returns-in_default : goal.returns-in_default
 returns-in_default c =

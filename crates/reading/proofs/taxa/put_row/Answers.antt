@@ -1,8 +1,7 @@
 -- The function `put_row` meets its contract: no row, a row of pages, or a sequential row. Assumes nothing.
 use Prim.Native.Nat.{◌+◌}
-use Rattle.reading.proofs.HeldRows.{first-few, line-few, lines-room, row-none, row-pages, row-sequence, tokens-room}
-use lib.Seq.{length-take-le}
-use mathlib.Core.Path.{refl, sym, ap}
+use Rattle.reading.proofs.HeldRows.{first-few, line-few, lines-room, row-none, row-pages, row-sequence, tokens-taken}
+use mathlib.Core.Path.{refl, ap}
 use native.Mathlib.Omega.{arith}
 use Rattle.reading.proofs.taxa.put_row.Goals as goal
 
@@ -29,8 +28,7 @@ overflow_add-matrix c =
     omega (arith, line-few _ _ _ _ _ c.requires _ _ _ c.row_count.ensures c.if-row_count-row.false _ c.first_line-first.ensures)
 
 pub slice_bounds-put_sequence-end : goal.slice_bounds-put_sequence-end
-slice_bounds-put_sequence-end c =
-    sym (length-take-le _ c.args.work.now (tokens-room _ _ _ _ _ c.requires))
+slice_bounds-put_sequence-end c = tokens-taken _ _ _ _ _ c.requires
 
 pub returns : goal.returns
 returns c =

@@ -1,16 +1,14 @@
 -- The function `put_taxon` meets its contract: the lines of its name and of its cells. Assumes nothing.
 use Rattle.emit.proofs.PutLaws.{puts-as, puts_then}
 use Rattle.lexer.specs.Base.{bytes}
-use Rattle.reading.proofs.HeldRows.{tokens-room}
+use Rattle.reading.proofs.HeldRows.{tokens-taken}
 use Rattle.reading.proofs.TaxonPieces.{taxon-put}
 use Rattle.reading.specs.Pieces.{name_piece}
-use lib.Seq.{length-take-le}
-use mathlib.Core.Path.{refl, sym, ◌∙◌}
+use mathlib.Core.Path.{refl, ◌∙◌}
 use Rattle.reading.proofs.taxa.put_taxon.Goals as goal
 
 pub slice_bounds-put_named-end : goal.slice_bounds-put_named-end
-slice_bounds-put_named-end c =
-    sym (length-take-le _ c.args.work.now (tokens-room _ _ _ _ _ c.requires))
+slice_bounds-put_named-end c = tokens-taken _ _ _ _ _ c.requires
 
 pub returns : goal.returns
 unfolding bytes name_piece
