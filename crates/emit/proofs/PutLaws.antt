@@ -82,6 +82,13 @@ module _ (l : List ℕ) (i : ℕ) {a b : List ℕ} {n m : ℕ} (f : Puts a n (λ
   pub puts-all : length l ≤ i → Puts a n (λ behind. l ++ behind) b m
   puts-all h = rw (take_all i l h) at f
 
+-- So many bytes of a list are stored from a place on, then one more.
+pub puts-stored : (l : List ℕ) (i : ℕ) {a b : List ℕ} {n : ℕ} → Puts a n (λ behind. take i l ++ behind) b (n + i) → i < length l
+    → Puts a n (λ behind. take (i + 1) l ++ behind) (set b (n + i) (get_or l i 0)) (n + (i + 1))
+puts-stored l i {b = b} {n} f h =
+    let next : n + i + 1 ≡ n + (i + 1) = omega arith in
+    rw next at (puts-more l i f h (byte-written b (n + i) (get_or l i 0)))
+
 -- A store in front of a run of stores may come before it.
 pub set-sets : (l : List ℕ) (i j v : ℕ) (vs : List ℕ) → i < j → set (sets l j vs) i v ≡ sets (set l i v) j vs
 set-sets l i j v [] h = refl

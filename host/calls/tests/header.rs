@@ -104,6 +104,21 @@ fn a_program_of_c_makes_every_call() {
     }
 }
 
+/// A host without the C library brings these two, and nothing else.
+#[test]
+#[cfg_attr(not(archive), ignore = "no archive; tools/test-calls makes it")]
+fn the_archive_needs_two_names_from_outside() {
+    let archive = repository().join("target/staticlib/libnexus_c.a");
+    let output = Command::new("nm").arg("-u").arg(archive).output();
+    let output = output.expect("nm runs");
+    assert!(output.status.success(), "{output:?}");
+    let printed = String::from_utf8(output.stdout).expect("UTF-8");
+    let names = printed
+        .lines()
+        .filter_map(|line| line.trim().strip_prefix("U "));
+    assert_eq!(names.collect::<Vec<_>>(), ["memcpy", "memset"]);
+}
+
 /// Whether a text is read with so much work memory, or the number by which it is refused.
 fn read(text: &[u8], work: usize) -> Result<(), u32> {
     let (mut work, mut buffer) = (vec![0; work], vec![0; longest_record(text.len())]);
