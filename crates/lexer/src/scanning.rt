@@ -212,10 +212,11 @@ pub fn word_stop_by(text: &[u8], start: usize, table: &[u8; 256]) -> usize
 {
     for i in start..text.len() {
         let stands = entry_of(table, text[i]);
-        if 2 <= stands {
-            return i;
-        }
-        if stands == 0 {
+        // one test for a plain byte, which most are
+        if stands != 1 {
+            if 2 <= stands {
+                return i;
+            }
             return start;
         }
     }

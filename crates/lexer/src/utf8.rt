@@ -85,6 +85,8 @@ fn ascii_run(text: &[u8], from: usize) -> usize
 }
 
 // Is the text UTF-8?
+// By `inline(never)`: inside `nexus_read` its loop moves registers about for each byte, in this form as in others.
+#[inline(never)]
 pub fn is_utf8(text: &[u8]) -> bool
     ensures { result ≡ utf8 text.now }
 {

@@ -12,20 +12,20 @@ pub returns-then-stands-ge2 : goal.returns-then-stands-ge2
 returns-then-stands-ge2 c =
     let pre = c.requires in
     let here = c.loop-i-test.true in
-    let other = stands_on _ pre _ _ c.entry_of-stands.ensures (omega arith) ∙ ne_eqb _ 1 (λ e. omega arith) in
+    let other = stands_on _ pre _ _ c.entry_of-stands.ensures (omega arith) ∙ ne_eqb _ _ c.if-stands-ne1.true in
     let ends = stands-end _ pre _ _ c.entry_of-stands.ensures (omega arith) ∙ le-leb _ _ c.if-stands-ge2.true in
     stop-here _ _ _ (sym (plain-stops _ _ here other) ∙ c.loop-i.invariant) here ends
 
-pub returns-then-stands-eq0 : goal.returns-then-stands-eq0
-returns-then-stands-eq0 c =
+pub returns-then-stands-ne1 : goal.returns-then-stands-ne1
+returns-then-stands-ne1 c =
     let pre = c.requires in
-    let other = stands_on _ pre _ _ c.entry_of-stands.ensures (omega arith) ∙ ne_eqb _ 1 (λ e. omega arith) in
+    let other = stands_on _ pre _ _ c.entry_of-stands.ensures (omega arith) ∙ ne_eqb _ _ c.if-stands-ne1.true in
     let more = stands-end _ pre _ _ c.entry_of-stands.ensures (omega arith) ∙ lt-leb _ _ c.if-stands-ge2.false in
     stop-other _ _ _ (sym (plain-stops _ _ c.loop-i-test.true other) ∙ c.loop-i.invariant) more
 
 pub loop-i-preserved : goal.loop-i-preserved
 loop-i-preserved c =
-    let plain = stands_on _ c.requires _ _ c.entry_of-stands.ensures (omega arith) ∙ eq-eqb _ 1 (omega arith) in
+    let plain = stands_on _ c.requires _ _ c.entry_of-stands.ensures (omega arith) ∙ eq-eqb _ _ c.if-stands-ne1.false in
     sym (plain-next _ _ c.loop-i-test.true plain) ∙ c.loop-i.invariant
 
 pub returns : goal.returns
