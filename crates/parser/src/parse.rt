@@ -43,7 +43,8 @@ fn cut_end(cut: Cut, count: usize) -> usize
     }
 }
 
-// The next command from an index on, and its step.
+// The next command from an index on, and its step. Kept out of the body of the whole read: inside it the state is copied more often.
+#[inline(never)]
 fn turn(
     text: &[u8],
     work: &mut [u32],

@@ -114,7 +114,8 @@ fn data_inner(
     data_step(text, &work[..count], s, b, head, to, judgement)
 }
 
-// A command inside the open block that does not end it. In TREES every command is passed over.
+// A command inside the open block that does not end it. In TREES every command is passed over. Inlined: a call copies the state in and out.
+#[inline(always)]
 fn inner_step(
     text: &[u8],
     work: &mut [u32],
@@ -137,7 +138,8 @@ fn inner_step(
     }
 }
 
-// A command inside a block: END or ENDBLOCK, alone, ends it, whatever block it is.
+// A command inside a block: END or ENDBLOCK, alone, ends it, whatever block it is. Inlined: a call copies the state in and out.
+#[inline(always)]
 fn block_step(
     text: &[u8],
     work: &mut [u32],
