@@ -90,7 +90,8 @@ pub fn ordering(text: &[u8], work: &[u32], i: usize) -> Option<CharacterOrdering
     told_type(text, start_of(work, i)).or_else(|| any_type(text, work, i))
 }
 
-// A type word, or 27 there.
+// A type word, or 27 there. It is inlined, since a VECTOR has one for each character, and the answer of a call goes through memory.
+#[inline(always)]
 #[tactic(auto, unfolding(block::specs::Outcome::need, block::specs::Outcome::outcome, lexer::specs::Base::option_of))]
 pub fn type_word(text: &[u8], work: &[u32], i: usize) -> Result<CharacterOrdering, Fault<usize>>
     ensures { outcome result ≡ need (ordering (word_of text.now work.now i)) R.Refusal.TypeSet i }

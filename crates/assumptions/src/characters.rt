@@ -122,7 +122,10 @@ fn cut_word(
     let mut c = text_start(text, start_of(work, i));
     let mut list = from;
     while let Some((part, d)) = word_part(text, i, all, held.count as u64, c) {
-        list = part_turn(work, held, ordering, list, part)?;
+        // Field by field: the whole list would be copied with the bytes that its fields leave free, which is slow.
+        let next = part_turn(work, held, ordering, list, part)?;
+        list.item = next.item;
+        list.twice = next.twice;
         c = d;
     }
     Ok(list)
@@ -154,7 +157,9 @@ fn list_word(
     part_turn(work, held, ordering, list, part)
 }
 
-// A list, word by word, up to a comma, behind which the command goes on at an index, or up to the end.
+// A list, word by word, up to a comma, behind which the command goes on at an index, or up to the end. It is not inlined: the loop
+// over a word's digits is faster in a function of its own.
+#[inline(never)]
 fn list_walk(
     text: &[u8],
     work: &mut [u32],
@@ -181,7 +186,10 @@ fn list_walk(
             list_end(work, held, ordering, word, list)?;
             return Ok(Some(j + 1));
         }
-        list = list_word(text, work, j, held, ordering, list)?;
+        // Field by field, as in `cut_word`.
+        let next = list_word(text, work, j, held, ordering, list)?;
+        list.item = next.item;
+        list.twice = next.twice;
     }
     list_end(work, held, ordering, word, list)?;
     Ok(None)

@@ -41,11 +41,11 @@ pub loop-part-preserved : goal.loop-part-preserved
 unfolding bytes
 loop-part-preserved c =
     let part = parted c.args.text.now c.args.work.now c.args.i c.word_part.ensures c.requires.i_value c.is-all.ensures in
-    cutting-turn _ _ _ _ _ _ _ _ _ _ _ _ c.loop-part.invariant _ _ (part.more _ _ c.in-Some.is) _ _ c.in_ok-list.ensures.answer c.part_turn.auto.work c.in_ok-list.ensures.front _ refl
+    cutting-turn _ _ _ _ _ _ _ _ _ _ _ _ c.loop-part.invariant _ _ (part.more _ _ c.in-Some.is) _ _ c.in_ok-next.ensures.answer c.part_turn.auto.work c.in_ok-next.ensures.front _ refl
 
-pub returns-in_err-list-clause-answer : goal.returns-in_err-list-clause-answer
+pub returns-in_err-next-clause-answer : goal.returns-in_err-next-clause-answer
 unfolding bytes
-returns-in_err-list-clause-answer c =
+returns-in_err-next-clause-answer c =
     let part = parted c.args.text.now c.args.work.now c.args.i c.word_part.ensures c.requires.i_value c.is-all.ensures in
     let r = err_from_is_err_and c.from_residual.result c.from_residual.ensures.1 in
-    rw (r.1, r.2) (cutting-over _ _ _ _ _ _ _ _ _ _ _ _ c.loop-part.invariant _ _ (part.more _ _ c.in-Some.is) _ _ c.in_err-list.ensures.answer _ _ refl)
+    rw (r.1, r.2) (cutting-over _ _ _ _ _ _ _ _ _ _ _ _ c.loop-part.invariant _ _ (part.more _ _ c.in-Some.is) _ _ c.in_err-next.ensures.answer _ _ refl)

@@ -26,14 +26,14 @@ returns-in_err-list_end-clause-answer c =
 
 pub loop-j-preserved : goal.loop-j-preserved
 loop-j-preserved c =
-    let word = c.in_ok-list.ensures in
+    let word = c.in_ok-next.ensures in
     listing-turn _ _ _ _ _ _ _ _ c.requires.0 _ _ _ _ c.loop-j.invariant c.loop-j-test.true (sym c.newline.ensures ∙ c.if-newline.false) (sym c.punct.ensures ∙ c.if-punct.false) _ _ (word.answer _ _ c.loop-j.invariant.gives) c.list_word.auto.work word.front _ refl
 
-pub returns-in_err-list-clause-answer : goal.returns-in_err-list-clause-answer
+pub returns-in_err-next-clause-answer : goal.returns-in_err-next-clause-answer
 unfolding list_then judged
-returns-in_err-list-clause-answer c =
-    let r = err_from_is_err_and c.from_residual-in_err-list.result c.from_residual-in_err-list.ensures.1 in
-    rw (r.1, r.2) (listing-over _ _ _ _ _ _ _ _ c.requires.0 _ _ _ _ c.loop-j.invariant c.loop-j-test.true (sym c.newline.ensures ∙ c.if-newline.false) (sym c.punct.ensures ∙ c.if-punct.false) _ _ (c.in_err-list.ensures.answer _ _ c.loop-j.invariant.gives) _ _ refl)
+returns-in_err-next-clause-answer c =
+    let r = err_from_is_err_and c.from_residual-in_err-next.result c.from_residual-in_err-next.ensures.1 in
+    rw (r.1, r.2) (listing-over _ _ _ _ _ _ _ _ c.requires.0 _ _ _ _ c.loop-j.invariant c.loop-j-test.true (sym c.newline.ensures ∙ c.if-newline.false) (sym c.punct.ensures ∙ c.if-punct.false) _ _ (c.in_err-next.ensures.answer _ _ c.loop-j.invariant.gives) _ _ refl)
 
 pub returns-in_err-list_end-2-clause-answer : goal.returns-in_err-list_end-2-clause-answer
 unfolding list_then judged
