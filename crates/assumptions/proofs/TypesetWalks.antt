@@ -1,20 +1,36 @@
 -- TYPESET word by word, from a mode on. Assumes nothing.
-use Prim.Native.Nat.{ℕ, ◌+◌, ◌<◌}
-use Rattle.assumptions.specs.NextWord.{Found}
+use Prim.Native.Nat.{ℕ, ◌+◌, ◌≤◌, ◌<◌}
+use Rattle.assumptions.specs.NextWord.{Found, Next}
 use Rattle.assumptions.specs.TypesetWalk.{typeset_from, typeset_at, set_of, after_equals}
 use Rattle.block.specs.Commands.{words, newline}
 use Rattle.block.specs.Outcome.{Outcome, done, refused, then, fold, need}
 use Rattle.block.specs.Typeset.{Typing, named, equals, Typeset, name_word, equals_word, typeset_turn, typeset_end}
 use Rattle.block.specs.declared.kinds.Form.{Form}
 use Rattle.block.proofs.WalkLaws.{words-newline}
+use Rattle.lexer.proofs.RangeLaws.{word_kept, range-kept}
 use Rattle.lexer.specs.Base.{pick, given}
 use Rattle.lexer.specs.Stored.{word_of, range}
 use Rattle.lexer.specs.Words.{Numbered, label, punct}
 use Rattle.lexer.specs.declared.refusal.Refusal.{Refusal}
+use lib.ListN.{take}
 use mathlib.Core.Bool.{true, false, false≢true, true≢false}
 use mathlib.Core.List.{List, [], ◌∷◌}
 use mathlib.Core.Option.{Option, none, some}
 use mathlib.Core.Path.{◌≡◌, refl, sym, ◌∙◌}
+use native.Mathlib.Omega.{arith}
+
+-- The next word is the same where work memory was kept up to a place.
+module _ (text work before : List ℕ) (at : ℕ) (front : take at work ≡ take at before) (to : ℕ) (h : to ≤ at) where
+  same-range : (i : ℕ) → range text work i to ≡ range text before i to
+  same-range i = range-kept text work before at front i to h
+
+  pub next-front : (i r : ℕ) → Next text work i to r → Next text before i to r
+  next-front i r n =
+      record {
+        onward = n.onward;
+        here = λ l. rw (same-range i, word_kept text work before at front r (omega arith), same-range (r + 1)) at (n.here l);
+        past = λ l. rw (same-range i) at (n.past l);
+      }
 
 then-then : {A B C : Type 0} (o : Outcome A) (f : A → Outcome B) (g : B → Outcome C) → then (then o f) g ≡ then o (λ a. then (f a) g)
 unfolding then

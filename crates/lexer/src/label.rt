@@ -130,14 +130,21 @@ pub fn is_label(text: &[u8], start: usize) -> bool
         && !blank_text(text, text_start(text, start))
 }
 
-// A byte of a name as names are compared: `_` is a blank, and ASCII case is ignored.
-pub fn folded(b: u8) -> u8
-    ensures { result ≡ lower (pick (eqb b 95) 32 b) }
+// A byte of a name: `_` is a blank.
+pub fn blank_for(b: u8) -> u8
+    ensures { result ≡ pick (eqb b 95) 32 b }
 {
     if b == b'_' {
         return b' ';
     }
-    lower(b)
+    b
+}
+
+// A byte of a name as names are compared: `_` is a blank, and ASCII case is ignored.
+pub fn folded(b: u8) -> u8
+    ensures { result ≡ lower (pick (eqb b 95) 32 b) }
+{
+    lower(blank_for(b))
 }
 
 // Are two texts the same name?

@@ -14,7 +14,8 @@ mod utf8;
 
 pub use classes::{byte_or_zero, entry_of, wide_blank, word_bytes};
 pub use label::{
-    blank_byte, folded, is_at, is_label, labels_alike, lower, newline_at, number_at, punct_at,
+    blank_byte, blank_for, folded, is_at, is_label, labels_alike, lower, newline_at, number_at,
+    punct_at,
 };
 pub use lexer_of::place_at;
 pub use lexing::lex;

@@ -55,7 +55,7 @@ pub struct Passed {
 
 // What one word or more come to, and the index behind them.
 #[derive(Clone, Copy)]
-struct Turn {
+pub struct Turn {
     pub turned: Result<Turned, Fault<usize>>,
     pub next: usize,
 }

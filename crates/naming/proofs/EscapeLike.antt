@@ -80,7 +80,7 @@ module _ (b : List ℕ) (i : ℕ) where
   bytes-none : (front : List ℕ) → ((m : List ℕ) → alike (front ++ m) (line_at b i) ≡ false) → BytesLike b i front None
   bytes-none front none = record { none = λ _. none; some = λ j e. absurd (cc); within = λ j e. absurd (cc) }
 
-  bytes-some : (front : List ℕ) (j : ℕ) → ((m : List ℕ) → alike (front ++ m) (line_at b i) ≡ alike m (line_at b j)) → j ≤ length b → BytesLike b i front (Some j)
+  bytes-some : (front : List ℕ) (j : ℕ) → ((m : List ℕ) → alike (front ++ m) (line_at b i) ≡ alike m (line_at b j)) → (i < j) × (j ≤ length b) → BytesLike b i front (Some j)
   bytes-some front j some near =
       record {
         none = λ e. absurd (cc);
@@ -111,7 +111,7 @@ module _ (b : List ℕ) (i : ℕ) where
         slash-both other e =
             let same : lower y ≡ lower (get_or b (i + 1) 10) = sym small ∙ e ∙ second in
             let two : i + 1 + 1 ≡ i + 2 = omega arith in
-            bytes-some (92 ∷ y ∷ []) (i + 2) (λ m. slash-passed m ∙ first-like b (i + 1) y m same other ∙ ap (λ n. alike m (line_at b n)) two) (slash-within other e)
+            bytes-some (92 ∷ y ∷ []) (i + 2) (λ m. slash-passed m ∙ first-like b (i + 1) y m same other ∙ ap (λ n. alike m (line_at b n)) two) (omega arith, slash-within other e)
 
   module _ (c : ℕ) (line : c ≡ 10 → ⊥) (slash : c ≡ 92 → ⊥) where
     escape-plain : escape c ≡ c ∷ []
@@ -129,7 +129,7 @@ module _ (b : List ℕ) (i : ℕ) where
       pub plain-like : u ≡ v → BytesLike b i (escape c) (Some (i + 1))
       plain-like e =
           let same : lower c ≡ lower (get_or b i 10) = sym small ∙ e ∙ is in
-          let near : i + 1 ≤ length b = omega (arith, plain-within e) in
+          let near : (i < i + 1) × (i + 1 ≤ length b) = (omega arith, omega (arith, plain-within e)) in
           rw escape-plain (bytes-some (c ∷ []) (i + 1) (λ m. first-like b i c m same line) near)
 
 -- A name is compared with a line as far as here: what is left of both decides.

@@ -1,5 +1,5 @@
 -- The lines of a record where they stand, up to their LF.
-use Rattle.std.specs.Prelude.{ℕ, ◌≤◌, eqb, length, drop, false, List, [], ◌∷◌, ◌++◌, ◌≡◌, Some, None, Option}
+use Rattle.std.specs.Prelude.{ℕ, ◌<◌, ◌≤◌, eqb, length, drop, false, List, [], ◌∷◌, ◌++◌, ◌≡◌, Some, None, Option}
 use Rattle.lexer.specs.Base.{pick, alike, byte}
 
 -- The bytes in front of the first LF.
@@ -16,4 +16,4 @@ line_at b i = to_end (drop i b)
 pub record BytesLike (b : List ℕ) (i : ℕ) (front : List ℕ) (r : Option ℕ) : Type 0 where
   pub none : r ≡ None → (m : List ℕ) → alike (front ++ m) (line_at b i) ≡ false
   pub some : (j : ℕ) → r ≡ Some j → (m : List ℕ) → alike (front ++ m) (line_at b i) ≡ alike m (line_at b j)
-  pub within : (j : ℕ) → r ≡ Some j → j ≤ length b
+  pub within : (j : ℕ) → r ≡ Some j → (i < j) × (j ≤ length b)

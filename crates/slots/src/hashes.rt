@@ -7,6 +7,7 @@ ghost use Rattle.lexer.specs.PlainWords.{part};
 ghost use Rattle.lexer.specs.Words.{spaced};
 ghost use Rattle.slots.specs.Hashes.{mixed, hash};
 
+pub use lexer::blank_for;
 use lexer::{folded, next_byte, text_start, word_stop};
 
 // The number of a name with one byte more; `_` is a blank, and ASCII case is ignored.
