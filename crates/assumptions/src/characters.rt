@@ -122,7 +122,7 @@ fn cut_word(
     let mut c = text_start(text, start_of(work, i));
     let mut list = from;
     while let Some((part, d)) = word_part(text, i, all, held.count as u64, c) {
-        // Field by field: the whole list would be copied with the bytes that its fields leave free, which is slow.
+        // Field by field: the whole list would be copied with the padding between its fields, which is slow.
         let next = part_turn(work, held, ordering, list, part)?;
         list.item = next.item;
         list.twice = next.twice;
@@ -157,8 +157,8 @@ fn list_word(
     part_turn(work, held, ordering, list, part)
 }
 
-// A list, word by word, up to a comma, behind which the command goes on at an index, or up to the end. It is not inlined: the loop
-// over a word's digits is faster in a function of its own.
+// A list, word by word, up to a comma, behind which the command goes on at an index, or up to the end. Not inlined into the whole read: the loop over a
+// word's digits, which is inlined here, is slower there.
 #[inline(never)]
 fn list_walk(
     text: &[u8],

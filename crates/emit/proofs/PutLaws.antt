@@ -3,13 +3,11 @@
 use Prim.Native.Nat.{ℕ, suc, ◌+◌, ◌-◌, ◌^◌, ◌≤◌, ◌<◌, min}
 use Rattle.emit.specs.Puts.{Puts, last_place, puts}
 use Rattle.lexer.proofs.Basics.{by-test}
-use borrow.Rule.Slice.PartMut.{put_mid}
 use borrow.Author.Tests.{le-leb, leb-false, leb-true, lt-leb}
-use Rattle.std.proofs.lemmas.List.{drop-drop}
 use lib.Dec.{leb}
 use lib.ListN.{length, get_or, take, drop, set, length-append, length-set}
 use lib.Seq.{append_snoc, set_comm, set_out, sets, sets-eq, take_all, take-suc}
-use mathlib.Core.List.{List, [], ◌∷◌, ◌++◌, append_assoc}
+use mathlib.Core.List.{List, [], ◌∷◌, ◌++◌}
 use mathlib.Core.Path.{◌≡◌, refl, sym, ap, ◌∙◌}
 use native.Mathlib.Nat.{add-zero, zero-add}
 use native.Mathlib.Numerals.{add-one}
@@ -100,15 +98,6 @@ puts-run buffer n [] = rw add-zero puts_none
 puts-run buffer n (b ∷ l) =
     let next : n + 1 + length l ≡ n + suc (length l) = omega arith in
     rw (next, add-one n) at (puts_then (byte-written buffer n b) (puts-run (set buffer n b) (n + 1) l))
-
--- A list of bytes is put by a copy of it into the part of the buffer that it fills.
-pub puts-copied : (buffer : List ℕ) (n k : ℕ) (l part : List ℕ) → n + length l ≤ length buffer → k ≡ length l → part ≡ l
-    → Puts buffer n (λ behind. l ++ behind) (put_mid n k buffer part) (n + length l)
-puts-copied buffer n k l part room long same =
-    let stored : put_mid n k buffer part ≡ sets buffer n l =
-    rw (same, long) (ap (λ r. take n buffer ++ (l ++ r)) (drop-drop (length l) n buffer) ∙ sym (sets-eq l buffer n room ∙ append_assoc (take n buffer) l (drop (n + length l) buffer)))
-    in
-    rw stored (puts-run buffer n l)
 
 pub puts-sets : (buffer : List ℕ) (at : ℕ) (l : List ℕ) → puts buffer at l ≡ sets buffer at l
 unfolding puts

@@ -84,8 +84,7 @@ fn ascii_run(text: &[u8], from: usize) -> usize
     text.len()
 }
 
-// Is the text UTF-8?
-// By `inline(never)`: inside `nexus_read` its loop moves registers about for each byte, in this form as in others.
+// Is the text UTF-8? Not inlined: inside the whole read its three numbers are moved between registers and the stack for each byte.
 #[inline(never)]
 pub fn is_utf8(text: &[u8]) -> bool
     ensures { result ≡ utf8 text.now }
