@@ -7,6 +7,7 @@ ghost use Rattle.lexer.specs.PlainWords.{part};
 ghost use Rattle.lexer.specs.Words.{spaced};
 ghost use Rattle.slots.specs.Hashes.{mixed, hash};
 
+// The byte of a name before its case is ignored, for callers of this module: lexer has it, since names are compared there too.
 pub use lexer::blank_for;
 use lexer::{folded, next_byte, text_start, word_stop};
 
